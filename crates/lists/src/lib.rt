@@ -1,0 +1,1 @@
+// Lists: permutations and the entry that is chosen. Definitions and laws only.

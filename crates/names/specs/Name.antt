@@ -1,0 +1,64 @@
+-- Names: 16-bit little-endian units; what a valid name is; how an entry's name is compared with a variable's.
+-- Assumes nothing: these are definitions.
+use Prim.Native.Nat.{ℕ, _+_, _-_, _*_, _%_}
+use mathlib.Core.List.{List, [], _∷_}
+use mathlib.Core.Bool.{Bool, true, false, not, _||_}
+use lib.ListN.{length, getD, take}
+use lib.Dec.{eqb, leb}
+use Rattle.limits.specs.Limits.{maxNameBytes, namespaceBytes}
+use Rattle.slices.specs.Test.{_and_}
+use Rattle.slices.specs.Bytes.{Bytes, pairwise}
+
+-- the units of bytes, two bytes each, the low one first; an odd last byte is dropped
+unfoldable pub units : Bytes → List ℕ
+units [] = []
+units (a ∷ []) = []
+units (a ∷ b ∷ rest) = (a + 256 * b) ∷ units rest
+
+-- no unit is zero
+unfoldable pub noZero : List ℕ → Bool
+noZero [] = true
+noZero (u ∷ rest) = not (eqb u 0) and noZero rest
+
+-- 1 to 64 whole units, none zero: the bytes of a name without its closing zero unit
+unfoldable pub isName : Bytes → Bool
+isName s = eqb (length s % 2) 0 and leb 2 (length s) and leb (length s) maxNameBytes and noZero (units s)
+
+-- a name and then one zero unit: how entries, triggers and stored variables carry it
+unfoldable pub isTerminated : Bytes → Bool
+isTerminated s =
+    leb 2 (length s) and eqb (getD s (length s - 2) 0) 0 and eqb (getD s (length s - 1) 0) 0 and isName (take (length s - 2) s)
+
+-- a variable as a request or a trigger names it: its namespace, and the bytes of its units without the closing zero
+pub record Variable : Type 0 where
+  pub namespace : Bytes
+  pub name : Bytes
+
+-- a namespace of 16 bytes (all that a call can be given) with a name that step 1 takes
+unfoldable pub named : Variable → Bool
+named v = eqb (length (v .namespace)) namespaceBytes and isName (v .name)
+
+-- '#'
+abbrev pub numberSign : ℕ
+numberSign = 0x23
+
+-- one of 0-9, A-F, a-f
+unfoldable pub isHexDigit : ℕ → Bool
+isHexDigit u = leb 0x30 u and leb u 0x39 || (leb 0x41 u and leb u 0x46 || leb 0x61 u and leb u 0x66)
+
+-- one unit of an entry's name against one of a variable's: equal, or '#' over a hex digit
+unfoldable pub unitMatches : ℕ → ℕ → Bool
+unitMatches p u = eqb p u || eqb p numberSign and isHexDigit u
+
+-- an entry's name against a variable's: as many units, each matching
+abbrev pub matches : List ℕ → List ℕ → Bool
+matches = pairwise unitMatches
+
+abbrev pub oneIf : Bool → ℕ
+oneIf true = 1
+oneIf false = 0
+
+-- the number of '#' among the units
+unfoldable pub wildcards : List ℕ → ℕ
+wildcards [] = 0
+wildcards (u ∷ rest) = oneIf (eqb u numberSign) + wildcards rest

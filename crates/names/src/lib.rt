@@ -1,0 +1,143 @@
+// Names of variables, entries and triggers: bytes of 16-bit little-endian units.
+ghost use mathlib.Core.Path.{_≡_};
+ghost use lib.ListN.{length, getD};
+ghost use Rattle.names.specs.Name.{units, noZero, isName, isTerminated, isHexDigit, unitMatches, matches, wildcards};
+
+// The number of whole units.
+fn unit_count(s: &[u8]) -> usize
+    ensures { λ r. ⌜ r ≡ length (units (now (s .entry))) ⌝ }
+{
+    s.len() / 2
+}
+
+// The unit at index k, and 0 past the end.
+pub fn unit_at(s: &[u8], k: usize) -> u16
+    ensures { λ r. ⌜ r ≡ getD (units (now (s .entry))) k 0 ⌝ }
+{
+    if k < s.len() / 2 {
+        let low = s[2 * k] as u16;
+        let high = s[2 * k + 1] as u16;
+        low + 256 * high
+    } else {
+        0
+    }
+}
+
+// Whether no unit is zero.
+fn no_zero(s: &[u8]) -> bool
+    ensures { λ r. ⌜ r ≡ noZero (units (now (s .entry))) ⌝ }
+{
+    let n = unit_count(s);
+    let mut k = 0;
+    while k < n {
+        if unit_at(s, k) == 0 {
+            return false;
+        }
+        k += 1;
+    }
+    true
+}
+
+// The one checker: whether the bytes are a name without its closing zero unit, 1 to 64 whole units, none zero.
+pub fn is_name(s: &[u8]) -> bool
+    ensures { λ r. ⌜ r ≡ isName (now (s .entry)) ⌝ }
+{
+    let n = s.len();
+    if n % 2 != 0 {
+        return false;
+    }
+    if n < 2 {
+        return false;
+    }
+    if limits::MAX_NAME_BYTES < n {
+        return false;
+    }
+    no_zero(s)
+}
+
+// Whether the bytes are a name and then one zero unit.
+pub fn is_terminated(s: &[u8]) -> bool
+    ensures { λ r. ⌜ r ≡ isTerminated (now (s .entry)) ⌝ }
+{
+    let n = s.len();
+    if n < 2 {
+        return false;
+    }
+    if s[n - 2] != 0 {
+        return false;
+    }
+    if s[n - 1] != 0 {
+        return false;
+    }
+    is_name(&s[..n - 2])
+}
+
+// Whether the unit is one of 0-9, A-F, a-f.
+pub fn is_hex_digit(u: u16) -> bool
+    ensures { λ r. ⌜ r ≡ isHexDigit u ⌝ }
+{
+    if u < 0x30 {
+        return false;
+    }
+    if u <= 0x39 {
+        return true;
+    }
+    if u < 0x41 {
+        return false;
+    }
+    if u <= 0x46 {
+        return true;
+    }
+    if u < 0x61 {
+        return false;
+    }
+    u <= 0x66
+}
+
+// One unit of an entry's name against one of a variable's: equal, or '#' over a hex digit.
+pub fn unit_matches(p: u16, u: u16) -> bool
+    ensures { λ r. ⌜ r ≡ unitMatches p u ⌝ }
+{
+    if p == u {
+        return true;
+    }
+    if p == 0x23 {
+        return is_hex_digit(u);
+    }
+    false
+}
+
+// The one comparer: an entry's name against a variable's, as many units, each matching.
+pub fn matches(p: &[u8], v: &[u8]) -> bool
+    ensures { λ r. ⌜ r ≡ matches (units (now (p .entry))) (units (now (v .entry))) ⌝ }
+{
+    let n = unit_count(p);
+    if n != unit_count(v) {
+        return false;
+    }
+    let mut k = 0;
+    while k < n {
+        if unit_matches(unit_at(p, k), unit_at(v, k)) {
+            k += 1;
+        } else {
+            return false;
+        }
+    }
+    true
+}
+
+// The number of '#' among the units.
+pub fn wildcards(s: &[u8]) -> usize
+    ensures { λ r. ⌜ r ≡ wildcards (units (now (s .entry))) ⌝ }
+{
+    let n = unit_count(s);
+    let mut h = 0;
+    let mut k = 0;
+    while k < n {
+        if unit_at(s, k) == 0x23 {
+            h += 1;
+        }
+        k += 1;
+    }
+    h
+}

@@ -1,0 +1,45 @@
+-- The policy record: distinct well-formed entries end to end in the order registered, then only zeros, 8,192 bytes in all.
+-- Assumes nothing: these are definitions.
+use Prim.Native.Nat.{ℕ}
+use mathlib.Core.List.{List, []}
+use mathlib.Core.Bool.{Bool, true, false, cond}
+use lib.ListN.{length, take, drop}
+use lib.Dec.{eqb, leb}
+use Rattle.limits.specs.Limits.{maxEntries, policyBytes}
+use Rattle.slices.specs.Test.{_and_}
+use Rattle.slices.specs.Bytes.{Bytes, allAre}
+use Rattle.slices.specs.Chunks.{flat, chunks, used, packed, distinct}
+use Rattle.entry.specs.Entry.{sizeField, wellFormed, sameTarget}
+use Rattle.policy.specs.declared.PolicyCheck.{PolicyCheck}
+use Rattle.policy.specs.declared.PolicyCheck.the-variants.{Valid, Invalid}
+
+-- the length of the well-formed entry that the bytes begin with, or 0
+unfoldable pub entryLength : Bytes → ℕ
+entryLength p = cond (leb (sizeField p) (length p) and wellFormed (take (sizeField p) p)) (sizeField p) 0
+
+-- the entries of a policy record, each as its bytes, in the order registered
+abbrev pub entriesOf : Bytes → List Bytes
+entriesOf p = chunks entryLength p
+
+-- the sum of Sizes
+abbrev pub sizesSum : Bytes → ℕ
+sizesSum p = used entryLength p
+
+-- the record of a list of entries
+abbrev pub packPolicy : List Bytes → Bytes
+packPolicy es = packed policyBytes 0 es
+
+-- a record without entries
+abbrev pub emptyPolicy : Bytes
+emptyPolicy = packPolicy []
+
+-- a lent policy record that does not get 10: the right length, distinct well-formed entries within the limits, then zeros
+unfoldable pub policyValid : Bytes → Bool
+policyValid p =
+    eqb (length p) policyBytes
+    and leb (length (entriesOf p)) maxEntries
+    and allAre 0 (drop (sizesSum p) p)
+    and distinct sameTarget (entriesOf p)
+
+unfoldable pub policyCheck : Bytes → PolicyCheck
+policyCheck p = cond (policyValid p) (Valid (length (entriesOf p)) (sizesSum p)) Invalid

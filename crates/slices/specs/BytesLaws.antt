@@ -1,0 +1,115 @@
+-- Laws of tests on lists of bytes. Assumes nothing.
+use Prim.Native.Nat.{ℕ, zero, suc, _+_, _-_, _≤_, _<_}
+use mathlib.Core.Path.{_≡_, refl, sym, ap, ap₂, _∙_}
+use mathlib.Core.List.{List, [], _∷_, _++_}
+use mathlib.Core.Bool.{Bool, true, false, _&&_, false≢true}
+use native.Mathlib.Omega.{arith}
+use native.Mathlib.Nat.{add-zero}
+use native.Mathlib.Numerals.{add-one}
+use lib.ListN.{length, getD, take, drop, replicate, drop-of-length-le}
+use lib.Seq.{drop-cons}
+use lib.Dec.{eqb}
+use borrow.Author.Tests.{eq-eqb, ne-eqb, eqb-true, eqb-false}
+use Rattle.slices.specs.Test.{_and_}
+use Rattle.slices.specs.TestLaws.{and-left, and-right, and-intro, and-no, and-assoc, and-eager}
+use Rattle.slices.specs.Bytes.{Bytes, pairwise, same, allAre}
+
+module _ (f : ℕ → ℕ → Bool) where
+  pub pairwise-lengths : (ps us : Bytes) → (length ps ≡ length us → ⊥) → pairwise f ps us ≡ false
+  unfolding pairwise
+  pairwise-lengths [] [] h = absurd (h refl)
+  pairwise-lengths [] (u ∷ us) h = refl
+  pairwise-lengths (p ∷ ps) [] h = refl
+  pairwise-lengths (p ∷ ps) (u ∷ us) h = rw (pairwise-lengths ps us (λ e. h (ap suc e)), and-no (f p u))
+
+  pub pairwise-end : (ps us : Bytes) (k : ℕ) → length ps ≤ k → length us ≤ k → pairwise f (drop k ps) (drop k us) ≡ true
+  unfolding pairwise
+  pairwise-end ps us k h h₁ = rw (drop-of-length-le ps h, drop-of-length-le us h₁)
+
+  -- a test that every unit passes with itself, every list does
+  pub pairwise-refl : ((u : ℕ) → f u u ≡ true) → (us : Bytes) → pairwise f us us ≡ true
+  unfolding _and_ pairwise
+  pairwise-refl h [] = refl
+  pairwise-refl h (u ∷ us) = rw (h u, pairwise-refl h us)
+
+  -- one turn of a loop over both lists
+  module _ (ps us : Bytes) (k : ℕ) (h : k < length ps) (h₁ : k < length us) where
+    pub pairwise-step : pairwise f (drop k ps) (drop k us) ≡ (f (getD ps k 0) (getD us k 0) and pairwise f (drop (k + 1) ps) (drop (k + 1) us))
+    unfolding pairwise
+    pairwise-step = rw (add-one, drop-cons ps k 0, drop-cons us k 0)
+
+    pub pairwise-hit : f (getD ps k 0) (getD us k 0) ≡ true → pairwise f (drop k ps) (drop k us) ≡ pairwise f (drop (k + 1) ps) (drop (k + 1) us)
+    unfolding _and_
+    pairwise-hit e = pairwise-step ∙ rw e
+
+    pub pairwise-miss : f (getD ps k 0) (getD us k 0) ≡ false → pairwise f (drop k ps) (drop k us) ≡ false
+    unfolding _and_
+    pairwise-miss e = pairwise-step ∙ rw e
+
+-- the same bytes are the same list
+pub same-eq : (l m : Bytes) → pairwise eqb l m ≡ true → l ≡ m
+unfolding pairwise
+same-eq [] [] e = refl
+same-eq [] (u ∷ us) e = absurd (false≢true e)
+same-eq (p ∷ ps) [] e = absurd (false≢true e)
+same-eq (p ∷ ps) (u ∷ us) e = ap₂ _∷_ (eqb-true p u (and-left _ _ e)) (same-eq ps us (and-right _ _ e))
+
+pub same-refl : (l : Bytes) → pairwise eqb l l ≡ true
+same-refl = pairwise-refl eqb (λ u. eq-eqb u u refl)
+
+pub same-of : (l m : Bytes) → l ≡ m → pairwise eqb l m ≡ true
+same-of l m e = rw e (same-refl m)
+
+eqb-sym : (x y : ℕ) → eqb x y ≡ eqb y x
+eqb-sym x y = go (eqb x y) refl
+  where
+    go : (t : Bool) → eqb x y ≡ t → eqb x y ≡ eqb y x
+    go true e = e ∙ sym (eq-eqb y x (sym (eqb-true x y e)))
+    go false e = e ∙ sym (ne-eqb y x (λ h. eqb-false x y e (sym h)))
+
+pub same-sym : (l m : Bytes) → pairwise eqb l m ≡ pairwise eqb m l
+unfolding pairwise
+same-sym [] [] = refl
+same-sym [] (b ∷ m) = refl
+same-sym (a ∷ l) [] = refl
+same-sym (a ∷ l) (b ∷ m) = ap₂ _and_ (eqb-sym a b) (same-sym l m)
+
+-- one turn of a loop that compares eagerly, from i on
+pub same-more : {x : Bool} (ok : Bool) (l m : Bytes) (i j : ℕ) → i + j < length l → i + j < length m → x ≡ (ok and same (drop (i + j) l) (drop (i + j) m))
+    → x ≡ ((ok && eqb (getD l (i + j) 0) (getD m (i + j) 0)) and same (drop (i + (j + 1)) l) (drop (i + (j + 1)) m))
+same-more ok l m i j h k e =
+    let n : i + (j + 1) ≡ i + j + 1 = omega arith in
+    e ∙ rw (n, and-eager, pairwise-step eqb l m (i + j) h k) (sym (and-assoc ok (eqb (getD l (i + j) 0) (getD m (i + j) 0)) (same (drop (i + j + 1) l) (drop (i + j + 1) m))))
+
+pub same-zero : (l m : Bytes) (i : ℕ) → same (drop i l) (drop i m) ≡ (true and same (drop (i + 0) l) (drop (i + 0) m))
+unfolding _and_
+same-zero l m i = rw add-zero
+
+-- ---- every byte is v
+pub allAre-step : (v : ℕ) (l : Bytes) (i : ℕ) → i < length l → allAre v (drop i l) ≡ (eqb (getD l i 0) v and allAre v (drop (i + 1) l))
+unfolding allAre
+allAre-step v l i h = rw (add-one, drop-cons l i 0)
+
+pub allAre-end : (v : ℕ) (l : Bytes) (i : ℕ) → length l ≤ i → allAre v (drop i l) ≡ true
+unfolding allAre
+allAre-end v l i h = rw (drop-of-length-le l h)
+
+-- one turn of a loop that compares eagerly
+pub allAre-more : {x : Bool} (ok : Bool) (v : ℕ) (l : Bytes) (i : ℕ) → i < length l → x ≡ (ok and allAre v (drop i l))
+    → x ≡ ((ok && eqb (getD l i 0) v) and allAre v (drop (i + 1) l))
+allAre-more ok v l i h e = e ∙ rw (and-eager, allAre-step v l i h) (sym (and-assoc ok (eqb (getD l i 0) v) (allAre v (drop (i + 1) l))))
+
+pub allAre-is : (v : ℕ) (l : Bytes) → allAre v l ≡ true → l ≡ replicate (length l) v
+unfolding allAre
+allAre-is v [] e = refl
+allAre-is v (b ∷ l) e = ap₂ _∷_ (eqb-true b v (and-left _ _ e)) (allAre-is v l (and-right _ _ e))
+
+pub allAre-replicate : (v n : ℕ) → allAre v (replicate n v) ≡ true
+unfolding allAre
+allAre-replicate v zero = refl
+allAre-replicate v (suc n) = and-intro (eqb v v) (allAre v (replicate n v)) (eq-eqb v v refl) (allAre-replicate v n)
+
+pub allAre-append : (v : ℕ) (l m : Bytes) → allAre v (l ++ m) ≡ (allAre v l and allAre v m)
+unfolding _and_ allAre
+allAre-append v [] m = refl
+allAre-append v (b ∷ l) m = rw (allAre-append v l m) (sym (and-assoc (eqb b v) (allAre v l) (allAre v m)))

@@ -1,0 +1,320 @@
+-- Laws of lists of items: what is in them, taken out, replaced or put behind. Assumes nothing.
+use Prim.Native.Nat.{ℕ, _+_, _≤_}
+use mathlib.Core.Path.{_≡_, refl, sym, ap, _∙_}
+use mathlib.Core.List.{List, [], _∷_, _++_}
+use mathlib.Core.Bool.{Bool, true, false, not, _||_, cond, or-true, true≢false, false≢true}
+use mathlib.Core.Option.{Option, none, some}
+use native.Mathlib.Omega.{arith}
+use lib.ListN.{length, length-append}
+use Rattle.slices.specs.Test.{_and_}
+use Rattle.slices.specs.TestLaws.{and-left, and-right, and-intro, forced-off}
+use Rattle.slices.specs.Bytes.{Bytes}
+use Rattle.slices.specs.Chunks.{flat, contains, distinct, find, remove, replace, replaceOrAppend}
+use Rattle.slices.specs.ChunksLaws.{All, nil, more, flat-append, flat-one}
+
+-- ---- of two tests joined by or
+pub or-left-off : (a b : Bool) → (a || b) ≡ false → a ≡ false
+or-left-off true b e = e
+or-left-off false b e = refl
+
+pub or-right-off : (a b : Bool) → (a || b) ≡ false → b ≡ false
+or-right-off true b e = absurd (true≢false e)
+or-right-off false b e = e
+
+pub or-off : (a b : Bool) → a ≡ false → b ≡ false → (a || b) ≡ false
+or-off true b e f = e
+or-off false b e f = f
+
+-- ---- each item has the property still
+module _ {P : Bytes → Type 0} where
+  pub all-append : (cs ds : List Bytes) → All P cs → All P ds → All P (cs ++ ds)
+  all-append [] ds nil k = k
+  all-append (c ∷ cs) ds (more h a) k = more h (all-append cs ds a k)
+
+  pub all-left : (cs ds : List Bytes) → All P (cs ++ ds) → All P cs
+  all-left [] ds a = nil
+  all-left (c ∷ cs) ds (more h a) = more h (all-left cs ds a)
+
+  pub all-right : (cs ds : List Bytes) → All P (cs ++ ds) → All P ds
+  all-right [] ds a = a
+  all-right (c ∷ cs) ds (more h a) = all-right cs ds a
+
+  pub all-here : (c : Bytes) (cs : List Bytes) → All P (c ∷ cs) → P c
+  all-here c cs (more h a) = h
+
+  pub all-behind : (c : Bytes) (cs : List Bytes) → All P (c ∷ cs) → All P cs
+  all-behind c cs (more h a) = a
+
+  pub all-map : {Q : Bytes → Type 0} → ((c : Bytes) → P c → Q c) → (cs : List Bytes) → All P cs → All Q cs
+  all-map f [] nil = nil
+  all-map f (c ∷ cs) (more h a) = more (f c h) (all-map f cs a)
+
+  module _ (p : Bytes → Bool) where
+    pub all-remove : (cs : List Bytes) → All P cs → All P (remove p cs)
+    unfolding remove
+    all-remove [] nil = nil
+    all-remove (c ∷ cs) (more h a) = go (p c) (all-remove cs a)
+      where
+        go : (b : Bool) → All P (remove p cs) → All P (cond b cs (c ∷ remove p cs))
+        go true i = a
+        go false i = more h i
+
+    pub all-replace : (q : Bytes) (cs : List Bytes) → P q → All P cs → All P (replace p q cs)
+    unfolding replace
+    all-replace q [] k nil = nil
+    all-replace q (c ∷ cs) k (more h a) = go (p c) (all-replace q cs k a)
+      where
+        go : (b : Bool) → All P (replace p q cs) → All P (cond b (q ∷ cs) (c ∷ replace p q cs))
+        go true i = more k a
+        go false i = more h i
+
+    pub all-replaceOrAppend : (q : Bytes) (cs : List Bytes) → P q → All P cs → All P (replaceOrAppend p q cs)
+    unfolding replaceOrAppend
+    all-replaceOrAppend q cs k a = go (contains p cs)
+      where
+        go : (b : Bool) → All P (cond b (replace p q cs) (cs ++ (q ∷ [])))
+        go true = all-replace q cs k a
+        go false = all-append cs (q ∷ []) a (more k nil)
+
+    -- the item that is found
+    pub all-find : (cs : List Bytes) (c : Bytes) → find p cs ≡ some c → All P cs → P c
+    unfolding find
+    all-find [] c e nil = let z : _≡_ {A = ℕ} 0 1 = cc in absurd (omega arith)
+    all-find (d ∷ cs) c e (more h a) = go (p d) e (λ i. all-find cs c i a)
+      where
+        go : (b : Bool) → cond b (some d) (find p cs) ≡ some c → (find p cs ≡ some c → P c) → P c
+        go true f ih = let i : d ≡ c = cc in subst-here i h
+          where
+            subst-here : d ≡ c → P d → P c
+            subst-here i x = rw i at x
+        go false f ih = ih f
+
+-- ---- whether an item is there
+module _ (f : Bytes → Bool) where
+  pub contains-append : (cs ds : List Bytes) → contains f (cs ++ ds) ≡ (contains f cs || contains f ds)
+  unfolding contains
+  contains-append [] ds = refl
+  contains-append (c ∷ cs) ds = go (f c) (contains-append cs ds)
+    where
+      go : (b : Bool) → contains f (cs ++ ds) ≡ (contains f cs || contains f ds) → (b || contains f (cs ++ ds)) ≡ ((b || contains f cs) || contains f ds)
+      go true i = refl
+      go false i = i
+
+  pub contains-one : (q : Bytes) → contains f (q ∷ []) ≡ f q
+  unfolding contains
+  contains-one q = go (f q)
+    where
+      go : (b : Bool) → (b || false) ≡ b
+      go true = refl
+      go false = refl
+
+  pub contains-remove : (p : Bytes → Bool) (cs : List Bytes) → contains f cs ≡ false → contains f (remove p cs) ≡ false
+  unfolding contains remove
+  contains-remove p [] e = refl
+  contains-remove p (c ∷ cs) e = go (p c) (contains-remove p cs k)
+    where
+      k : contains f cs ≡ false
+      k = or-right-off (f c) (contains f cs) e
+
+      go : (b : Bool) → contains f (remove p cs) ≡ false → contains f (cond b cs (c ∷ remove p cs)) ≡ false
+      go true i = k
+      go false i = or-off (f c) (contains f (remove p cs)) (or-left-off (f c) (contains f cs) e) i
+
+  -- an item replaced by one that the test takes just so
+  pub contains-replace : (p : Bytes → Bool) (q : Bytes) (cs : List Bytes) → ((c : Bytes) → p c ≡ true → f q ≡ f c) → contains f (replace p q cs) ≡ contains f cs
+  unfolding contains replace
+  contains-replace p q [] h = refl
+  contains-replace p q (c ∷ cs) h = go (p c) refl (contains-replace p q cs h)
+    where
+      go : (b : Bool) → p c ≡ b → contains f (replace p q cs) ≡ contains f cs → contains f (cond b (q ∷ cs) (c ∷ replace p q cs)) ≡ (f c || contains f cs)
+      go true e i = rw (h c e)
+      go false e i = rw i
+
+  pub contains-ext : (h : Bytes → Bool) (cs : List Bytes) → ((c : Bytes) → f c ≡ h c) → contains f cs ≡ contains h cs
+  unfolding contains
+  contains-ext h [] e = refl
+  contains-ext h (c ∷ cs) e = rw (e c, contains-ext h cs e)
+
+  -- found exactly if it is there
+  pub find-none : (cs : List Bytes) → contains f cs ≡ false → find f cs ≡ none
+  unfolding contains find
+  find-none [] e = refl
+  find-none (c ∷ cs) e = rw (or-left-off (f c) (contains f cs) e) (find-none cs (or-right-off (f c) (contains f cs) e))
+
+  pub find-takes : (cs : List Bytes) (c : Bytes) → find f cs ≡ some c → f c ≡ true
+  unfolding find
+  find-takes [] c e = let z : _≡_ {A = ℕ} 0 1 = cc in absurd (omega arith)
+  find-takes (d ∷ cs) c e = go (f d) refl e (find-takes cs c)
+    where
+      go : (b : Bool) → f d ≡ b → cond b (some d) (find f cs) ≡ some c → (find f cs ≡ some c → f c ≡ true) → f c ≡ true
+      go true t k ih = let i : d ≡ c = cc in rw i at t
+      go false t k ih = ih k
+
+  pub contains-find : (cs : List Bytes) (c : Bytes) → find f cs ≡ some c → contains f cs ≡ true
+  unfolding contains find
+  contains-find [] c e = let z : _≡_ {A = ℕ} 0 1 = cc in absurd (omega arith)
+  contains-find (d ∷ cs) c e = go (f d) e (contains-find cs c)
+    where
+      go : (b : Bool) → cond b (some d) (find f cs) ≡ some c → (find f cs ≡ some c → contains f cs ≡ true) → (b || contains f cs) ≡ true
+      go true k ih = refl
+      go false k ih = ih k
+
+  pub none-contains : (cs : List Bytes) → find f cs ≡ none → contains f cs ≡ false
+  unfolding contains find
+  none-contains [] e = refl
+  none-contains (d ∷ cs) e = go (f d) e (none-contains cs)
+    where
+      go : (b : Bool) → cond b (some d) (find f cs) ≡ none → (find f cs ≡ none → contains f cs ≡ false) → (b || contains f cs) ≡ false
+      go true k ih = let z : _≡_ {A = ℕ} 0 1 = cc in absurd (omega arith)
+      go false k ih = ih k
+
+  pub find-append : (cs ds : List Bytes) → contains f cs ≡ false → find f (cs ++ ds) ≡ find f ds
+  unfolding contains find
+  find-append [] ds e = refl
+  find-append (c ∷ cs) ds e = rw (or-left-off (f c) (contains f cs) e) (find-append cs ds (or-right-off (f c) (contains f cs) e))
+
+  pub find-left : (cs ds : List Bytes) → contains f cs ≡ true → find f (cs ++ ds) ≡ find f cs
+  unfolding contains find
+  find-left [] ds e = absurd (false≢true e)
+  find-left (c ∷ cs) ds e = go (f c) e (find-left cs ds)
+    where
+      go : (b : Bool) → (b || contains f cs) ≡ true → (contains f cs ≡ true → find f (cs ++ ds) ≡ find f cs) → cond b (some c) (find f (cs ++ ds)) ≡ cond b (some c) (find f cs)
+      go true k ih = refl
+      go false k ih = ih k
+
+  -- what is found once an item was replaced, or put behind
+  pub find-replace : (q : Bytes) (cs : List Bytes) → f q ≡ true → contains f cs ≡ true → find f (replace f q cs) ≡ some q
+  unfolding contains find replace
+  find-replace q [] t e = absurd (false≢true e)
+  find-replace q (c ∷ cs) t e = go (f c) refl e (find-replace q cs t)
+    where
+      go : (b : Bool) → f c ≡ b → (b || contains f cs) ≡ true → (contains f cs ≡ true → find f (replace f q cs) ≡ some q) → find f (cond b (q ∷ cs) (c ∷ replace f q cs)) ≡ some q
+      go true h k ih = rw t
+      go false h k ih = rw h (ih k)
+
+  pub find-replaceOrAppend : (q : Bytes) (cs : List Bytes) → f q ≡ true → find f (replaceOrAppend f q cs) ≡ some q
+  unfolding replaceOrAppend find
+  find-replaceOrAppend q cs t = go (contains f cs) refl
+    where
+      go : (b : Bool) → contains f cs ≡ b → find f (cond b (replace f q cs) (cs ++ (q ∷ []))) ≡ some q
+      go true e = find-replace q cs t e
+      go false e = find-append cs (q ∷ []) e ∙ rw t
+
+-- ---- an item that another test takes
+module _ (p o : Bytes → Bool) (other : (c : Bytes) → p c ≡ true → o c ≡ false) where
+  pub find-remove-other : (cs : List Bytes) → find o (remove p cs) ≡ find o cs
+  unfolding find remove
+  find-remove-other [] = refl
+  find-remove-other (c ∷ cs) = go (p c) refl (find-remove-other cs)
+    where
+      go : (b : Bool) → p c ≡ b → find o (remove p cs) ≡ find o cs → find o (cond b cs (c ∷ remove p cs)) ≡ cond (o c) (some c) (find o cs)
+      go true e i = rw (other c e)
+      go false e i = rw i
+
+  pub find-replace-other : (q : Bytes) (cs : List Bytes) → o q ≡ false → find o (replace p q cs) ≡ find o cs
+  unfolding find replace
+  find-replace-other q [] h = refl
+  find-replace-other q (c ∷ cs) h = go (p c) refl (find-replace-other q cs h)
+    where
+      go : (b : Bool) → p c ≡ b → find o (replace p q cs) ≡ find o cs → find o (cond b (q ∷ cs) (c ∷ replace p q cs)) ≡ cond (o c) (some c) (find o cs)
+      go true e i = rw (other c e, h)
+      go false e i = rw i
+
+  find-append-other : (q : Bytes) (cs : List Bytes) → o q ≡ false → find o (cs ++ (q ∷ [])) ≡ find o cs
+  unfolding find
+  find-append-other q [] h = rw h
+  find-append-other q (c ∷ cs) h = rw (find-append-other q cs h)
+
+  pub find-replaceOrAppend-other : (q : Bytes) (cs : List Bytes) → o q ≡ false → find o (replaceOrAppend p q cs) ≡ find o cs
+  unfolding replaceOrAppend
+  find-replaceOrAppend-other q cs h = go (contains p cs)
+    where
+      go : (b : Bool) → find o (cond b (replace p q cs) (cs ++ (q ∷ []))) ≡ find o cs
+      go true = find-replace-other q cs h
+      go false = find-append-other q cs h
+
+-- the items without one that is not there
+pub remove-none : (p : Bytes → Bool) (cs : List Bytes) → contains p cs ≡ false → remove p cs ≡ cs
+unfolding contains remove
+remove-none p [] e = refl
+remove-none p (c ∷ cs) e = rw (or-left-off (p c) (contains p cs) e) (ap (λ (ds : List Bytes). c ∷ ds) (remove-none p cs (or-right-off (p c) (contains p cs) e)))
+
+pub length-remove : (p : Bytes → Bool) (cs : List Bytes) → length (flat (remove p cs)) ≤ length (flat cs)
+unfolding remove flat
+length-remove p [] = omega arith
+length-remove p (c ∷ cs) = go (p c) (length-remove p cs)
+  where
+    go : (b : Bool) → length (flat (remove p cs)) ≤ length (flat cs) → length (flat (cond b cs (c ∷ remove p cs))) ≤ length (flat (c ∷ cs))
+    go true i = simp length-append (omega arith)
+    go false i = simp length-append (omega arith)
+
+-- ---- no item is like a later one
+module _ (like : Bytes → Bytes → Bool) where
+  pub record Apart (c : Bytes) (cs : List Bytes) : Type 0 where
+    pub here : contains (like c) cs ≡ false
+    pub rest : distinct like cs ≡ true
+
+  pub distinct-apart : (c : Bytes) (cs : List Bytes) → distinct like (c ∷ cs) ≡ true → Apart c cs
+  unfolding distinct
+  distinct-apart c cs e = record {
+    here = forced-off (contains (like c) cs) (λ t. rw t at (and-left (not (contains (like c) cs)) (distinct like cs) e));
+    rest = and-right (not (contains (like c) cs)) (distinct like cs) e;
+  }
+
+  pub distinct-cons : (c : Bytes) (cs : List Bytes) → contains (like c) cs ≡ false → distinct like cs ≡ true → distinct like (c ∷ cs) ≡ true
+  unfolding distinct
+  distinct-cons c cs h e = and-intro (not (contains (like c) cs)) (distinct like cs) (rw h) e
+
+  pub distinct-remove : (p : Bytes → Bool) (cs : List Bytes) → distinct like cs ≡ true → distinct like (remove p cs) ≡ true
+  unfolding remove
+  distinct-remove p [] e = e
+  distinct-remove p (c ∷ cs) e = go (p c) (distinct-remove p cs (distinct-apart c cs e .rest))
+    where
+      go : (b : Bool) → distinct like (remove p cs) ≡ true → distinct like (cond b cs (c ∷ remove p cs)) ≡ true
+      go true i = distinct-apart c cs e .rest
+      go false i = distinct-cons c (remove p cs) (contains-remove (like c) p cs (distinct-apart c cs e .here)) i
+
+  pub distinct-left : (cs ds : List Bytes) → distinct like (cs ++ ds) ≡ true → distinct like cs ≡ true
+  unfolding distinct
+  distinct-left [] ds e = refl
+  distinct-left (c ∷ cs) ds e =
+      let w = distinct-apart c (cs ++ ds) e in
+      distinct-cons c cs (or-left-off (contains (like c) cs) (contains (like c) ds) (sym (contains-append (like c) cs ds) ∙ w .here)) (distinct-left cs ds (w .rest))
+
+  pub distinct-right : (cs ds : List Bytes) → distinct like (cs ++ ds) ≡ true → distinct like ds ≡ true
+  distinct-right [] ds e = e
+  distinct-right (c ∷ cs) ds e = distinct-right cs ds (distinct-apart c (cs ++ ds) e .rest)
+
+  -- a test that is like one item is like all that are like it
+  module _ (like-sym : (a b : Bytes) → like a b ≡ like b a) (like-same : (a b : Bytes) → like a b ≡ true → (c : Bytes) → like a c ≡ like b c) where
+    -- an item put in place of one that it is like
+    pub distinct-replace : (q : Bytes) (cs : List Bytes) → distinct like cs ≡ true → distinct like (replace (like q) q cs) ≡ true
+    unfolding replace
+    distinct-replace q [] e = e
+    distinct-replace q (c ∷ cs) e = go (like q c) refl (distinct-replace q cs (w .rest))
+      where
+        w : Apart c cs
+        w = distinct-apart c cs e
+
+        go : (b : Bool) → like q c ≡ b → distinct like (replace (like q) q cs) ≡ true → distinct like (cond b (q ∷ cs) (c ∷ replace (like q) q cs)) ≡ true
+        go true t i = distinct-cons q cs (contains-ext (like q) (like c) cs (like-same q c t) ∙ w .here) (w .rest)
+        go false t i =
+            distinct-cons c (replace (like q) q cs) (contains-replace (like c) (like q) q cs (λ x k. like-sym c q ∙ like-same q x k c ∙ like-sym x c) ∙ w .here) i
+
+    -- one that is like none before it put behind them
+    pub distinct-append : (q : Bytes) (cs : List Bytes) → contains (like q) cs ≡ false → distinct like cs ≡ true → distinct like (cs ++ (q ∷ [])) ≡ true
+    unfolding contains
+    distinct-append q [] h e = distinct-cons q [] refl e
+    distinct-append q (c ∷ cs) h e =
+        let w = distinct-apart c cs e in
+        let j : like c q ≡ false = like-sym c q ∙ or-left-off (like q c) (contains (like q) cs) h in
+        distinct-cons c (cs ++ (q ∷ [])) (contains-append (like c) cs (q ∷ []) ∙ or-off (contains (like c) cs) (contains (like c) (q ∷ [])) (w .here) (contains-one (like c) q ∙ j))
+        (distinct-append q cs (or-right-off (like q c) (contains (like q) cs) h) (w .rest))
+
+    pub distinct-replaceOrAppend : (q : Bytes) (cs : List Bytes) → distinct like cs ≡ true → distinct like (replaceOrAppend (like q) q cs) ≡ true
+    unfolding replaceOrAppend
+    distinct-replaceOrAppend q cs e = go (contains (like q) cs) refl
+      where
+        go : (b : Bool) → contains (like q) cs ≡ b → distinct like (cond b (replace (like q) q cs) (cs ++ (q ∷ []))) ≡ true
+        go true h = distinct-replace q cs e
+        go false h = distinct-append q cs h e

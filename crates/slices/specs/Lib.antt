@@ -1,0 +1,10 @@
+pub mod Test
+pub mod TestLaws
+pub mod Bytes
+pub mod BytesLaws
+pub mod PartLaws
+pub mod NumberLaws
+pub mod OverwriteLaws
+pub mod Chunks
+pub mod ChunksLaws
+pub mod ItemsLaws

@@ -1,0 +1,49 @@
+-- Laws of tests joined. Assumes nothing.
+use mathlib.Core.Path.{_≡_, refl, sym}
+use mathlib.Core.Bool.{Bool, true, false, _&&_, false≢true}
+use Rattle.slices.specs.Test.{_and_}
+
+pub and-left : (a b : Bool) → (a and b) ≡ true → a ≡ true
+unfolding _and_
+and-left true b e = refl
+and-left false b e = e
+
+pub and-right : (a b : Bool) → (a and b) ≡ true → b ≡ true
+unfolding _and_
+and-right true b e = e
+and-right false b e = absurd (false≢true e)
+
+pub and-intro : (a b : Bool) → a ≡ true → b ≡ true → (a and b) ≡ true
+unfolding _and_
+and-intro true b e f = f
+and-intro false b e f = e
+
+pub and-no : (a : Bool) → (a and false) ≡ false
+unfolding _and_
+and-no true = refl
+and-no false = refl
+
+pub and-yes : (a : Bool) → (a and true) ≡ a
+unfolding _and_
+and-yes true = refl
+and-yes false = refl
+
+pub and-assoc : (a b c : Bool) → ((a and b) and c) ≡ (a and (b and c))
+unfolding _and_
+and-assoc true b c = refl
+and-assoc false b c = refl
+
+-- the code's `&` on two tests
+pub and-eager : (a b : Bool) → (a && b) ≡ (a and b)
+unfolding _and_
+and-eager true b = refl
+and-eager false b = refl
+
+-- a test is true if its being false would make the whole false, and false if its being true would
+pub forced : (b : Bool) → (b ≡ false → false ≡ true) → b ≡ true
+forced true h = refl
+forced false h = h refl
+
+pub forced-off : (b : Bool) → (b ≡ true → false ≡ true) → b ≡ false
+forced-off true h = sym (h refl)
+forced-off false h = refl

@@ -1,0 +1,189 @@
+// Byte primitives: numbers of two and four bytes, parts, tests of bytes, and writes and moves in place.
+ghost use mathlib.Core.Path.{_≡_};
+ghost use Prim.Native.Nat.{_+_, _≤_, _<_};
+ghost use lib.ListN.{length, getD, take, drop, replicate};
+ghost use Rattle.slices.specs.Test.{_and_};
+ghost use Rattle.slices.specs.Bytes.{le16, le32, part, allAre, same, overwrite};
+
+// The byte at a place, and 0 past the end.
+pub fn byte(s: &[u8], at: usize) -> u8
+    ensures { λ r. ⌜ r ≡ getD (now (s .entry)) at 0 ⌝ }
+{
+    if at < s.len() { s[at] } else { 0 }
+}
+
+// The number of the two bytes from a place on, a byte past the end counting as 0.
+pub fn le16(s: &[u8], at: usize) -> u16
+    ensures { λ r. ⌜ r ≡ le16 (now (s .entry)) at ⌝ }
+{
+    if s.len() <= at {
+        return 0;
+    }
+    let lo = byte(s, at) as u16;
+    let hi = byte(s, at + 1) as u16;
+    lo + 256 * hi
+}
+
+// The number of the four bytes from a place on, a byte past the end counting as 0.
+pub fn le32(s: &[u8], at: usize) -> u32
+    ensures { λ r. ⌜ r ≡ le32 (now (s .entry)) at ⌝ }
+{
+    if s.len() <= at {
+        return 0;
+    }
+    let lo = le16(s, at) as u32;
+    let hi = le16(s, at + 2) as u32;
+    lo + 65536 * hi
+}
+
+// The bytes from a up to e, as far as there are any.
+pub fn part(s: &[u8], a: usize, e: usize) -> &[u8]
+    ensures { λ r. ⌜ now r ≡ part a e (now (s .entry)) ⌝ }
+{
+    if e <= a {
+        return &s[..0];
+    }
+    if s.len() <= a {
+        return &s[..0];
+    }
+    if s.len() < e {
+        return &s[a..];
+    }
+    &s[a..e]
+}
+
+fn wide(x: u8) -> usize
+    ensures { λ r. ⌜ r ≡ x ⌝ }
+    ensures { λ r. ⌜ r < 256 ⌝ }
+{
+    x as usize
+}
+
+// The same numbers, where the bytes are known to be there.
+pub fn get16(s: &[u8], at: usize) -> usize
+    requires { ⌜ at + 2 ≤ length (now s) ⌝ }
+    ensures is { λ r. ⌜ r ≡ le16 (now (s .entry)) at ⌝ }
+    ensures bound { λ r. ⌜ r < 65536 ⌝ }
+{
+    wide(s[at]) + 256 * wide(s[at + 1])
+}
+
+pub fn get32(s: &[u8], at: usize) -> usize
+    requires { ⌜ at + 4 ≤ length (now s) ⌝ }
+    ensures is { λ r. ⌜ r ≡ le32 (now (s .entry)) at ⌝ }
+    ensures bound { λ r. ⌜ r < 4294967296 ⌝ }
+{
+    get16(s, at) + 65536 * get16(s, at + 2)
+}
+
+// Whether every byte is v. No exit before the end, so that the loop is compiled to wide compares.
+pub fn all_are(s: &[u8], v: u8) -> bool
+    ensures { λ r. ⌜ r ≡ allAre v (now (s .entry)) ⌝ }
+{
+    let mut ok = true;
+    let mut i = 0;
+    while i < s.len() {
+        ok = ok & (s[i] == v);
+        i += 1;
+    }
+    ok
+}
+
+// The same, left at the first other byte: for a few bytes.
+pub fn few_are(s: &[u8], v: u8) -> bool
+    ensures { λ r. ⌜ r ≡ allAre v (now (s .entry)) ⌝ }
+{
+    let mut i = 0;
+    while i < s.len() {
+        if s[i] != v {
+            return false;
+        }
+        i += 1;
+    }
+    true
+}
+
+// Eight bytes of each from index i on. No exit before the end: it is compiled to one compare of words.
+fn eight(a: &[u8], b: &[u8], i: usize) -> bool
+    requires { ⌜ (i + 8 ≤ length (now a)) × (i + 8 ≤ length (now b)) ⌝ }
+    ensures { λ r. ⌜ same (drop i (now (a .entry))) (drop i (now (b .entry))) ≡ (r and same (drop (i + 8) (now (a .entry))) (drop (i + 8) (now (b .entry)))) ⌝ }
+{
+    let mut ok = true;
+    let mut j = 0;
+    while j < 8 {
+        ok = ok & (a[i + j] == b[i + j]);
+        j += 1;
+    }
+    ok
+}
+
+// Whether two slices hold the same bytes.
+pub fn equal(a: &[u8], b: &[u8]) -> bool
+    ensures { λ r. ⌜ r ≡ same (now (a .entry)) (now (b .entry)) ⌝ }
+{
+    if a.len() != b.len() {
+        return false;
+    }
+    let mut i = 0;
+    while 8 <= a.len() - i {
+        if !eight(a, b, i) {
+            return false;
+        }
+        i += 8;
+    }
+    while i < a.len() {
+        if a[i] != b[i] {
+            return false;
+        }
+        i += 1;
+    }
+    true
+}
+
+// Sets the n bytes from index at on to v.
+pub fn fill(s: &mut [u8], at: usize, n: usize, v: u8)
+    requires { ⌜ at + n ≤ length (now s) ⌝ }
+    ensures { λ _. ⌜ now (s .exit) ≡ overwrite (now (s .entry)) at (replicate n v) ⌝ }
+{
+    let mut i = 0;
+    while i < n {
+        s[at + i] = v;
+        i += 1;
+    }
+}
+
+// Copies all of src into s from index at on.
+pub fn copy_in(s: &mut [u8], at: usize, src: &[u8])
+    requires { ⌜ at + length (now src) ≤ length (now s) ⌝ }
+    ensures { λ _. ⌜ now (s .exit) ≡ overwrite (now (s .entry)) at (now (src .entry)) ⌝ }
+{
+    let mut i = 0;
+    while i < src.len() {
+        s[at + i] = src[i];
+        i += 1;
+    }
+}
+
+// Moves n bytes from index from down to index to.
+pub fn move_down(s: &mut [u8], from: usize, to: usize, n: usize)
+    requires { ⌜ (to ≤ from) × (from + n ≤ length (now s)) ⌝ }
+    ensures { λ _. ⌜ now (s .exit) ≡ overwrite (now (s .entry)) to (take n (drop from (now (s .entry)))) ⌝ }
+{
+    let mut i = 0;
+    while i < n {
+        s[to + i] = s[from + i];
+        i += 1;
+    }
+}
+
+// Moves n bytes from index from up to index to.
+pub fn move_up(s: &mut [u8], from: usize, to: usize, n: usize)
+    requires { ⌜ (from ≤ to) × (to + n ≤ length (now s)) ⌝ }
+    ensures { λ _. ⌜ now (s .exit) ≡ overwrite (now (s .entry)) to (take n (drop from (now (s .entry)))) ⌝ }
+{
+    let mut i = n;
+    while 0 < i {
+        i -= 1;
+        s[to + i] = s[from + i];
+    }
+}
