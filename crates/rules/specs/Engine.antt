@@ -32,6 +32,9 @@ pub record State : Type 0 where
   pub policy : Bytes
   pub switches : Switches
 
+abbrev pub stateOf : Bytes → Bytes → Bytes → Switches → State
+stateOf nv vol policy switches = record { nv = nv; vol = vol; policy = policy; switches = switches }
+
 -- the calls, with what each is given beside the state; a dump is given its buffer with its old bytes
 pub data Call : Type 0 where
   -- whether disabling is allowed

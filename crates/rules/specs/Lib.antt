@@ -1,3 +1,4 @@
 pub mod Set
 pub mod Engine
+pub mod EngineLaws
 pub mod Readings

@@ -17,6 +17,7 @@ use Rattle.store.specs.Store.{withoutVariable, hasRoom, withRecord}
 use Rattle.pair.specs.Pair.{lookup}
 use Rattle.status.specs.declared.Status.{Status}
 use Rattle.status.specs.declared.Status.the-variants.{Success, InvalidParameter, Unsupported, WriteProtected, OutOfResources, NotFound}
+use Rattle.status.specs.Status.{isSuccess}
 use Rattle.rules.specs.declared.Ground.{Ground}
 use Rattle.rules.specs.declared.Ground.the-variants.{NoGround, SizeGround, AttributeGround, LockGround}
 
@@ -30,6 +31,10 @@ pub record Request : Type 0 where
 abbrev pub Lookup : Type 0
 Lookup = Variable → Option Bytes
 
+-- the first of two statuses that refuses
+abbrev pub orElse : Status → Status → Status
+orElse n later = cond (isSuccess n) later n
+
 unfoldable pub exists : Option Bytes → Bool
 exists none = false
 exists (some r) = true
@@ -37,6 +42,26 @@ exists (some r) = true
 unfoldable pub isEmpty : Bytes → Bool
 isEmpty [] = true
 isEmpty (b ∷ l) = false
+
+-- ---- steps 1 to 3
+
+-- name not 1 to 64 units or with a zero unit, or payload over 1,024 bytes
+unfoldable pub badRequest : Request → Bool
+badRequest r = not (named (r .variable)) || ltb maxPayload (length (r .payload))
+
+-- a bit outside 0x47
+unfoldable pub unsupportedBit : ℕ → Bool
+unsupportedBit a = not (eqb (bitAnd a 0x47) a)
+
+-- RT or append without BS
+unfoldable pub needsBS : ℕ → Bool
+needsBS a = (hasRT a || hasAppend a) and not (hasBS a)
+
+unfoldable pub requestStatus : Request → Status
+requestStatus r =
+    cond (badRequest r) InvalidParameter
+    (cond (unsupportedBit (r .attributes)) Unsupported
+    (cond (needsBS (r .attributes)) InvalidParameter Success))
 
 -- ---- the locks
 
@@ -82,12 +107,12 @@ abbrev pub groundBy : Option Bytes → Lookup → Request → Ground
 groundBy none found r = NoGround
 groundBy (some e) found r = groundOf e found r
 
--- what a ground answers, or else the steps behind it
-abbrev pub byGround : Ground → Status → Status
-byGround SizeGround later = InvalidParameter
-byGround AttributeGround later = InvalidParameter
-byGround LockGround later = WriteProtected
-byGround NoGround later = later
+-- what a ground answers
+abbrev pub groundStatus : Ground → Status
+groundStatus NoGround = Success
+groundStatus SizeGround = InvalidParameter
+groundStatus AttributeGround = InvalidParameter
+groundStatus LockGround = WriteProtected
 
 -- ---- steps 5 to 10
 
@@ -125,25 +150,12 @@ writeStatus nv vol found r =
     (cond (ltb maxPayload (length (payloadAfter found r))) OutOfResources
     (cond (hasRoom (hasNV (r .attributes)) (storeOf (r .attributes) nv vol) (r .variable) (recordAfter found r)) Success OutOfResources))))
 
--- steps 1 to 3
-unfoldable pub badRequest : Request → Bool
-badRequest r = not (named (r .variable)) || ltb maxPayload (length (r .payload))
-
--- a bit outside 0x47
-unfoldable pub unsupportedBit : ℕ → Bool
-unsupportedBit a = not (eqb (bitAnd a 0x47) a)
-
--- RT or append without BS
-unfoldable pub needsBS : ℕ → Bool
-needsBS a = (hasRT a || hasAppend a) and not (hasBS a)
-
--- all steps over sound stores; `speaking` is the chosen entry, none where none is chosen or the engine is disabled
+-- all steps over sound stores, the first refusal in their order;
+-- `speaking` is the chosen entry, none where none is chosen or the engine is disabled
 unfoldable pub setStatus : Option Bytes → Bytes → Bytes → Request → Status
 setStatus speaking nv vol r =
-    cond (badRequest r) InvalidParameter
-    (cond (unsupportedBit (r .attributes)) Unsupported
-    (cond (needsBS (r .attributes)) InvalidParameter
-    (byGround (groundBy speaking (lookup nv vol) r) (writeStatus nv vol (lookup nv vol (r .variable)) r))))
+    orElse (requestStatus r)
+    (orElse (groundStatus (groundBy speaking (lookup nv vol) r)) (writeStatus nv vol (lookup nv vol (r .variable)) r))
 
 -- the store is the one that the attributes name
 abbrev pub isStoreOf : Bool → ℕ → Bool
