@@ -1,4 +1,7 @@
 // The packed policy entry.
+ghost use mathlib.Core.Path.{_≡_};
+ghost use mathlib.Core.Bool.{true};
+ghost use Rattle.entry.specs.Entry.{headerOk, lockOk, nameOk, wellFormed, nameOf, lockOf, entryOf, parse, targets, rank, sameTarget};
 
 // The trigger of the fourth lock rule: the value that locks, and where its namespace and its name stand in the entry's bytes.
 // The name's last byte before its closing zero unit is at name_end - 1.
@@ -31,4 +34,169 @@ pub struct Entry {
 pub enum Parsed {
     WellFormed(Entry),
     Malformed,
+}
+
+// 44 bytes at least, Version, Size, the order of the two sizes, and no common bit.
+fn header_ok(e: &[u8]) -> bool
+    ensures { λ r. ⌜ r ≡ headerOk (now (e .entry)) ⌝ }
+{
+    if e.len() < 44 {
+        return false;
+    }
+    if slices::le32(e, 0) != 0x10000 {
+        return false;
+    }
+    if slices::le16(e, 4) as usize != e.len() {
+        return false;
+    }
+    if slices::le32(e, 28) < slices::le32(e, 24) {
+        return false;
+    }
+    if slices::le32(e, 32) & slices::le32(e, 36) != 0 {
+        return false;
+    }
+    true
+}
+
+// LockPolicyType and OffsetToName; of type 3 the trigger's name, a part of the entry's bytes.
+fn lock_ok(e: &[u8]) -> bool
+    ensures { λ r. ⌜ r ≡ lockOk (now (e .entry)) ⌝ }
+{
+    let kind = slices::byte(e, 40);
+    let offset = slices::le16(e, 6) as usize;
+    if kind <= 2 {
+        return offset == 44;
+    }
+    if kind != 3 {
+        return false;
+    }
+    if offset < 62 {
+        return false;
+    }
+    if e.len() < offset {
+        return false;
+    }
+    names::is_terminated(&e[62..offset])
+}
+
+// The entry's own name: empty, or a name with its zero unit.
+fn name_ok(e: &[u8]) -> bool
+    ensures { λ r. ⌜ r ≡ nameOk (now (e .entry)) ⌝ }
+{
+    let start = slices::le16(e, 6) as usize;
+    if e.len() < start {
+        return false;
+    }
+    if start == e.len() {
+        return true;
+    }
+    names::is_terminated(&e[start..])
+}
+
+// Whether the bytes are a well-formed entry.
+pub fn well_formed(e: &[u8]) -> bool
+    ensures { λ r. ⌜ r ≡ wellFormed (now (e .entry)) ⌝ }
+{
+    if header_ok(e) {
+        if lock_ok(e) {
+            return name_ok(e);
+        }
+        return false;
+    }
+    false
+}
+
+// The lock rule of a well-formed entry.
+fn lock_of(e: &[u8]) -> LockRule
+    requires { ⌜ wellFormed (now e) ≡ true ⌝ }
+    ensures { λ r. ⌜ r ≡ lockOf (now (e .entry)) ⌝ }
+{
+    let kind = slices::byte(e, 40);
+    if kind == 0 {
+        return LockRule::NoLock;
+    }
+    if kind == 1 {
+        return LockRule::LockNow;
+    }
+    if kind == 2 {
+        return LockRule::LockOnCreate;
+    }
+    LockRule::LockOnVarState(Trigger {
+        value: slices::byte(e, 60),
+        namespace: 44,
+        name: 62,
+        name_end: slices::le16(e, 6) as usize - 2,
+    })
+}
+
+// The fields of a well-formed entry.
+pub fn entry_of(e: &[u8]) -> Entry
+    requires { ⌜ wellFormed (now e) ≡ true ⌝ }
+    ensures { λ r. ⌜ r ≡ entryOf (now (e .entry)) ⌝ }
+{
+    let lock = lock_of(e);
+    Entry {
+        size: e.len(),
+        offset_to_name: slices::le16(e, 6) as usize,
+        min_size: slices::le32(e, 24),
+        max_size: slices::le32(e, 28),
+        attributes_must_have: slices::le32(e, 32),
+        attributes_cant_have: slices::le32(e, 36),
+        lock,
+    }
+}
+
+// A packed entry, checked and read.
+pub fn parse(e: &[u8]) -> Parsed
+    ensures { λ r. ⌜ r ≡ parse (now (e .entry)) ⌝ }
+{
+    if well_formed(e) {
+        return Parsed::WellFormed(entry_of(e));
+    }
+    Parsed::Malformed
+}
+
+// The bytes of the entry's name without its zero unit; of an empty name, none.
+pub fn name_bytes(e: &[u8]) -> &[u8]
+    ensures { λ r. ⌜ now r ≡ nameOf (now (e .entry)) ⌝ }
+{
+    let offset = slices::le16(e, 6) as usize;
+    if e.len() < 2 {
+        return slices::part(e, offset, 0);
+    }
+    slices::part(e, offset, e.len() - 2)
+}
+
+// Whether the entry targets the variable of that namespace and name.
+pub fn targets(e: &[u8], namespace: &[u8], name: &[u8]) -> bool
+    ensures { λ r.
+        ⌜ r ≡ targets (now (e .entry)) (record { namespace = now (namespace .entry); name = now (name .entry) }) ⌝ }
+{
+    if slices::equal(slices::part(e, 8, 24), namespace) {
+        if slices::le16(e, 6) as usize == e.len() {
+            return true;
+        }
+        return names::matches(name_bytes(e), name);
+    }
+    false
+}
+
+// The number of '#' in the entry's name; an empty name ranks behind all others.
+pub fn rank(e: &[u8]) -> usize
+    ensures { λ r. ⌜ r ≡ rank (now (e .entry)) ⌝ }
+{
+    if slices::le16(e, 6) as usize == e.len() {
+        return 65;
+    }
+    names::wildcards(name_bytes(e))
+}
+
+// Whether two entries have the same namespace and the same name.
+pub fn same_target(e: &[u8], f: &[u8]) -> bool
+    ensures { λ r. ⌜ r ≡ sameTarget (now (e .entry)) (now (f .entry)) ⌝ }
+{
+    if slices::equal(slices::part(e, 8, 24), slices::part(f, 8, 24)) {
+        return slices::equal(name_bytes(e), name_bytes(f));
+    }
+    false
 }

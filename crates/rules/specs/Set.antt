@@ -46,8 +46,8 @@ isEmpty (b ∷ l) = false
 -- ---- steps 1 to 3
 
 -- name not 1 to 64 units or with a zero unit, or payload over 1,024 bytes
-unfoldable pub badRequest : Request → Bool
-badRequest r = not (named (r .variable)) || ltb maxPayload (length (r .payload))
+unfoldable pub badRequest : Variable → Bytes → Bool
+badRequest v payload = not (named v) || ltb maxPayload (length payload)
 
 -- a bit outside 0x47
 unfoldable pub unsupportedBit : ℕ → Bool
@@ -59,7 +59,7 @@ needsBS a = (hasRT a || hasAppend a) and not (hasBS a)
 
 unfoldable pub requestStatus : Request → Status
 requestStatus r =
-    cond (badRequest r) InvalidParameter
+    cond (badRequest (r .variable) (r .payload)) InvalidParameter
     (cond (unsupportedBit (r .attributes)) Unsupported
     (cond (needsBS (r .attributes)) InvalidParameter Success))
 
@@ -80,26 +80,25 @@ locks e found v =
 -- ---- step 4
 
 -- a deletion: no append, and either an empty payload or neither BS nor RT
-unfoldable pub isDeletion : Request → Bool
-isDeletion r = not (hasAppend (r .attributes)) and (isEmpty (r .payload) || not (hasBS (r .attributes) || hasRT (r .attributes)))
+unfoldable pub isDeletion : ℕ → Bytes → Bool
+isDeletion a payload = not (hasAppend a) and (isEmpty payload || not (hasBS a || hasRT a))
 
 -- the length that MinSize and MaxSize measure: the request's, append or not
 abbrev pub measuredLength : Request → ℕ
 measuredLength r = length (r .payload)
 
-unfoldable pub sizeAllowed : Bytes → Request → Bool
-sizeAllowed e r = leb (minSize e) (measuredLength r) and leb (measuredLength r) (maxSize e)
+unfoldable pub sizeAllowed : Bytes → ℕ → Bool
+sizeAllowed e n = leb (minSize e) n and leb n (maxSize e)
 
 -- no required bit missing, no prohibited one set
-unfoldable pub attributesAllowed : Bytes → Request → Bool
-attributesAllowed e r =
-    eqb (bitAnd (attributesMustHave e) (r .attributes)) (attributesMustHave e) and eqb (bitAnd (attributesCantHave e) (r .attributes)) 0
+unfoldable pub attributesAllowed : Bytes → ℕ → Bool
+attributesAllowed e a = eqb (bitAnd (attributesMustHave e) a) (attributesMustHave e) and eqb (bitAnd (attributesCantHave e) a) 0
 
 -- the first ground that the chosen entry gives against the request
 unfoldable pub groundOf : Bytes → Lookup → Request → Ground
 groundOf e found r =
-    cond (not (isDeletion r) and not (sizeAllowed e r)) SizeGround
-    (cond (not (isDeletion r) and not (attributesAllowed e r)) AttributeGround
+    cond (not (isDeletion (r .attributes) (r .payload)) and not (sizeAllowed e (measuredLength r))) SizeGround
+    (cond (not (isDeletion (r .attributes) (r .payload)) and not (attributesAllowed e (r .attributes))) AttributeGround
     (cond (locks e found (r .variable)) LockGround NoGround))
 
 -- where no entry speaks there is no ground
@@ -126,16 +125,16 @@ otherAttributes none a = false
 otherAttributes (some r) a = not (eqb (attributesOf r) (storedAttributes a))
 
 -- an append that joins nothing
-unfoldable pub isEmptyAppend : Request → Bool
-isEmptyAppend r = hasAppend (r .attributes) and isEmpty (r .payload)
+unfoldable pub isEmptyAppend : ℕ → Bytes → Bool
+isEmptyAppend a payload = hasAppend a and isEmpty payload
 
 -- append joins what is stored, or creates
-unfoldable pub payloadAfter : Option Bytes → Request → Bytes
-payloadAfter none r = r .payload
-payloadAfter (some old) r = cond (hasAppend (r .attributes)) (payloadOf old ++ r .payload) (r .payload)
+unfoldable pub payloadAfter : Option Bytes → ℕ → Bytes → Bytes
+payloadAfter none a payload = payload
+payloadAfter (some old) a payload = cond (hasAppend a) (payloadOf old ++ payload) payload
 
 abbrev pub recordAfter : Option Bytes → Request → Bytes
-recordAfter found r = encodeRecord (storedAttributes (r .attributes)) (r .variable) (payloadAfter found r)
+recordAfter found r = encodeRecord (storedAttributes (r .attributes)) (r .variable) (payloadAfter found (r .attributes) (r .payload))
 
 -- the store that a variable with these attributes stands in
 abbrev pub storeOf : ℕ → Bytes → Bytes → Bytes
@@ -144,10 +143,10 @@ storeOf a nv vol = cond (hasNV a) nv vol
 -- steps 5 to 9, by what is found of the request's variable
 unfoldable pub writeStatus : Bytes → Bytes → Option Bytes → Request → Status
 writeStatus nv vol found r =
-    cond (isDeletion r) (cond (exists found) Success NotFound)
+    cond (isDeletion (r .attributes) (r .payload)) (cond (exists found) Success NotFound)
     (cond (otherAttributes found (r .attributes)) InvalidParameter
-    (cond (isEmptyAppend r) Success
-    (cond (ltb maxPayload (length (payloadAfter found r))) OutOfResources
+    (cond (isEmptyAppend (r .attributes) (r .payload)) Success
+    (cond (ltb maxPayload (length (payloadAfter found (r .attributes) (r .payload)))) OutOfResources
     (cond (hasRoom (hasNV (r .attributes)) (storeOf (r .attributes) nv vol) (r .variable) (recordAfter found r)) Success OutOfResources))))
 
 -- all steps over sound stores, the first refusal in their order;
@@ -165,6 +164,6 @@ isStoreOf false a = not (hasNV a)
 -- what a set that answers 0 leaves in a store
 unfoldable pub setStore : Bool → Bytes → Option Bytes → Request → Bytes
 setStore nonVolatile s found r =
-    cond (isDeletion r) (withoutVariable nonVolatile s (r .variable))
-    (cond (isEmptyAppend r) s
+    cond (isDeletion (r .attributes) (r .payload)) (withoutVariable nonVolatile s (r .variable))
+    (cond (isEmptyAppend (r .attributes) (r .payload)) s
     (cond (isStoreOf nonVolatile (r .attributes)) (withRecord nonVolatile s (r .variable) (recordAfter found r)) s))

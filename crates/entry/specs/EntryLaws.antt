@@ -1,0 +1,107 @@
+-- Laws of well-formed entries. Assumes nothing.
+use Prim.Native.Nat.{ℕ, _+_, _-_, _≤_}
+use mathlib.Core.Path.{_≡_, refl, sym, ap, ap₂, _∙_}
+use mathlib.Core.List.{List, []}
+use mathlib.Core.Bool.{Bool, true, false, cond, _||_}
+use mathlib.Core.Logic.{_⊎_, inl, inr}
+use native.Mathlib.Omega.{arith}
+use native.Mathlib.Nat.{le-refl}
+use lib.ListN.{length, take, drop, length-drop}
+use lib.Dec.{eqb, leb}
+use borrow.Author.Tests.{leb-true, leb-false, eqb-true, eqb-false}
+use Rattle.slices.specs.Test.{_and_}
+use Rattle.slices.specs.TestLaws.{and-left, and-right, and-intro}
+use Rattle.slices.specs.Bytes.{Bytes, part, same}
+use Rattle.slices.specs.BytesLaws.{same-eq, same-refl, same-sym, same-of}
+use Rattle.slices.specs.PartLaws.{length-part, part-none, part-rest}
+use Rattle.names.specs.Name.{isName, isTerminated}
+use Rattle.names.specs.NameLaws.{isTerminated-length, isTerminated-name}
+use Rattle.entry.specs.Entry.{headerOk, lockOk, nameOk, wellFormed, sizeField, offsetToName, lockPolicyType, nameIsEmpty, nameOf, namespaceOf, sameTarget}
+
+-- ---- lengths and places
+pub record Sized (e : Bytes) : Type 0 where
+  pub least : 44 ≤ length e
+  pub most : length e ≤ 322
+  pub stated : sizeField e ≡ length e
+  pub offset-least : 44 ≤ offsetToName e
+  pub offset-most : offsetToName e ≤ length e
+
+name-most : (e : Bytes) (t : Bool) → nameIsEmpty e ≡ t → (t || isTerminated (part (offsetToName e) (length e) e)) ≡ true → offsetToName e ≤ length e → length e ≤ offsetToName e + 130
+name-most e true q h l = omega (arith, eqb-true (offsetToName e) (length e) q)
+name-most e false q h l =
+    omega (arith, isTerminated-length (part (offsetToName e) (length e) e) h, length-part (offsetToName e) (length e) e (omega arith))
+
+lock-bounds : (e : Bytes) (t : Bool) → leb (lockPolicyType e) 2 ≡ t → lockOk e ≡ true → (44 ≤ offsetToName e) × (offsetToName e ≤ 192)
+unfolding lockOk
+lock-bounds e true q h =
+    let h₁ : eqb (offsetToName e) 44 ≡ true = rw q at h in
+    let k = eqb-true (offsetToName e) 44 h₁ in
+    (omega arith, omega arith)
+lock-bounds e false q h =
+    let h₁ = rw q at h in
+    let h₂ = and-right _ _ (and-right _ _ h₁) in
+    let k = leb-true 62 (offsetToName e) (and-left _ _ (and-right _ _ h₁)) in
+    let n = isTerminated-length (part 62 (offsetToName e) e) (and-right _ _ h₂) in
+    let m = length-part 62 (offsetToName e) e (leb-true (offsetToName e) (length e) (and-left _ _ h₂)) in
+    (omega arith, omega (arith, n, m))
+
+pub sized : (e : Bytes) → wellFormed e ≡ true → Sized e
+unfolding wellFormed headerOk nameOk
+sized e w =
+    let h = and-left _ _ w in
+    let n = and-right _ _ (and-right _ _ w) in
+    let l = leb-true (offsetToName e) (length e) (and-left _ _ n) in
+    let k = lock-bounds e (leb (lockPolicyType e) 2) refl (and-left _ _ (and-right _ _ w)) in
+    record {
+      least = leb-true 44 (length e) (and-left _ _ h);
+      most = omega (arith, k, name-most e (nameIsEmpty e) refl (and-right _ _ n) l);
+      stated = eqb-true (sizeField e) (length e) (and-left _ _ (and-right _ _ (and-right _ _ h)));
+      offset-least = k .0;
+      offset-most = l;
+    }
+
+-- ---- the name
+take-part : (a : ℕ) (e : Bytes) → a ≤ length e → take (length (part a (length e) e) - 2) (part a (length e) e) ≡ part a (length e - 2) e
+take-part a e h =
+    let k : length e - a - 2 ≡ length e - 2 - a = omega arith in
+    rw (part-rest a (length e) e (le-refl (length e)), length-drop a e, k)
+
+-- the entry's name is empty, or a name that step 1 of a set takes
+pub nameOf-name : (e : Bytes) → wellFormed e ≡ true → (nameOf e ≡ []) ⊎ (isName (nameOf e) ≡ true)
+unfolding wellFormed nameOk nameOf
+nameOf-name e w = go (nameIsEmpty e) refl (and-right _ _ (and-right _ _ (and-right _ _ w)))
+  where
+    go : (t : Bool) → nameIsEmpty e ≡ t → (t || isTerminated (part (offsetToName e) (length e) e)) ≡ true
+        → (part (offsetToName e) (length e - 2) e ≡ []) ⊎ (isName (part (offsetToName e) (length e - 2) e) ≡ true)
+    go true q h = inl (part-none (offsetToName e) (length e - 2) e (omega (arith, eqb-true (offsetToName e) (length e) q)))
+    go false q h = inr (rw (take-part (offsetToName e) e (sized e w .offset-most)) at (isTerminated-name _ h))
+
+-- ---- the same namespace and name
+pub record Same (e f : Bytes) : Type 0 where
+  pub namespace : namespaceOf e ≡ namespaceOf f
+  pub name : nameOf e ≡ nameOf f
+
+pub sameTarget-same : (e f : Bytes) → sameTarget e f ≡ true → Same e f
+unfolding sameTarget
+sameTarget-same e f h = record { namespace = same-eq _ _ (and-left _ _ h); name = same-eq _ _ (and-right _ _ h) }
+
+pub sameTarget-of : (e f : Bytes) → Same e f → sameTarget e f ≡ true
+unfolding sameTarget
+sameTarget-of e f s = and-intro _ _ (same-of _ _ (s .namespace)) (same-of _ _ (s .name))
+
+pub sameTarget-refl : (e : Bytes) → sameTarget e e ≡ true
+sameTarget-refl e = sameTarget-of e e (record { namespace = refl; name = refl })
+
+pub sameTarget-sym : (e f : Bytes) → sameTarget e f ≡ sameTarget f e
+unfolding sameTarget
+sameTarget-sym e f = ap₂ _and_ (same-sym (namespaceOf e) (namespaceOf f)) (same-sym (nameOf e) (nameOf f))
+
+-- what has the same target is alike to every other
+pub sameTarget-alike : (e f : Bytes) → sameTarget e f ≡ true → (g : Bytes) → sameTarget e g ≡ sameTarget f g
+unfolding sameTarget
+sameTarget-alike e f h g =
+    let s = sameTarget-same e f h in
+    ap₂ (λ n m. same n (namespaceOf g) and same m (nameOf g)) (s .namespace) (s .name)
+
+pub sameTarget-trans : (e f g : Bytes) → sameTarget e f ≡ true → sameTarget f g ≡ true → sameTarget e g ≡ true
+sameTarget-trans e f g h k = sameTarget-alike e f h g ∙ k
