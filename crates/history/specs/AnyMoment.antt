@@ -1,0 +1,271 @@
+-- "At any places in it, as often as you like": where rebuilds may stand, from the same laws of a machine. Demand 3 is of
+-- proper lists; here is that a list stays proper with one more dump or rebuild, and what that says of a history alone.
+use mathlib.Core.Path.{_≡_, refl, sym, _∙_, ap, subst, subst⁻¹}
+use mathlib.Core.List.{List, [], _∷_, _++_, map, List·Permᴰ, List·Permᴰ·trans, Permᴰ·refl, Permᴰ·symm}
+use mathlib.Core.Bool.{Bool, false}
+use mathlib.Core.Option.{none, some}
+use mathlib.Core.Logic.{inl, inr}
+use Rattle.history.specs.History.{Outcome, Machine, State, Buffer, Entries, Items, Order, Past}
+use Rattle.history.specs.History.Outcome.{granted, refused, cut}
+use Rattle.history.specs.History.ItemOf.{call, ownDump, rebuild}
+use Rattle.history.specs.History.{entries, outcomeOf, answers, end, AllGranted, rebuilding, registered, endWith}
+use Rattle.history.specs.History.{event, outdates, Complete, Permitted, cutAfter, Proper}
+use Rattle.history.specs.HistoryLaws.{Laws, complete-push, holds-after, keeps-entries, rebuild-same}
+
+module _ (M : Machine) where
+  open Machine M using (Call, step, kind, dump, CanDump)
+
+  -- whether the last call of a list that was not refused was cut (E9)
+  abbrev pub cutAtEnd : Bool → State M → Items M → Bool
+  cutAtEnd t s [] = t
+  cutAtEnd t s (call c ∷ is) = cutAtEnd (cutAfter M t (outcomeOf M s c)) (step s c .1) is
+  cutAtEnd t s (ownDump b ∷ is) = cutAtEnd false (step s (dump b) .1) is
+  cutAtEnd t s (rebuild ds x ∷ is) = cutAtEnd false (end M s (rebuilding M s (registered M ds x))) is
+
+  -- what counts for complete dumps after a list
+  abbrev pub pastAfter : Past M → State M → Items M → Past M
+  pastAfter past s [] = past
+  pastAfter past s (call c ∷ is) = pastAfter (event M s c ∷ past) (step s c .1) is
+  pastAfter past s (ownDump b ∷ is) = pastAfter (event M s (dump b) ∷ past) (step s (dump b) .1) is
+  pastAfter past s (rebuild ds x ∷ is) = pastAfter past (end M s (rebuilding M s (registered M ds x))) is
+
+  -- no registration, power-on or restart of the history succeeds in a list
+  abbrev pub NoneOutdates : State M → Items M → Type 0
+  NoneOutdates s [] = Unit
+  NoneOutdates s (call c ∷ is) = (outdates M (kind c) (outcomeOf M s c) ≡ false) × NoneOutdates (step s c .1) is
+  NoneOutdates s (ownDump b ∷ is) = NoneOutdates (step s (dump b) .1) is
+  NoneOutdates s (rebuild ds x ∷ is) = NoneOutdates (end M s (rebuilding M s (registered M ds x))) is
+
+  -- no call is ever cut: before E9
+  abbrev pub NeverCut : Type 0
+  NeverCut = (s : State M) (c : Call) → outcomeOf M s c ≡ cut → ⊥
+
+  -- the calls of a rebuild in order behind a history
+  abbrev pub rebuildAfter : State M → List Call → List Call
+  rebuildAfter s cs = rebuilding M (end M s cs) (entries M (end M s cs))
+
+  -- One rebuild between two parts of a history: each of its calls is granted; the history's calls get the answers, and the end
+  -- is the state, that there would be without it
+  pub record OneRebuild (s : State M) (cs₁ cs₂ : List Call) : Type 0 where
+    pub succeeds : AllGranted M (end M s cs₁) (rebuildAfter s cs₁)
+    pub sameAnswers :
+        answers M s cs₁ ++ answers M (end M s (cs₁ ++ rebuildAfter s cs₁)) cs₂ ≡ answers M s (cs₁ ++ cs₂)
+    pub sameEnd : end M s (cs₁ ++ (rebuildAfter s cs₁ ++ cs₂)) ≡ end M s (cs₁ ++ cs₂)
+
+  -- A PROPER LIST in two parts
+  proper-left : (xs ys : Items M) (t : Bool) (past : Past M) (s : State M) → Proper M t past s (xs ++ ys)
+      → Proper M t past s xs
+  proper-left [] ys t past s p = tt
+  proper-left (call c ∷ xs) ys t past s p = (p .0, proper-left xs ys _ _ _ (p .1))
+  proper-left (ownDump b ∷ xs) ys t past s p = (p .0, proper-left xs ys _ _ _ (p .1))
+  proper-left (rebuild ds x ∷ xs) ys t past s p = (p .0, p .1, p .2, proper-left xs ys _ _ _ (p .3))
+
+  proper-right : (xs ys : Items M) (t : Bool) (past : Past M) (s : State M) → Proper M t past s (xs ++ ys)
+      → Proper M (cutAtEnd t s xs) (pastAfter past s xs) (endWith M s xs) ys
+  proper-right [] ys t past s p = p
+  proper-right (call c ∷ xs) ys t past s p = proper-right xs ys _ _ _ (p .1)
+  proper-right (ownDump b ∷ xs) ys t past s p = proper-right xs ys _ _ _ (p .1)
+  proper-right (rebuild ds x ∷ xs) ys t past s p = proper-right xs ys _ _ _ (p .3)
+
+  proper-append : (xs ys : Items M) (t : Bool) (past : Past M) (s : State M) → Proper M t past s xs
+      → Proper M (cutAtEnd t s xs) (pastAfter past s xs) (endWith M s xs) ys → Proper M t past s (xs ++ ys)
+  proper-append [] ys t past s p q = q
+  proper-append (call c ∷ xs) ys t past s p q = (p .0, proper-append xs ys _ _ _ (p .1) q)
+  proper-append (ownDump b ∷ xs) ys t past s p q = (p .0, proper-append xs ys _ _ _ (p .1) q)
+  proper-append (rebuild ds x ∷ xs) ys t past s p q = (p .0, p .1, p .2, proper-append xs ys _ _ _ (p .3) q)
+
+  -- stays proper where more dumps are complete
+  proper-more : (is : Items M) (t : Bool) (past past′ : Past M) (s : State M)
+      → ((ds : Entries M) → Complete M ds past → Complete M ds past′) → Proper M t past s is → Proper M t past′ s is
+  proper-more [] t past past′ s h p = tt
+  proper-more (call c ∷ is) t past past′ s h p =
+      (p .0, proper-more is _ _ _ _ (complete-push M (event M s c) past past′ h) (p .1))
+  proper-more (ownDump b ∷ is) t past past′ s h p =
+      (p .0, proper-more is _ _ _ _ (complete-push M (event M s (dump b)) past past′ h) (p .1))
+  proper-more (rebuild ds x ∷ is) t past past′ s h p = (p .0, h ds (p .1), p .2, proper-more is _ past past′ _ h (p .3))
+
+  -- BEFORE E9: any calls may stand behind a proper list
+  module _ (never : NeverCut) where
+    never-after : (s : State M) (c : Call) → cutAfter M false (outcomeOf M s c) ≡ false
+    never-after s c = go (outcomeOf M s c) refl
+      where
+        go : (r : Outcome) → outcomeOf M s c ≡ r → cutAfter M false r ≡ false
+        go granted e = refl
+        go refused e = refl
+        go cut e = absurd (never s c e)
+
+    pub never-cut : (is : Items M) (s : State M) → cutAtEnd false s is ≡ false
+    never-cut [] s = refl
+    never-cut (call c ∷ is) s = rw (never-after s c) (never-cut is (step s c .1))
+    never-cut (ownDump b ∷ is) s = never-cut is (step s (dump b) .1)
+    never-cut (rebuild ds x ∷ is) s = never-cut is (end M s (rebuilding M s (registered M ds x)))
+
+    pub calls-proper : (cs : List Call) (past : Past M) (s : State M) → Proper M false past s (map call cs)
+    calls-proper [] past s = tt
+    calls-proper (c ∷ cs) past s = (tt, rw (never-after s c) (calls-proper cs (event M s c ∷ past) (step s c .1)))
+
+    pub append-calls : (is : Items M) (cs : List Call) (s : State M) → Proper M false [] s is
+        → Proper M false [] s (is ++ map call cs)
+    append-calls is cs s p =
+        let past = pastAfter [] s is in
+        let z = endWith M s is in
+        proper-append is (map call cs) false [] s p
+        (subst⁻¹ (λ t. Proper M t past z (map call cs)) (never-cut is s) (calls-proper cs past z))
+
+  -- A HISTORY ALONE in two parts
+  end-append : (cs ds : List Call) (s : State M) → end M s (cs ++ ds) ≡ end M (end M s cs) ds
+  end-append [] ds s = refl
+  end-append (c ∷ cs) ds s = end-append cs ds (step s c .1)
+
+  answers-append : (cs ds : List Call) (s : State M) → answers M s (cs ++ ds) ≡ answers M s cs ++ answers M (end M s cs) ds
+  answers-append [] ds s = refl
+  answers-append (c ∷ cs) ds s = ap (_∷_ (step s c .0)) (answers-append cs ds (step s c .1))
+
+  end-calls : (cs : List Call) (s : State M) → endWith M s (map call cs) ≡ end M s cs
+  end-calls [] s = refl
+  end-calls (c ∷ cs) s = end-calls cs (step s c .1)
+
+  module _ (Invariant : Bool → State M → Type 0) (L : Laws M Invariant) where
+    past-own-dump : (b : Buffer M) (past : Past M) (s : State M) (ds : Entries M) → Complete M ds past
+        → Complete M ds (event M s (dump b) ∷ past)
+    past-own-dump b past s ds d = inr (ap (λ κ. outdates M κ (outcomeOf M s (dump b))) (L .dumpKind b), d)
+
+    -- A COMPLETE DUMP STAYS COMPLETE across own dumps, rebuilds, and every call that does not outdate it
+    pub stays-complete : (is : Items M) (ds : Entries M) (past : Past M) (s : State M) → NoneOutdates s is
+        → Complete M ds past → Complete M ds (pastAfter past s is)
+    stays-complete [] ds past s n d = d
+    stays-complete (call c ∷ is) ds past s n d =
+        stays-complete is ds (event M s c ∷ past) (step s c .1) (n .1) (inr (n .0, d))
+    stays-complete (ownDump b ∷ is) ds past s n d =
+        stays-complete is ds (event M s (dump b) ∷ past) (step s (dump b) .1) n (past-own-dump b past s ds d)
+    stays-complete (rebuild es x ∷ is) ds past s n d =
+        stays-complete is ds past (end M s (rebuilding M s (registered M es x))) n d
+
+    -- an own dump where it can be taken is complete, and holds the entries of the policy record
+    own-dump-complete : (b : Buffer M) (past : Past M) (s : State M) → Invariant false s → CanDump s b
+        → Complete M (entries M s) (event M s (dump b) ∷ past)
+    own-dump-complete b past s i room =
+        let g = L .dumpGranted b i room in
+        inl (record {
+          isDump = L .dumpKind b;
+          isGranted = g;
+          areFormed = L .areFormed i;
+          areDumped = L .dumpHolds (dump b) i tt (L .dumpKind b) g;
+        })
+
+    -- what a proper list reaches: a state of the invariant, and every complete dump is an order of its entries
+    record Reached (t : Bool) (past : Past M) (s : State M) : Type 0 where
+      invariant : Invariant t s
+      orders : (ds : Entries M) → Complete M ds past → List·Permᴰ (entries M s) ds
+
+    permitted-order : (es ds : Entries M) (x : Order M) → List·Permᴰ es ds → Permitted M ds x
+        → List·Permᴰ es (registered M ds x)
+    permitted-order es ds none d m = d
+    permitted-order es ds (some o) d m = List·Permᴰ·trans d (m .0)
+
+    reach : (is : Items M) (t : Bool) (past : Past M) (s : State M) → Reached t past s → Proper M t past s is
+        → Reached (cutAtEnd t s is) (pastAfter past s is) (endWith M s is)
+    reach [] t past s r p = r
+    reach (call c ∷ is) t past s r p =
+        let i = r .invariant in
+        let l = entries M s in
+        let q = holds-after M Invariant L (List·Permᴰ l) c past i (p .0) (Permᴰ·refl l) (r .orders) in
+        reach is _ (event M s c ∷ past) (step s c .1)
+        (record {
+          invariant = L .continues c i (p .0);
+          orders = λ ds d.
+              subst⁻¹ (λ l. List·Permᴰ l ds) (keeps-entries M Invariant L c i (p .0) (q ds d .0)) (q ds d .1);
+        })
+        (p .1)
+    reach (ownDump b ∷ is) t past s r p =
+        let i : Invariant false s = subst (λ u. Invariant u s) (p .0) (r .invariant) in
+        let l = entries M s in
+        let q = holds-after M Invariant L (List·Permᴰ l) (dump b) past i tt (Permᴰ·refl l) (r .orders) in
+        reach is false (event M s (dump b) ∷ past) (step s (dump b) .1)
+        (subst⁻¹ (Reached false (event M s (dump b) ∷ past)) (L .dumpLeaves s b)
+        (record { invariant = i; orders = λ ds d. q ds d .1 }))
+        (p .1)
+    reach (rebuild ds x ∷ is) t past s r p =
+        let i : Invariant false s = subst (λ u. Invariant u s) (p .0) (r .invariant) in
+        let o = permitted-order (entries M s) ds x (r .orders ds (p .1)) (p .2) in
+        reach is false past (end M s (rebuilding M s (registered M ds x)))
+        (subst⁻¹ (Reached false past) (L .rebuildLeaves i o)
+        (record {
+          invariant = L .reorders i o;
+          orders = λ es d.
+              subst⁻¹ (λ l. List·Permᴰ l es) (L .relists i o) (List·Permᴰ·trans (Permᴰ·symm o) (r .orders es d));
+        }))
+        (p .3)
+
+    -- FROM A STATE THAT IS REACHED
+    module _ (s : State M) (start : Invariant false s) where
+      pub reached : (is : Items M) → Proper M false [] s is → cutAtEnd false s is ≡ false → Invariant false (endWith M s is)
+      reached is p u =
+          let r = reach is false [] s (record { invariant = start; orders = λ ds d. absurd d }) p in
+          subst (λ t. Invariant t (endWith M s is)) u (r .invariant)
+
+      -- an own dump into any buffer may be inserted at any place
+      pub insert-dump : (xs ys : Items M) (b : Buffer M) → Proper M false [] s (xs ++ ys) → cutAtEnd false s xs ≡ false
+          → Proper M false [] s (xs ++ (ownDump b ∷ ys))
+      insert-dump xs ys b p u =
+          let z = endWith M s xs in
+          let past = pastAfter [] s xs in
+          let q = subst (λ t. Proper M t past z ys) u (proper-right xs ys false [] s p) in
+          proper-append xs (ownDump b ∷ ys) false [] s (proper-left xs ys false [] s p) (
+            u,
+            subst⁻¹ (λ y. Proper M false (event M z (dump b) ∷ past) y ys) (L .dumpLeaves z b)
+                (proper-more ys false past _ z (past-own-dump b past z) q),
+          )
+
+      -- an own dump with room and the rebuild from it, in order, may be inserted at any place
+      pub insert-rebuild : (xs ys : Items M) (b : Buffer M) → Proper M false [] s (xs ++ ys) → cutAtEnd false s xs ≡ false
+          → CanDump (endWith M s xs) b → Proper M false [] s (xs ++ (ownDump b ∷ rebuild (entries M (endWith M s xs)) none ∷ ys))
+      insert-rebuild xs ys b p u room =
+          let z = endWith M s xs in
+          let past = pastAfter [] s xs in
+          let e = event M z (dump b) in
+          let i = reached xs (proper-left xs ys false [] s p) u in
+          let q = subst (λ t. Proper M t past z ys) u (proper-right xs ys false [] s p) in
+          let tail : Proper M false (e ∷ past) (end M z (rebuilding M z (entries M z))) ys =
+          subst⁻¹ (λ y. Proper M false (e ∷ past) y ys) (rebuild-same M Invariant L i)
+          (proper-more ys false past (e ∷ past) z (past-own-dump b past z) q) in
+          proper-append xs (ownDump b ∷ rebuild (entries M z) none ∷ ys) false [] s (proper-left xs ys false [] s p) (
+            u,
+            subst⁻¹ (λ y. Proper M false (e ∷ past) y (rebuild (entries M z) none ∷ ys)) (L .dumpLeaves z b)
+                (refl, own-dump-complete b past z i room, tt, tail),
+          )
+
+      -- a rebuild from any complete dump, in any permitted order, may stand behind a list
+      pub append-rebuild : (is : Items M) (ds : Entries M) (x : Order M) → Proper M false [] s is → cutAtEnd false s is ≡ false
+          → Complete M ds (pastAfter [] s is) → Permitted M ds x → Proper M false [] s (is ++ (rebuild ds x ∷ []))
+      append-rebuild is ds x p u d m = proper-append is (rebuild ds x ∷ []) false [] s p (u, d, m, tt)
+
+      -- and so may an own dump with room and the rebuild from it
+      pub append-dump-rebuild : (is : Items M) (b : Buffer M) (x : Order M) → Proper M false [] s is
+          → cutAtEnd false s is ≡ false → CanDump (endWith M s is) b → Permitted M (entries M (endWith M s is)) x
+          → Proper M false [] s (is ++ (ownDump b ∷ rebuild (entries M (endWith M s is)) x ∷ []))
+      append-dump-rebuild is b x p u room m =
+          let z = endWith M s is in
+          proper-append is (ownDump b ∷ rebuild (entries M z) x ∷ []) false [] s p
+          (u, (refl, own-dump-complete b (pastAfter [] s is) z (reached is p u) room, m, tt))
+
+      -- ONE REBUILD between two parts of a history, unless the first ends with a call that was cut
+      pub one-rebuild-uncut : (cs₁ cs₂ : List Call) → Proper M false [] s (map call cs₁)
+          → cutAtEnd false s (map call cs₁) ≡ false → OneRebuild s cs₁ cs₂
+      one-rebuild-uncut cs₁ cs₂ p u =
+          let z = end M s cs₁ in
+          let r = rebuildAfter s cs₁ in
+          let i : Invariant false z = subst (Invariant false) (end-calls cs₁ s) (reached (map call cs₁) p u) in
+          let same = rebuild-same M Invariant L i in
+          record {
+            succeeds = L .rebuildGranted i (Permᴰ·refl (entries M z));
+            sameAnswers =
+                ap (λ y. answers M s cs₁ ++ answers M y cs₂) (end-append cs₁ r s ∙ same) ∙ sym (answers-append cs₁ cs₂ s);
+            sameEnd =
+                end-append cs₁ (r ++ cs₂) s ∙ end-append r cs₂ z ∙ ap (λ y. end M y cs₂) same ∙ sym (end-append cs₁ cs₂ s);
+          }
+
+      -- and before E9 of any two lists of calls
+      pub one-rebuild : NeverCut → (cs₁ cs₂ : List Call) → OneRebuild s cs₁ cs₂
+      one-rebuild never cs₁ cs₂ =
+          one-rebuild-uncut cs₁ cs₂ (calls-proper never cs₁ [] s) (never-cut never (map call cs₁) s)

@@ -1,0 +1,1 @@
+// Demand 3 over any machine that has its laws. Definitions and laws only.
