@@ -197,6 +197,12 @@ module _ (M : Machine) where
         }))
         (p .3)
 
+    -- a rebuild in order from a dump of the entries as they stand leaves the state, so what follows stays proper
+    rebuild-first : (is : Items M) (past : Past M) (s : State M) → Invariant false s → Complete M (entries M s) past
+        → Proper M false past s is → Proper M false past s (rebuild (entries M s) none ∷ is)
+    rebuild-first is past s i d p =
+        (refl, d, tt, subst⁻¹ (λ z. Proper M false past z is) (rebuild-same M Invariant L i) p)
+
     -- FROM A STATE THAT IS REACHED
     module _ (s : State M) (start : Invariant false s) where
       pub reached : (is : Items M) → Proper M false [] s is → cutAtEnd false s is ≡ false → Invariant false (endWith M s is)
@@ -217,22 +223,34 @@ module _ (M : Machine) where
                 (proper-more ys false past _ z (past-own-dump b past z) q),
           )
 
-      -- an own dump with room and the rebuild from it, in order, may be inserted at any place
-      pub insert-rebuild : (xs ys : Items M) (b : Buffer M) → Proper M false [] s (xs ++ ys) → cutAtEnd false s xs ≡ false
-          → CanDump (endWith M s xs) b → Proper M false [] s (xs ++ (ownDump b ∷ rebuild (entries M (endWith M s xs)) none ∷ ys))
-      insert-rebuild xs ys b p u room =
+      -- a rebuild in order from a complete dump of the entries as they stand may be inserted at any place
+      pub insert-rebuild : (xs ys : Items M) → Proper M false [] s (xs ++ ys) → cutAtEnd false s xs ≡ false
+          → Complete M (entries M (endWith M s xs)) (pastAfter [] s xs)
+          → Proper M false [] s (xs ++ (rebuild (entries M (endWith M s xs)) none ∷ ys))
+      insert-rebuild xs ys p u d =
+          let z = endWith M s xs in
+          let past = pastAfter [] s xs in
+          let left = proper-left xs ys false [] s p in
+          let q = subst (λ t. Proper M t past z ys) u (proper-right xs ys false [] s p) in
+          proper-append xs (rebuild (entries M z) none ∷ ys) false [] s left
+          (subst⁻¹ (λ t. Proper M t past z (rebuild (entries M z) none ∷ ys)) u (rebuild-first ys past z (reached xs left u) d q))
+
+      -- and so may an own dump with room and the rebuild from it
+      pub insert-dump-rebuild : (xs ys : Items M) (b : Buffer M) → Proper M false [] s (xs ++ ys) → cutAtEnd false s xs ≡ false
+          → CanDump (endWith M s xs) b
+          → Proper M false [] s (xs ++ (ownDump b ∷ rebuild (entries M (endWith M s xs)) none ∷ ys))
+      insert-dump-rebuild xs ys b p u room =
           let z = endWith M s xs in
           let past = pastAfter [] s xs in
           let e = event M z (dump b) in
-          let i = reached xs (proper-left xs ys false [] s p) u in
+          let left = proper-left xs ys false [] s p in
+          let i = reached xs left u in
           let q = subst (λ t. Proper M t past z ys) u (proper-right xs ys false [] s p) in
-          let tail : Proper M false (e ∷ past) (end M z (rebuilding M z (entries M z))) ys =
-          subst⁻¹ (λ y. Proper M false (e ∷ past) y ys) (rebuild-same M Invariant L i)
-          (proper-more ys false past (e ∷ past) z (past-own-dump b past z) q) in
-          proper-append xs (ownDump b ∷ rebuild (entries M z) none ∷ ys) false [] s (proper-left xs ys false [] s p) (
+          proper-append xs (ownDump b ∷ rebuild (entries M z) none ∷ ys) false [] s left (
             u,
             subst⁻¹ (λ y. Proper M false (e ∷ past) y (rebuild (entries M z) none ∷ ys)) (L .dumpLeaves z b)
-                (refl, own-dump-complete b past z i room, tt, tail),
+                (rebuild-first ys (e ∷ past) z i (own-dump-complete b past z i room)
+                (proper-more ys false past (e ∷ past) z (past-own-dump b past z) q)),
           )
 
       -- a rebuild from any complete dump, in any permitted order, may stand behind a list

@@ -119,7 +119,7 @@ module _ (M : Machine) where
   abbrev pub outcomeOf : State → Call → Outcome
   outcomeOf s c = outcome (step s c .0 .beside)
 
-  -- A HISTORY ALONE. "Each call is lent the state as the call before left it": the answers, the end state, and that each
+  -- A HISTORY ALONE. Each call is lent the state "as the call before left it": the answers, the end state, and that each
   -- call is granted
   abbrev pub answers : State → List Call → List Answer
   answers s [] = []
@@ -133,7 +133,7 @@ module _ (M : Machine) where
   AllGranted s [] = Unit
   AllGranted s (c ∷ cs) = (outcomeOf s c ≡ granted) × AllGranted (step s c .1) cs
 
-  -- A REBUILD. "The old engine is the state just before the rebuild": restart, register "each of its entries once", close
+  -- A REBUILD. "The old engine is the state just before the rebuild": restart, register each entry once, disable and lock
   abbrev pub rebuilding : State → Entries → List Call
   rebuilding s o = restart (s .core) ∷ (map register o ++ closing (s .core))
 
@@ -183,7 +183,7 @@ module _ (M : Machine) where
   abbrev pub event : State → Call → Event
   event s c = record { made = c; got = step s c .0 }
 
-  -- "registration, power-on or restart that had succeeded": dumps taken before it are no longer complete
+  -- a registration, power-on or restart that succeeded: dumps taken before it are no longer complete
   abbrev pub outdates : Kind Entry → Outcome → Bool
   outdates starts r = ifGranted r true false
   outdates (registers e) r = ifGranted r true false
@@ -209,7 +209,7 @@ module _ (M : Machine) where
   abbrev pub Unambiguous : Entries → Type 0
   Unambiguous ds = (v : Variable) → named v ≡ true → Pairs (RanksDiffer rank (λ e. targets e v)) ds
 
-  -- the dump's own order, or under that condition any other, with "each of its entries once"
+  -- the dump's own order; or under that condition any other, in which "each of its entries is registered once"
   abbrev pub Permitted : Entries → Order → Type 0
   Permitted ds none = Unit
   Permitted ds (some o) = List·Permᴰ ds o × Unambiguous ds
@@ -224,8 +224,8 @@ module _ (M : Machine) where
   cutAfter t refused = t
   cutAfter t cut = true
 
-  -- WHICH LISTS: any calls, "of any length, in any order, refused ones too", and rebuilds at any places, each from a complete
-  -- dump in a permitted order; but none directly after a call that was cut
+  -- WHICH LISTS: "of any length, in any order", refused calls too, with rebuilds at any places, each from a complete dump in
+  -- a permitted order; but none directly after a call that was cut
   abbrev pub Proper : Bool → Past → State → Items → Type 0
   Proper t past s [] = Unit
   Proper t past s (call c ∷ is) =
@@ -243,7 +243,7 @@ module _ (M : Machine) where
   InOrder (rebuild ds (some o) ∷ is) = ⊥
 
   -- WHAT DIFFERS. "After another order the policy record and each later dump that answers 0 hold the same entries, in the
-  -- order the last rebuild registered them; all else is equal"
+  -- order the last rebuild registered them", and "all else is equal"
   abbrev pub stateIn : Entries → State → State
   stateIn o s = record { core = s .core; policy = over o (s .policy) }
 

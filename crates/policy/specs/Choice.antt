@@ -3,10 +3,10 @@
 use Prim.Native.Nat.{ℕ, _+_}
 use mathlib.Core.List.{List, [], _∷_}
 use mathlib.Core.Bool.{Bool, true, false, cond}
-use mathlib.Core.Option.{Option, none, some}
+use mathlib.Core.Option.{Option}
 use lib.ListN.{length}
 use lib.Dec.{ltb}
-use Rattle.lists.specs.Lists.{best}
+use Rattle.lists.specs.Lists as lists
 use Rattle.slices.specs.Test.{_and_}
 use Rattle.slices.specs.Bytes.{Bytes}
 use Rattle.names.specs.Name.{Variable}
@@ -16,7 +16,7 @@ use Rattle.policy.specs.declared.Choice.the-variants.{Chosen, Nothing}
 
 -- the chosen entry of a list, or none
 unfoldable pub chosen : List Bytes → Variable → Option Bytes
-chosen es v = best rank (λ e. targets e v) none es
+chosen es v = lists.chosen rank (λ e. targets e v) es
 
 -- the same with its place in the list, its first byte and its rank
 
