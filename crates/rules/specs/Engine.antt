@@ -14,8 +14,7 @@ use Rattle.names.specs.Name.{Variable, named}
 use Rattle.entry.specs.Entry.{wellFormed, sameTarget}
 use Rattle.policy.specs.Policy.{entriesOf, sizesSum, packPolicy, emptyPolicy, policyValid}
 use Rattle.policy.specs.Choice.{chosen}
-use Rattle.store.specs.Record.{attributesOf, payloadOf}
-use Rattle.pair.specs.Pair.{sound, soundAlone, lookup}
+use Rattle.pair.specs.Pair.{sound, soundAlone, lookup, attributesFound, payloadFound}
 use Rattle.status.specs.declared.Status.{Status}
 use Rattle.status.specs.declared.Status.the-variants.{Success, InvalidParameter, BufferTooSmall, WriteProtected, OutOfResources, VolumeCorrupted, NotFound, AlreadyStarted}
 use Rattle.status.specs.Status.{isSuccess, statusNumber}
@@ -134,14 +133,6 @@ abbrev pub queried : Status → Bool → Answer
 queried n enabled = record { status = n; number = cond enabled 1 0; bytes = []; switches = none }
 
 -- a read: the attributes, and the payload
-abbrev pub attributesFound : Option Bytes → ℕ
-attributesFound none = 0
-attributesFound (some r) = attributesOf r
-
-abbrev pub payloadFound : Option Bytes → Bytes
-payloadFound none = []
-payloadFound (some r) = payloadOf r
-
 abbrev pub readAnswer : Status → Option Bytes → Answer
 readAnswer n r =
     record { status = n; number = cond (isSuccess n) (attributesFound r) 0; bytes = cond (isSuccess n) (payloadFound r) []; switches = none }

@@ -18,7 +18,7 @@ use Rattle.store.specs.Store.{storeOk, withoutVariable, hasRoom, withRecord}
 use Rattle.pair.specs.Pair.{sound, soundAlone, lookup}
 use Rattle.status.specs.Status.{statusNumber}
 use Rattle.switches.specs.Switches.{freshSwitches}
-use Rattle.rules.specs.Set.{Request, exists, isEmpty, holdsValue, locks, isDeletion, sizeAllowed, attributesAllowed, groundOf, otherAttributes, isEmptyAppend, payloadAfter, writeStatus, badRequest, unsupportedBit, needsBS, requestStatus, setStatus, setStore}
+use Rattle.rules.specs.Set.{Request, exists, isEmpty, holdsValue, locks, isDeletion, sizeAllowed, attributesAllowed, requestGround, groundOf, otherAttributes, isEmptyAppend, payloadAfter, writeStatus, badRequest, unsupportedBit, needsBS, requestStatus, setStatus, setStore}
 use Rattle.rules.specs.Engine.{State, Call, step, powerOnStatus, restartStatus, registerStatus, dumpStatus, readStatus, setStatusBy}
 use Rattle.rules.specs.Engine.Call.{powerOn, register, lock, disable, set}
 
@@ -119,5 +119,5 @@ readings =
 
 -- THE STARRED READINGS
 pub starred-readings : All Holds readings
-unfolding _and_ le16 le32 le16Bytes le32Bytes pairwise allAre overwrite padded flat chunks chunksFrom used packed contains distinct find remove replace replaceOrAppend units noZero isName isTerminated named isHexDigit unitMatches wildcards headerOk lockOk nameOk wellFormed nameOf triggerOf targets rank sameTarget entryLength policyValid chosen stored.namespaceOf stored.nameOf stored.payloadOf stored.attributesOk stored.headerOk stored.bodyOk stored.recordOk stored.recordLength stored.isOf stored.encodeRecord storeOk withoutVariable hasRoom withRecord sound soundAlone lookup exists isEmpty holdsValue locks isDeletion sizeAllowed attributesAllowed groundOf otherAttributes isEmptyAppend payloadAfter writeStatus badRequest unsupportedBit needsBS requestStatus setStatus setStore step powerOnStatus restartStatus registerStatus dumpStatus readStatus setStatusBy
+unfolding _and_ le16 le32 le16Bytes le32Bytes pairwise allAre overwrite padded flat chunks chunksFrom used packed contains distinct find remove replace replaceOrAppend units noZero isName isTerminated named isHexDigit unitMatches wildcards headerOk lockOk nameOk wellFormed nameOf triggerOf targets rank sameTarget entryLength policyValid chosen stored.namespaceOf stored.nameOf stored.payloadOf stored.attributesOk stored.headerOk stored.bodyOk stored.recordOk stored.recordLength stored.isOf stored.encodeRecord storeOk withoutVariable hasRoom withRecord sound soundAlone lookup exists isEmpty holdsValue locks isDeletion sizeAllowed attributesAllowed requestGround groundOf otherAttributes isEmptyAppend payloadAfter writeStatus badRequest unsupportedBit needsBS requestStatus setStatus setStore step powerOnStatus restartStatus registerStatus dumpStatus readStatus setStatusBy
 starred-readings = (refl, (refl, (refl, (refl, (refl, (refl, (refl, (refl, (refl, (refl, (refl, (refl, (refl, (refl, tt))))))))))))))

@@ -94,12 +94,22 @@ sizeAllowed e n = leb (minSize e) n and leb n (maxSize e)
 unfoldable pub attributesAllowed : Bytes → ℕ → Bool
 attributesAllowed e a = eqb (bitAnd (attributesMustHave e) a) (attributesMustHave e) and eqb (bitAnd (attributesCantHave e) a) 0
 
--- the first ground that the chosen entry gives against the request
+-- the first of two grounds
+abbrev pub orGround : Ground → Ground → Ground
+orGround NoGround later = later
+orGround SizeGround later = SizeGround
+orGround AttributeGround later = AttributeGround
+orGround LockGround later = LockGround
+
+-- unless a deletion: payload length outside MinSize..MaxSize, then a required bit missing or a prohibited one set
+unfoldable pub requestGround : Bytes → Request → Ground
+requestGround e r =
+    cond (isDeletion (r .attributes) (r .payload)) NoGround
+    (cond (sizeAllowed e (measuredLength r)) (cond (attributesAllowed e (r .attributes)) NoGround AttributeGround) SizeGround)
+
+-- then locked
 unfoldable pub groundOf : Bytes → Lookup → Request → Ground
-groundOf e found r =
-    cond (not (isDeletion (r .attributes) (r .payload)) and not (sizeAllowed e (measuredLength r))) SizeGround
-    (cond (not (isDeletion (r .attributes) (r .payload)) and not (attributesAllowed e (r .attributes))) AttributeGround
-    (cond (locks e found (r .variable)) LockGround NoGround))
+groundOf e found r = orGround (requestGround e r) (cond (locks e found (r .variable)) LockGround NoGround)
 
 -- where no entry speaks there is no ground
 abbrev pub groundBy : Option Bytes → Lookup → Request → Ground
