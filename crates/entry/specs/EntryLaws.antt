@@ -1,22 +1,24 @@
 -- Laws of well-formed entries. Assumes nothing.
 use Prim.Native.Nat.{ℕ, _+_, _-_, _≤_}
-use mathlib.Core.Path.{_≡_, refl, sym, ap, ap₂, _∙_}
-use mathlib.Core.List.{List, []}
+use mathlib.Core.Path.{_≡_, refl, ap, ap₂, _∙_}
+use mathlib.Core.List.{[]}
 use mathlib.Core.Bool.{Bool, true, false, cond, _||_}
 use mathlib.Core.Logic.{_⊎_, inl, inr}
 use native.Mathlib.Omega.{arith}
 use native.Mathlib.Nat.{le-refl}
 use lib.ListN.{length, take, drop, length-drop}
+use lib.Seq.{take-take}
 use lib.Dec.{eqb, leb}
-use borrow.Author.Tests.{leb-true, leb-false, eqb-true, eqb-false}
+use borrow.Author.Tests.{eq-eqb, leb-true, eqb-true}
+use Rattle.limits.specs.Limits.{maxNameBytes, namespaceBytes}
 use Rattle.slices.specs.Test.{_and_}
 use Rattle.slices.specs.TestLaws.{and-left, and-right, and-intro}
 use Rattle.slices.specs.Bytes.{Bytes, part, same}
-use Rattle.slices.specs.BytesLaws.{same-eq, same-refl, same-sym, same-of}
+use Rattle.slices.specs.BytesLaws.{same-eq, same-sym, same-of}
 use Rattle.slices.specs.PartLaws.{length-part, part-none, part-rest}
-use Rattle.names.specs.Name.{isName, isTerminated}
-use Rattle.names.specs.NameLaws.{isTerminated-length, isTerminated-name}
-use Rattle.entry.specs.Entry.{headerOk, lockOk, nameOk, wellFormed, sizeField, offsetToName, lockPolicyType, nameIsEmpty, nameOf, namespaceOf, sameTarget}
+use Rattle.names.specs.Name.{isName, isTerminated, named, units, wildcards}
+use Rattle.names.specs.NameLaws.{isName-length, isTerminated-length, isTerminated-name, units-length, wildcards-le}
+use Rattle.entry.specs.Entry.{headerOk, lockOk, nameOk, wellFormed, sizeField, offsetToName, lockPolicyType, nameIsEmpty, nameOf, namespaceOf, triggerOf, rank, sameTarget}
 
 -- ---- lengths and places
 pub record Sized (e : Bytes) : Type 0 where
@@ -61,7 +63,7 @@ sized e w =
     }
 
 -- ---- the name
-take-part : (a : ℕ) (e : Bytes) → a ≤ length e → take (length (part a (length e) e) - 2) (part a (length e) e) ≡ part a (length e - 2) e
+pub take-part : (a : ℕ) (e : Bytes) → a ≤ length e → take (length (part a (length e) e) - 2) (part a (length e) e) ≡ part a (length e - 2) e
 take-part a e h =
     let k : length e - a - 2 ≡ length e - 2 - a = omega arith in
     rw (part-rest a (length e) e (le-refl (length e)), length-drop a e, k)
@@ -75,6 +77,64 @@ nameOf-name e w = go (nameIsEmpty e) refl (and-right _ _ (and-right _ _ (and-rig
         → (part (offsetToName e) (length e - 2) e ≡ []) ⊎ (isName (part (offsetToName e) (length e - 2) e) ≡ true)
     go true q h = inl (part-none (offsetToName e) (length e - 2) e (omega (arith, eqb-true (offsetToName e) (length e) q)))
     go false q h = inr (rw (take-part (offsetToName e) e (sized e w .offset-most)) at (isTerminated-name _ h))
+
+-- a name that is not empty has at least one unit and its zero unit
+pub name-least : (e : Bytes) → wellFormed e ≡ true → nameIsEmpty e ≡ false → offsetToName e + 4 ≤ length e
+unfolding wellFormed nameOk
+name-least e w q =
+    let h : isTerminated (part (offsetToName e) (length e) e) ≡ true = rw q at (and-right _ _ (and-right _ _ (and-right _ _ w))) in
+    omega (arith, isTerminated-length (part (offsetToName e) (length e) e) h, length-part (offsetToName e) (length e) e (le-refl (length e)))
+
+pub nameOf-most : (e : Bytes) → wellFormed e ≡ true → length (nameOf e) ≤ maxNameBytes
+nameOf-most e w = go (nameOf-name e w)
+  where
+    go : (nameOf e ≡ []) ⊎ (isName (nameOf e) ≡ true) → length (nameOf e) ≤ maxNameBytes
+    go (inl z) = omega (arith, ap length z)
+    go (inr h) = isName-length (nameOf e) h .1
+
+-- a name has at most 64 '#', and an empty name ranks behind all
+pub rank-most : (e : Bytes) → wellFormed e ≡ true → rank e ≤ 65
+unfolding rank
+rank-most e w = go (nameIsEmpty e)
+  where
+    go : (t : Bool) → cond t 65 (wildcards (units (nameOf e))) ≤ 65
+    go true = omega arith
+    go false = omega (arith, wildcards-le (units (nameOf e)), units-length (nameOf e), nameOf-most e w)
+
+-- the namespace has 16 bytes
+pub length-namespaceOf : (e : Bytes) → wellFormed e ≡ true → length (namespaceOf e) ≡ namespaceBytes
+length-namespaceOf e w = length-part 8 24 e (omega (arith, sized e w .least))
+
+-- ---- the trigger of a type 3 entry
+module _ (e : Bytes) (w : wellFormed e ≡ true) (q : leb (lockPolicyType e) 2 ≡ false) where
+  trigger-tests : (eqb (lockPolicyType e) 3 and leb 62 (offsetToName e) and leb (offsetToName e) (length e) and isTerminated (part 62 (offsetToName e) e)) ≡ true
+  unfolding wellFormed lockOk
+  trigger-tests = rw q at (and-left _ _ (and-right _ _ w))
+
+  pub type-3 : lockPolicyType e ≡ 3
+  type-3 = eqb-true (lockPolicyType e) 3 (and-left _ _ trigger-tests)
+
+  pub least-62 : 62 ≤ offsetToName e
+  least-62 = leb-true 62 (offsetToName e) (and-left _ _ (and-right _ _ trigger-tests))
+
+  pub trigger-terminated : isTerminated (part 62 (offsetToName e) e) ≡ true
+  trigger-terminated = and-right _ _ (and-right _ _ (and-right _ _ trigger-tests))
+
+  pub trigger-length : length (part 62 (offsetToName e) e) ≡ offsetToName e - 62
+  trigger-length = length-part 62 (offsetToName e) e (sized e w .offset-most)
+
+  pub trigger-part : take (length (part 62 (offsetToName e) e) - 2) (part 62 (offsetToName e) e) ≡ part 62 (offsetToName e - 2) e
+  trigger-part =
+      let k : offsetToName e - 62 - 2 ≡ offsetToName e - 2 - 62 = omega arith in
+      rw (trigger-length, k) (take-take (offsetToName e - 2 - 62) (offsetToName e - 62) (drop 62 e) (omega arith))
+
+  pub trigger-name : isName (part 62 (offsetToName e - 2) e) ≡ true
+  trigger-name = rw trigger-part at (isTerminated-name (part 62 (offsetToName e) e) trigger-terminated)
+
+  -- it names a variable that step 1 of a set takes
+  pub trigger-named : named (triggerOf e) ≡ true
+  unfolding named triggerOf
+  trigger-named = and-intro _ _ (eq-eqb _ _ (length-part 44 60 e (omega (arith, least-62, sized e w .offset-most)))) trigger-name
 
 -- ---- the same namespace and name
 pub record Same (e f : Bytes) : Type 0 where

@@ -1,2 +1,4 @@
 pub mod Entry
 pub mod EntryLaws
+pub mod Encoding
+pub mod EncodingLaws

@@ -1,6 +1,9 @@
 // The packed policy entry.
 ghost use mathlib.Core.Path.{_≡_};
 ghost use mathlib.Core.Bool.{true};
+ghost use lib.ListN.{length};
+ghost use Rattle.slices.specs.Bytes.{same};
+ghost use Rattle.limits.specs.Limits.{namespaceBytes};
 ghost use Rattle.entry.specs.Entry.{headerOk, lockOk, nameOk, wellFormed, nameOf, lockOf, entryOf, parse, targets, rank, sameTarget};
 
 // The trigger of the fourth lock rule: the value that locks, and where its namespace and its name stand in the entry's bytes.
@@ -165,6 +168,20 @@ pub fn name_bytes(e: &[u8]) -> &[u8]
         return slices::part(e, offset, 0);
     }
     slices::part(e, offset, e.len() - 2)
+}
+
+// Whether two namespaces are equal. No exit before the end, so that it is compiled to one wide compare.
+pub fn same_namespace(a: &[u8], b: &[u8]) -> bool
+    requires { ⌜ (length (now a) ≡ namespaceBytes) × (length (now b) ≡ namespaceBytes) ⌝ }
+    ensures { λ r. ⌜ r ≡ same (now (a .entry)) (now (b .entry)) ⌝ }
+{
+    let mut ok = true;
+    let mut i = 0;
+    while i < 16 {
+        ok = ok & (a[i] == b[i]);
+        i += 1;
+    }
+    ok
 }
 
 // Whether the entry targets the variable of that namespace and name.

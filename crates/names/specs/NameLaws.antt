@@ -1,19 +1,20 @@
 -- Laws of names, which proofs cite instead of the definitions' text. Assumes nothing.
 use Prim.Native.Nat.{ℕ, zero, suc, _+_, _-_, _*_, _/_, _%_, _≤_, _<_}
-use mathlib.Core.Path.{_≡_, refl, sym, ap, ap₂, _∙_}
-use mathlib.Core.List.{List, [], _∷_}
-use mathlib.Core.Bool.{Bool, true, false, not, false≢true}
+use mathlib.Core.Path.{_≡_, refl, sym, ap, _∙_}
+use mathlib.Core.List.{List, [], _∷_, _++_}
+use mathlib.Core.Bool.{Bool, true, false, not}
 use native.Mathlib.Omega.{arith}
 use native.Mathlib.Numerals.{add-one}
-use lib.ListN.{length, getD, take, drop, drop-of-length-le, length-take}
-use lib.Seq.{drop-cons}
-use lib.Dec.{eqb, leb}
-use borrow.Author.Tests.{eq-eqb, ne-eqb, leb-true, eqb-true}
+use lib.ListN.{length, getD, take, drop, drop-of-length-le, length-append, length-take, take-append-drop}
+use lib.Seq.{drop-cons, getD-append-add, getD-append-seam, take-append-seam}
+use lib.Dec.{eqb}
+use borrow.Author.Tests.{eq-eqb, ne-eqb, le-leb, leb-true, eqb-true}
 use Rattle.limits.specs.Limits.{maxNameBytes, namespaceBytes}
 use Rattle.slices.specs.Test.{_and_}
-use Rattle.slices.specs.TestLaws.{and-left, and-right}
+use Rattle.slices.specs.TestLaws.{and-left, and-right, and-intro}
 use Rattle.slices.specs.Bytes.{Bytes, pairwise}
 use Rattle.slices.specs.BytesLaws.{pairwise-refl}
+use Rattle.slices.specs.PartLaws.{drop-step}
 use Rattle.names.specs.Name.{units, noZero, isName, isTerminated, Variable, named, unitMatches, wildcards, numberSign, oneIf}
 
 pub units-length : (s : Bytes) → length (units s) ≡ length s / 2
@@ -32,6 +33,23 @@ units-at (a ∷ b ∷ rest) (suc k) h =
     let e : 2 * suc k ≡ suc (suc (2 * k)) = omega arith in
     let e₁ : 2 * suc k + 1 ≡ suc (suc (2 * k + 1)) = omega arith in
     rw (e₁, e) (units-at rest k (omega arith))
+
+-- of whole units the bytes are determined: the same units are the same bytes
+pub units-injective : (s t : Bytes) → ((i : ℕ) → getD s i 0 < 256) → ((i : ℕ) → getD t i 0 < 256) → length s % 2 ≡ 0 → length t % 2 ≡ 0
+    → units s ≡ units t → s ≡ t
+unfolding units
+units-injective [] [] hs ht es et e = refl
+units-injective [] (c ∷ []) hs ht es et e = absurd (omega arith)
+units-injective [] (c ∷ d ∷ t) hs ht es et e = absurd (let z : _≡_ {A = ℕ} 0 1 = cc in omega arith)
+units-injective (a ∷ []) t hs ht es et e = absurd (omega arith)
+units-injective (a ∷ b ∷ s) [] hs ht es et e = absurd (let z : _≡_ {A = ℕ} 0 1 = cc in omega arith)
+units-injective (a ∷ b ∷ s) (c ∷ []) hs ht es et e = absurd (omega arith)
+units-injective (a ∷ b ∷ s) (c ∷ d ∷ t) hs ht es et e =
+    let u : a + 256 * b ≡ c + 256 * d = cc in
+    let r : units s ≡ units t = cc in
+    let p : a ≡ c = omega (arith, hs 0, ht 0) in
+    let q : b ≡ d = omega arith in
+    rw (p, q, units-injective s t (λ i. hs (suc (suc i))) (λ i. ht (suc (suc i))) (omega arith) (omega arith) r)
 
 -- one turn of a loop over the units
 pub noZero-step : (us : List ℕ) (k : ℕ) → k < length us → noZero (drop k us) ≡ (not (eqb (getD us k 0) 0) and noZero (drop (k + 1) us))
@@ -95,6 +113,32 @@ pub isTerminated-length : (s : Bytes) → isTerminated s ≡ true → (4 ≤ len
 isTerminated-length s e =
     let n = isName-length (take (length s - 2) s) (isTerminated-name s e) in
     omega (arith, length-take (length s - 2) s)
+
+-- and those two bytes are zero
+pub isTerminated-zeros : (s : Bytes) → isTerminated s ≡ true → s ≡ take (length s - 2) s ++ (0 ∷ 0 ∷ [])
+unfolding isTerminated
+isTerminated-zeros s e =
+    let h = leb-true 2 (length s) (and-left _ _ e) in
+    let e₁ = and-right _ _ e in
+    let k : length s - 2 + 1 ≡ length s - 1 = omega arith in
+    let low : getD s (length s - 2) 0 ≡ 0 = eqb-true _ _ (and-left _ _ e₁) in
+    let high : getD s (length s - 1) 0 ≡ 0 = eqb-true _ _ (and-left _ _ (and-right _ _ e₁)) in
+    let d : drop (length s - 2) s ≡ 0 ∷ 0 ∷ [] =
+    drop-step s (length s - 2) (omega arith) ∙ rw (low, k, drop-step s (length s - 1) (omega arith), high, drop-of-length-le s {i = length s - 1 + 1} (omega arith)) in
+    sym (take-append-drop (length s - 2) s) ∙ ap (λ (l : Bytes). take (length s - 2) s ++ l) d
+
+-- a name with a zero unit behind it is terminated
+pub name-terminated : (s : Bytes) → isName s ≡ true → isTerminated (s ++ (0 ∷ 0 ∷ [])) ≡ true
+unfolding isTerminated
+name-terminated s e =
+    let l : length (s ++ (0 ∷ 0 ∷ [])) ≡ length s + 2 = length-append s (0 ∷ 0 ∷ []) in
+    let a : length (s ++ (0 ∷ 0 ∷ [])) - 2 ≡ length s = omega arith in
+    let b : length (s ++ (0 ∷ 0 ∷ [])) - 1 ≡ length s + 1 = omega arith in
+    let low : getD (s ++ (0 ∷ 0 ∷ [])) (length s) 0 ≡ 0 = getD-append-seam s 0 (0 ∷ []) 0 in
+    let high : getD (s ++ (0 ∷ 0 ∷ [])) (length s + 1) 0 ≡ 0 = getD-append-add s (0 ∷ 0 ∷ []) 1 0 in
+    and-intro _ _ (le-leb 2 (length (s ++ (0 ∷ 0 ∷ []))) (omega arith))
+    (and-intro _ _ (eq-eqb _ _ (ap (λ (i : ℕ). getD (s ++ (0 ∷ 0 ∷ [])) i 0) a ∙ low))
+    (and-intro _ _ (eq-eqb _ _ (ap (λ (i : ℕ). getD (s ++ (0 ∷ 0 ∷ [])) i 0) b ∙ high)) (rw (a, take-append-seam s (0 ∷ 0 ∷ [])) e)))
 
 pub named-namespace : (v : Variable) → named v ≡ true → length (v .namespace) ≡ namespaceBytes
 unfolding named

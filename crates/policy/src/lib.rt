@@ -1,4 +1,18 @@
 // The policy record, and the entry that is chosen for a variable.
+ghost use mathlib.Core.Path.{_≡_};
+ghost use mathlib.Core.List.{[], _∷_, _++_};
+ghost use mathlib.Core.Bool.{true, _||_, cond};
+ghost use Prim.Native.Nat.{_+_, _≤_, _<_};
+ghost use lib.ListN.{length, take, set};
+ghost use Rattle.limits.specs.Limits.{policyBytes};
+ghost use Rattle.slices.specs.Bytes.{overwrite};
+ghost use Rattle.slices.specs.Chunks.{flat, contains};
+ghost use Rattle.names.specs.Name.{units, matches};
+ghost use Rattle.entry.specs.Entry.{wellFormed, nameIsEmpty, nameOf, rank, sameTarget};
+ghost use Rattle.policy.specs.Policy.{entryLength, entriesOf, sizesSum, packPolicy, emptyPolicy, policyValid, policyCheck};
+ghost use Rattle.policy.specs.Filter.{hashFrom, slotOf, Marks};
+ghost use Rattle.policy.specs.Choice.{choiceOf};
+ghost use Rattle.policy.specs.Best.{asChoice};
 
 // What the check of a lent policy record finds: how many entries, and how many bytes they take; or that it is not valid.
 pub enum PolicyCheck {
@@ -14,4 +28,213 @@ pub enum Choice {
         rank: usize,
     },
     Nothing,
+}
+
+// The length of the well-formed entry that the bytes begin with, or 0.
+pub fn entry_length(p: &[u8]) -> usize
+    ensures { λ r. ⌜ r ≡ entryLength (now (p .entry)) ⌝ }
+{
+    let n = slices::le16(p, 4) as usize;
+    if p.len() < n {
+        return 0;
+    }
+    if entry::well_formed(&p[..n]) {
+        return n;
+    }
+    0
+}
+
+// Whether one of the first count entries has the namespace and the name of e.
+fn is_among(policy: &[u8], count: usize, e: &[u8]) -> bool
+    requires { ⌜ count ≤ length (entriesOf (now policy)) ⌝ }
+    ensures { λ r. ⌜ r ≡ contains (sameTarget (now (e .entry))) (take count (entriesOf (now (policy .entry)))) ⌝ }
+{
+    let mut at = 0;
+    let mut index = 0;
+    while index < count {
+        let end = at + slices::get16(policy, at + 4);
+        if entry::same_target(e, &policy[at..end]) {
+            return true;
+        }
+        at = end;
+        index += 1;
+    }
+    false
+}
+
+// A hash of h0 and the units of s.
+fn hash(h0: usize, s: &[u8]) -> usize
+    ensures { λ r. ⌜ r ≡ hashFrom h0 (now (s .entry)) ⌝ }
+{
+    let mut h = h0;
+    let mut i = 0;
+    while 2 <= s.len() - i {
+        h = h % 4294967296 * 2654435761 + slices::get16(s, i);
+        i += 2;
+    }
+    h
+}
+
+// The slot of an entry in the filter.
+fn slot(e: &[u8]) -> usize
+    ensures is { λ r. ⌜ r ≡ slotOf (now (e .entry)) ⌝ }
+    ensures bound { λ r. ⌜ r < 4096 ⌝ }
+{
+    let h = hash(slices::le32(e, 8) as usize, entry::name_bytes(e));
+    h % 4294967296 * 2654435761 / 1048576 % 4096
+}
+
+// Whether one of the first count entries, which the filter has, has the namespace and the name of e; the filter then has e too.
+fn is_repeated(policy: &[u8], count: usize, e: &[u8], marks: &mut [u8; 4096]) -> bool
+    requires { ⌜ (count ≤ length (entriesOf (now policy))) × Marks (now marks) (take count (entriesOf (now policy))) ⌝ }
+    ensures answer { λ r. ⌜ r ≡ contains (sameTarget (now (e .entry))) (take count (entriesOf (now (policy .entry)))) ⌝ }
+    ensures marked { λ _. ⌜ now (marks .exit) ≡ set (now (marks .entry)) (slotOf (now (e .entry))) 1 ⌝ }
+    ensures bound { λ _. ⌜ slotOf (now (e .entry)) < 4096 ⌝ }
+{
+    let k = slot(e);
+    let seen = marks[k];
+    marks[k] = 1;
+    if seen == 0 {
+        return false;
+    }
+    is_among(policy, count, e)
+}
+
+// The check of a record of the right length, with a filter that has no entry.
+fn scan(policy: &[u8], marks: &mut [u8; 4096]) -> PolicyCheck
+    requires { ⌜ (length (now policy) ≡ policyBytes) × Marks (now marks) [] ⌝ }
+    ensures { λ r. ⌜ r ≡ policyCheck (now (policy .entry)) ⌝ }
+{
+    let mut count = 0;
+    let mut used = 0;
+    let mut next = entry_length(policy);
+    while 0 < next {
+        if count == limits::MAX_ENTRIES {
+            return PolicyCheck::Invalid;
+        }
+        let end = used + next;
+        if is_repeated(policy, count, &policy[used..end], marks) {
+            return PolicyCheck::Invalid;
+        }
+        count += 1;
+        used = end;
+        next = entry_length(&policy[used..]);
+    }
+    if slices::all_are(&policy[used..], 0) {
+        return PolicyCheck::Valid { count, used };
+    }
+    PolicyCheck::Invalid
+}
+
+// A filter that has no entry.
+fn no_marks() -> [u8; 4096]
+    ensures { λ r. ⌜ length r ≡ 4096 ⌝ }
+{
+    [0u8; 4096]
+}
+
+// The check of a lent policy record: the right length, distinct well-formed entries within the limits, then zeros.
+pub fn check(policy: &[u8]) -> PolicyCheck
+    ensures { λ r. ⌜ r ≡ policyCheck (now (policy .entry)) ⌝ }
+{
+    if policy.len() != limits::POLICY_BYTES {
+        return PolicyCheck::Invalid;
+    }
+    let mut marks = no_marks();
+    scan(policy, &mut marks)
+}
+
+// Whether an entry of the record has the namespace and the name of e: what registration answers 20 to.
+pub fn contains(policy: &[u8], count: usize, e: &[u8]) -> bool
+    requires { ⌜ count ≡ length (entriesOf (now policy)) ⌝ }
+    ensures { λ r. ⌜ r ≡ contains (sameTarget (now (e .entry))) (entriesOf (now (policy .entry))) ⌝ }
+{
+    is_among(policy, count, e)
+}
+
+// Puts the entry e behind the others, which take `used` bytes.
+pub fn append(policy: &mut [u8], used: usize, e: &[u8])
+    requires { ⌜ (policyValid (now policy) ≡ true) × (used ≡ sizesSum (now policy)) × (used + length (now e) ≤ policyBytes) ⌝ }
+    ensures { λ _. ⌜ now (policy .exit) ≡ packPolicy (entriesOf (now (policy .entry)) ++ (now (e .entry) ∷ [])) ⌝ }
+{
+    slices::copy_in(policy, used, e);
+}
+
+// Writes the entries, which take `used` bytes, from the start of the buffer; its later bytes stay.
+pub fn dump_into(policy: &[u8], used: usize, buffer: &mut [u8])
+    requires { ⌜ (used ≡ sizesSum (now policy)) × (used ≤ length (now buffer)) ⌝ }
+    ensures { λ _. ⌜ now (buffer .exit) ≡ overwrite (now (buffer .entry)) 0 (flat (entriesOf (now (policy .entry)))) ⌝ }
+{
+    slices::copy_in(buffer, 0, &policy[..used]);
+}
+
+// Leaves a record without entries.
+pub fn clear(policy: &mut [u8])
+    requires { ⌜ length (now policy) ≡ policyBytes ⌝ }
+    ensures { λ _. ⌜ now (policy .exit) ≡ emptyPolicy ⌝ }
+{
+    let n = policy.len();
+    slices::fill(policy, 0, n, 0);
+}
+
+// The rank of an entry of the variable's namespace, if its name is empty or matches the variable's, and 66 if not.
+fn rank_for(e: &[u8], name: &[u8]) -> usize
+    requires { ⌜ wellFormed (now e) ≡ true ⌝ }
+    ensures { λ r.
+        ⌜ r ≡ cond (nameIsEmpty (now (e .entry)) || matches (units (nameOf (now (e .entry)))) (units (now (name .entry)))) (rank (now (e .entry))) 66 ⌝ }
+{
+    let start = slices::get16(e, 6);
+    let end = e.len();
+    if start == end {
+        return 65;
+    }
+    let own = &e[start..end - 2];
+    if names::matches(own, name) {
+        return names::wildcards(own);
+    }
+    66
+}
+
+// The choice of the entry at index whose first byte is at; none where the rank is 66.
+fn choice_of(rank: usize, index: usize, at: usize) -> Choice
+    ensures { λ r. ⌜ r ≡ asChoice rank index at ⌝ }
+{
+    if rank == 66 {
+        return Choice::Nothing;
+    }
+    Choice::Chosen { index, at, rank }
+}
+
+// The chosen entry for the variable of that namespace and name. The entries were counted when the record was found valid.
+// The best rank so far is 66 while there is none; a rank of 0 is not beaten.
+pub fn choose(policy: &[u8], count: usize, namespace: &[u8], name: &[u8]) -> Choice
+    requires { ⌜ count ≡ length (entriesOf (now policy)) ⌝ }
+    ensures { λ r.
+        ⌜ r ≡ choiceOf (entriesOf (now (policy .entry))) (record { namespace = now (namespace .entry); name = now (name .entry) }) ⌝ }
+{
+    if namespace.len() != 16 {
+        return Choice::Nothing;
+    }
+    let mut best = 66;
+    let mut best_index = 0;
+    let mut best_at = 0;
+    let mut index = 0;
+    let mut at = 0;
+    while index < count {
+        let end = at + slices::get16(policy, at + 4);
+        if entry::same_namespace(&policy[at + 8..at + 24], namespace) {
+            let rank = rank_for(&policy[at..end], name);
+            if rank == 0 {
+                return Choice::Chosen { index, at, rank };
+            }
+            if rank < best {
+                best = rank;
+                best_index = index;
+                best_at = at;
+            }
+        }
+        at = end;
+        index += 1;
+    }
+    choice_of(best, best_index, best_at)
 }

@@ -12,7 +12,7 @@ use Rattle.slices.specs.Bytes.{Bytes, overwrite}
 use Rattle.slices.specs.Chunks.{flat, contains}
 use Rattle.names.specs.Name.{Variable, named}
 use Rattle.entry.specs.Entry.{wellFormed, sameTarget}
-use Rattle.policy.specs.Policy.{entriesOf, sizesSum, packPolicy, emptyPolicy, policyValid}
+use Rattle.policy.specs.Policy.{entriesOf, packPolicy, emptyPolicy, policyValid}
 use Rattle.policy.specs.Choice.{chosen}
 use Rattle.pair.specs.Pair.{sound, soundAlone, lookup, attributesFound, payloadFound}
 use Rattle.status.specs.declared.Status.{Status}
@@ -64,7 +64,7 @@ unfoldable pub powerOnStatus : Bytes → Bytes → Bytes → Status
 powerOnStatus nv vol policy =
     cond (soundAlone nv and leb (length vol) maxStore and eqb (length policy) policyBytes) Success VolumeCorrupted
 
--- Restart: both stores sound
+-- Restart: both stores sound, the policy record of its right length
 unfoldable pub restartStatus : Bytes → Bytes → Bytes → Status
 restartStatus nv vol policy = cond (sound nv vol and eqb (length policy) policyBytes) Success VolumeCorrupted
 

@@ -7,7 +7,7 @@ use mathlib.Core.Bool.{Bool, true, false}
 use lib.ListN.{length, replicate, take}
 use Rattle.lists.specs.Lists.{All}
 use Rattle.slices.specs.Test.{_and_}
-use Rattle.slices.specs.Bytes.{Bytes, le16, le32, le16Bytes, le32Bytes, pairwise, allAre, overwrite, padded}
+use Rattle.slices.specs.Bytes.{Bytes, le16, le32, le16Bytes, le32Bytes, same, pairwise, allAre, overwrite, padded}
 use Rattle.slices.specs.Chunks.{flat, chunks, chunksFrom, used, packed, contains, distinct, find, remove, replace, replaceOrAppend}
 use Rattle.names.specs.Name.{Variable, units, noZero, isName, isTerminated, named, isHexDigit, unitMatches, wildcards}
 use Rattle.entry.specs.Entry.{headerOk, lockOk, nameOk, wellFormed, nameOf, triggerOf, targets, rank, sameTarget}
@@ -66,7 +66,7 @@ write us = setting us 3 (7 ∷ [])
 abbrev delete : List ℕ → Call
 delete us = setting us 3 []
 
--- two empty stores of 128 bytes and a policy record that holds anything, before the power-on
+-- before the power-on: an erased non-volatile store of 128 bytes, a volatile one and a policy record that hold anything
 abbrev board : State
 board = record { nv = replicate 128 255; vol = replicate 128 0; policy = replicate 8192 7; switches = freshSwitches false }
 
@@ -77,7 +77,7 @@ statuses s (c ∷ cs) = statusNumber (step s c .0 .status) ∷ statuses (step s 
 
 -- the reading says what the rules answer
 abbrev Holds : List Call × List ℕ → Type 0
-Holds r = statuses board (powerOn true ∷ r .0) ≡ r .1
+Holds r = same (statuses board (powerOn true ∷ r .0)) (r .1) ≡ true
 
 abbrev A : List ℕ
 A = 0x41 ∷ []
@@ -101,8 +101,9 @@ readings =
     -- "Boot00##" then "Boot##01": "Boot0001" gets the first, be it the one that locks or the other
     ∷ ((register (named-entry 0 1 (boot (0x30 ∷ 0x30 ∷ 0x23 ∷ 0x23 ∷ []))) ∷ register (named-entry 0 0 (boot (0x23 ∷ 0x23 ∷ 0x30 ∷ 0x31 ∷ []))) ∷ write (boot (0x30 ∷ 0x30 ∷ 0x30 ∷ 0x31 ∷ [])) ∷ []), 0 ∷ 0 ∷ 0 ∷ 8 ∷ [])
     ∷ ((register (named-entry 0 0 (boot (0x30 ∷ 0x30 ∷ 0x23 ∷ 0x23 ∷ []))) ∷ register (named-entry 0 1 (boot (0x23 ∷ 0x23 ∷ 0x30 ∷ 0x31 ∷ []))) ∷ write (boot (0x30 ∷ 0x30 ∷ 0x30 ∷ 0x31 ∷ [])) ∷ []), 0 ∷ 0 ∷ 0 ∷ 0 ∷ [])
-    -- Whole namespace first, then "Boot####": the second
-    ∷ ((register (whole-namespace 1) ∷ register (named-entry 0 0 (boot (0x23 ∷ 0x23 ∷ 0x23 ∷ 0x23 ∷ []))) ∷ write (boot (0x30 ∷ 0x30 ∷ 0x30 ∷ 0x31 ∷ [])) ∷ []), 0 ∷ 0 ∷ 0 ∷ 0 ∷ [])
+    -- Whole namespace first, then "Boot####": the second, be it the one that locks or the other; the whole namespace where no other targets
+    ∷ ((register (whole-namespace 1) ∷ register (named-entry 0 0 (boot (0x23 ∷ 0x23 ∷ 0x23 ∷ 0x23 ∷ []))) ∷ write (boot (0x30 ∷ 0x30 ∷ 0x30 ∷ 0x31 ∷ [])) ∷ write A ∷ []), 0 ∷ 0 ∷ 0 ∷ 0 ∷ 8 ∷ [])
+    ∷ ((register (whole-namespace 0) ∷ register (named-entry 0 1 (boot (0x23 ∷ 0x23 ∷ 0x23 ∷ 0x23 ∷ []))) ∷ write (boot (0x30 ∷ 0x30 ∷ 0x30 ∷ 0x31 ∷ [])) ∷ write A ∷ []), 0 ∷ 0 ∷ 0 ∷ 8 ∷ 0 ∷ [])
     -- Value 0: trigger absent, write allowed; trigger 00, 8; trigger 00 00, allowed
     ∷ ((register (triggered A) ∷ write A ∷ setting T 3 (0 ∷ []) ∷ write A ∷ setting T 3 (0 ∷ 0 ∷ []) ∷ write A ∷ []), 0 ∷ 0 ∷ 0 ∷ 0 ∷ 8 ∷ 0 ∷ 0 ∷ [])
     -- Type 2: create 0, rewrite 8, delete 8
@@ -120,4 +121,4 @@ readings =
 -- THE STARRED READINGS
 pub starred-readings : All Holds readings
 unfolding _and_ le16 le32 le16Bytes le32Bytes pairwise allAre overwrite padded flat chunks chunksFrom used packed contains distinct find remove replace replaceOrAppend units noZero isName isTerminated named isHexDigit unitMatches wildcards headerOk lockOk nameOk wellFormed nameOf triggerOf targets rank sameTarget entryLength policyValid chosen stored.namespaceOf stored.nameOf stored.payloadOf stored.attributesOk stored.headerOk stored.bodyOk stored.recordOk stored.recordLength stored.isOf stored.encodeRecord storeOk withoutVariable hasRoom withRecord sound soundAlone lookup exists isEmpty holdsValue locks isDeletion sizeAllowed attributesAllowed requestGround groundOf otherAttributes isEmptyAppend payloadAfter writeStatus badRequest unsupportedBit needsBS requestStatus setStatus setStore step powerOnStatus restartStatus registerStatus dumpStatus readStatus setStatusBy
-starred-readings = (refl, (refl, (refl, (refl, (refl, (refl, (refl, (refl, (refl, (refl, (refl, (refl, (refl, (refl, tt))))))))))))))
+starred-readings = (refl, (refl, (refl, (refl, (refl, (refl, (refl, (refl, (refl, (refl, (refl, (refl, (refl, (refl, (refl, tt)))))))))))))))

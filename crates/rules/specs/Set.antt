@@ -125,7 +125,7 @@ groundStatus LockGround = WriteProtected
 
 -- ---- steps 5 to 10
 
--- stored attributes: without append
+-- stored attributes: without append; step 2 has refused every bit outside 0x47
 abbrev pub storedAttributes : ℕ → ℕ
 storedAttributes a = a % 8
 
@@ -153,10 +153,15 @@ storeOf a nv vol = cond (hasNV a) nv vol
 -- steps 5 to 9, by what is found of the request's variable
 unfoldable pub writeStatus : Bytes → Bytes → Option Bytes → Request → Status
 writeStatus nv vol found r =
+    -- 5
     cond (isDeletion (r .attributes) (r .payload)) (cond (exists found) Success NotFound)
+    -- 6
     (cond (otherAttributes found (r .attributes)) InvalidParameter
+    -- 7
     (cond (isEmptyAppend (r .attributes) (r .payload)) Success
+    -- 8
     (cond (ltb maxPayload (length (payloadAfter found (r .attributes) (r .payload)))) OutOfResources
+    -- 9
     (cond (hasRoom (hasNV (r .attributes)) (storeOf (r .attributes) nv vol) (r .variable) (recordAfter found r)) Success OutOfResources))))
 
 -- all steps over sound stores, the first refusal in their order;

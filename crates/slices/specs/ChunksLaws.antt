@@ -2,13 +2,13 @@
 -- `chunks` and `packed` are inverse: `chunks-packed` and `packed-chunks`.
 -- Assumes nothing.
 use Prim.Native.Nat.{ℕ, zero, suc, _+_, _-_, _≤_, _<_, zero-le}
-use mathlib.Core.Path.{_≡_, refl, sym, ap, _∙_, subst}
+use mathlib.Core.Path.{_≡_, refl, sym, ap, _∙_}
 use mathlib.Core.List.{List, [], _∷_, _++_, append-assoc, append-nil}
-use mathlib.Core.Bool.{Bool, true, false}
+use mathlib.Core.Bool.{true}
 use native.Mathlib.Omega.{arith}
 use native.Mathlib.Nat.{le-refl}
 use lib.ListN.{length, take, drop, replicate, length-append, length-drop, length-replicate, take-append-drop}
-use lib.Seq.{length-take-le, take-add, drop-drop, take-at, drop-at, take-length}
+use lib.Seq.{length-take-le, take-add, drop-drop, take-at, drop-at}
 use Rattle.slices.specs.Bytes.{Bytes, allAre, padded}
 use Rattle.slices.specs.BytesLaws.{allAre-is, allAre-replicate}
 use Rattle.slices.specs.Chunks.{flat, next, chunksFrom, chunks, used, packed}

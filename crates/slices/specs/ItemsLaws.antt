@@ -1,16 +1,16 @@
 -- Laws of lists of items: what is in them, taken out, replaced or put behind. Assumes nothing.
-use Prim.Native.Nat.{ℕ, _+_, _≤_}
+use Prim.Native.Nat.{ℕ, _≤_}
 use mathlib.Core.Path.{_≡_, refl, sym, ap, _∙_}
 use mathlib.Core.List.{List, [], _∷_, _++_}
-use mathlib.Core.Bool.{Bool, true, false, not, _||_, cond, or-true, true≢false, false≢true}
+use mathlib.Core.Bool.{Bool, true, false, not, _||_, cond, true≢false, false≢true, or-true}
 use mathlib.Core.Option.{Option, none, some}
 use native.Mathlib.Omega.{arith}
 use lib.ListN.{length, length-append}
 use Rattle.slices.specs.Test.{_and_}
-use Rattle.slices.specs.TestLaws.{and-left, and-right, and-intro, forced-off}
+use Rattle.slices.specs.TestLaws.{and-left, and-right, and-intro, and-no, and-off, forced-off}
 use Rattle.slices.specs.Bytes.{Bytes}
 use Rattle.slices.specs.Chunks.{flat, contains, distinct, find, remove, replace, replaceOrAppend}
-use Rattle.slices.specs.ChunksLaws.{All, nil, more, flat-append, flat-one}
+use Rattle.slices.specs.ChunksLaws.{All, nil, more}
 
 -- ---- of two tests joined by or
 pub or-left-off : (a b : Bool) → (a || b) ≡ false → a ≡ false
@@ -108,6 +108,11 @@ module _ (f : Bytes → Bool) where
       go true = refl
       go false = refl
 
+  pub contains-middle : (cs : List Bytes) (c : Bytes) (ds : List Bytes) → f c ≡ true → contains f (cs ++ (c ∷ ds)) ≡ true
+  unfolding contains
+  contains-middle [] c ds e = rw e
+  contains-middle (d ∷ cs) c ds e = rw (contains-middle cs c ds e) (or-true (f d))
+
   pub contains-remove : (p : Bytes → Bool) (cs : List Bytes) → contains f cs ≡ false → contains f (remove p cs) ≡ false
   unfolding contains remove
   contains-remove p [] e = refl
@@ -129,6 +134,33 @@ module _ (f : Bytes → Bool) where
       go : (b : Bool) → p c ≡ b → contains f (replace p q cs) ≡ contains f cs → contains f (cond b (q ∷ cs) (c ∷ replace p q cs)) ≡ (f c || contains f cs)
       go true e i = rw (h c e)
       go false e i = rw i
+
+  -- an item that the test does not take, put in
+  contains-replace-off : (p : Bytes → Bool) (q : Bytes) (cs : List Bytes) → contains f cs ≡ false → f q ≡ false → contains f (replace p q cs) ≡ false
+  unfolding contains replace
+  contains-replace-off p q [] e h = refl
+  contains-replace-off p q (c ∷ cs) e h = go (p c) (contains-replace-off p q cs k h)
+    where
+      k : contains f cs ≡ false
+      k = or-right-off (f c) (contains f cs) e
+
+      go : (b : Bool) → contains f (replace p q cs) ≡ false → contains f (cond b (q ∷ cs) (c ∷ replace p q cs)) ≡ false
+      go true i = or-off (f q) (contains f cs) h k
+      go false i = or-off (f c) (contains f (replace p q cs)) (or-left-off (f c) (contains f cs) e) i
+
+  pub contains-replaceOrAppend-off : (p : Bytes → Bool) (q : Bytes) (cs : List Bytes) → contains f cs ≡ false → f q ≡ false → contains f (replaceOrAppend p q cs) ≡ false
+  unfolding replaceOrAppend
+  contains-replaceOrAppend-off p q cs e h = go (contains p cs)
+    where
+      go : (b : Bool) → contains f (cond b (replace p q cs) (cs ++ (q ∷ []))) ≡ false
+      go true = contains-replace-off p q cs e h
+      go false = contains-append cs (q ∷ []) ∙ or-off (contains f cs) (contains f (q ∷ [])) e (contains-one q ∙ h)
+
+  -- none of the items is taken
+  pub contains-none : (cs : List Bytes) → contains f cs ≡ false → All (λ (c : Bytes). f c ≡ false) cs
+  unfolding contains
+  contains-none [] e = nil
+  contains-none (c ∷ cs) e = more (or-left-off (f c) (contains f cs) e) (contains-none cs (or-right-off (f c) (contains f cs) e))
 
   pub contains-ext : (h : Bytes → Bool) (cs : List Bytes) → ((c : Bytes) → f c ≡ h c) → contains f cs ≡ contains h cs
   unfolding contains
@@ -199,6 +231,20 @@ module _ (f : Bytes → Bool) where
       go : (b : Bool) → contains f cs ≡ b → find f (cond b (replace f q cs) (cs ++ (q ∷ []))) ≡ some q
       go true e = find-replace q cs t e
       go false e = find-append cs (q ∷ []) e ∙ rw t
+
+-- what is found in a list behind another
+abbrev pub orElse : Option Bytes → Option Bytes → Option Bytes
+orElse none other = other
+orElse (some c) other = some c
+
+pub find-either : (f : Bytes → Bool) (cs ds : List Bytes) → find f (cs ++ ds) ≡ orElse (find f cs) (find f ds)
+unfolding find
+find-either f [] ds = refl
+find-either f (c ∷ cs) ds = go (f c) (find-either f cs ds)
+  where
+    go : (b : Bool) → find f (cs ++ ds) ≡ orElse (find f cs) (find f ds) → cond b (some c) (find f (cs ++ ds)) ≡ orElse (cond b (some c) (find f cs)) (find f ds)
+    go true i = refl
+    go false i = i
 
 -- ---- an item that another test takes
 module _ (p o : Bytes → Bool) (other : (c : Bytes) → p c ≡ true → o c ≡ false) where
@@ -274,6 +320,20 @@ module _ (like : Bytes → Bytes → Bool) where
       go true i = distinct-apart c cs e .rest
       go false i = distinct-cons c (remove p cs) (contains-remove (like c) p cs (distinct-apart c cs e .here)) i
 
+  -- of distinct items only one is like any that the test takes: taken out, it is there no more
+  pub contains-removed : (p : Bytes → Bool) → ((c : Bytes) → p c ≡ true → (d : Bytes) → p d ≡ like c d) → (cs : List Bytes) → distinct like cs ≡ true
+      → contains p (remove p cs) ≡ false
+  unfolding contains remove
+  contains-removed p same [] e = refl
+  contains-removed p same (c ∷ cs) e = go (p c) refl (contains-removed p same cs (w .rest))
+    where
+      w : Apart c cs
+      w = distinct-apart c cs e
+
+      go : (b : Bool) → p c ≡ b → contains p (remove p cs) ≡ false → contains p (cond b cs (c ∷ remove p cs)) ≡ false
+      go true t i = contains-ext p (like c) cs (same c t) ∙ w .here
+      go false t i = or-off (p c) (contains p (remove p cs)) t i
+
   pub distinct-left : (cs ds : List Bytes) → distinct like (cs ++ ds) ≡ true → distinct like cs ≡ true
   unfolding distinct
   distinct-left [] ds e = refl
@@ -284,6 +344,29 @@ module _ (like : Bytes → Bytes → Bool) where
   pub distinct-right : (cs ds : List Bytes) → distinct like (cs ++ ds) ≡ true → distinct like ds ≡ true
   distinct-right [] ds e = e
   distinct-right (c ∷ cs) ds e = distinct-right cs ds (distinct-apart c (cs ++ ds) e .rest)
+
+  -- no item of one list is like one of another behind it
+  pub distinct-across : (cs ds : List Bytes) → distinct like (cs ++ ds) ≡ true → All (λ (c : Bytes). contains (like c) ds ≡ false) cs
+  distinct-across [] ds e = nil
+  distinct-across (c ∷ cs) ds e =
+      let w = distinct-apart c (cs ++ ds) e in
+      more (or-right-off (contains (like c) cs) (contains (like c) ds) (sym (contains-append (like c) cs ds) ∙ w .here)) (distinct-across cs ds (w .rest))
+
+  pub distinct-join : (cs ds : List Bytes) → distinct like cs ≡ true → distinct like ds ≡ true → All (λ (c : Bytes). contains (like c) ds ≡ false) cs → distinct like (cs ++ ds) ≡ true
+  distinct-join [] ds e f nil = f
+  distinct-join (c ∷ cs) ds e f (more h a) =
+      let w = distinct-apart c cs e in
+      distinct-cons c (cs ++ ds) (contains-append (like c) cs ds ∙ or-off (contains (like c) cs) (contains (like c) ds) (w .here) h) (distinct-join cs ds (w .rest) f a)
+
+  -- an item taken out of either
+  pub distinct-remove-left : (p : Bytes → Bool) (cs ds : List Bytes) → distinct like (cs ++ ds) ≡ true → distinct like (remove p cs ++ ds) ≡ true
+  distinct-remove-left p cs ds e =
+      distinct-join (remove p cs) ds (distinct-remove p cs (distinct-left cs ds e)) (distinct-right cs ds e) (all-remove p cs (distinct-across cs ds e))
+
+  pub distinct-remove-right : (p : Bytes → Bool) (cs ds : List Bytes) → distinct like (cs ++ ds) ≡ true → distinct like (cs ++ remove p ds) ≡ true
+  distinct-remove-right p cs ds e =
+      distinct-join cs (remove p ds) (distinct-left cs ds e) (distinct-remove p ds (distinct-right cs ds e))
+      (all-map (λ c h. contains-remove (like c) p ds h) cs (distinct-across cs ds e))
 
   -- a test that is like one item is like all that are like it
   module _ (like-sym : (a b : Bytes) → like a b ≡ like b a) (like-same : (a b : Bytes) → like a b ≡ true → (c : Bytes) → like a c ≡ like b c) where
@@ -318,3 +401,43 @@ module _ (like : Bytes → Bytes → Bool) where
         go : (b : Bool) → contains (like q) cs ≡ b → distinct like (cond b (replace (like q) q cs) (cs ++ (q ∷ []))) ≡ true
         go true h = distinct-replace q cs e
         go false h = distinct-append q cs h e
+
+    -- an item put into one of two lists, where the other has none like it
+    pub distinct-replaceOrAppend-left : (q : Bytes) (cs ds : List Bytes) → contains (like q) ds ≡ false → distinct like (cs ++ ds) ≡ true
+        → distinct like (replaceOrAppend (like q) q cs ++ ds) ≡ true
+    distinct-replaceOrAppend-left q cs ds h e =
+        distinct-join (replaceOrAppend (like q) q cs) ds (distinct-replaceOrAppend q cs (distinct-left cs ds e)) (distinct-right cs ds e)
+        (all-replaceOrAppend (like q) q cs h (distinct-across cs ds e))
+
+    pub distinct-replaceOrAppend-right : (q : Bytes) (cs ds : List Bytes) → contains (like q) cs ≡ false → distinct like (cs ++ ds) ≡ true
+        → distinct like (cs ++ replaceOrAppend (like q) q ds) ≡ true
+    distinct-replaceOrAppend-right q cs ds h e =
+        distinct-join cs (replaceOrAppend (like q) q ds) (distinct-left cs ds e) (distinct-replaceOrAppend q ds (distinct-right cs ds e))
+        (off cs (contains-none (like q) cs h) (distinct-across cs ds e))
+      where
+        off : (xs : List Bytes) → All (λ (c : Bytes). like q c ≡ false) xs → All (λ (c : Bytes). contains (like c) ds ≡ false) xs
+            → All (λ (c : Bytes). contains (like c) (replaceOrAppend (like q) q ds) ≡ false) xs
+        off [] nil nil = nil
+        off (x ∷ xs) (more k ks) (more a as′) = more (contains-replaceOrAppend-off (like x) (like q) q ds a (like-sym x q ∙ k)) (off xs ks as′)
+
+    -- where one of two lists has one like it, the other has none
+    pub contains-across : (q : Bytes) (cs ds : List Bytes) → distinct like (cs ++ ds) ≡ true → contains (like q) cs ≡ true → contains (like q) ds ≡ false
+    unfolding contains
+    contains-across q [] ds e h = absurd (false≢true h)
+    contains-across q (c ∷ cs) ds e h = go (like q c) refl h (contains-across q cs ds (distinct-apart c (cs ++ ds) e .rest))
+      where
+        go : (b : Bool) → like q c ≡ b → (b || contains (like q) cs) ≡ true → (contains (like q) cs ≡ true → contains (like q) ds ≡ false) → contains (like q) ds ≡ false
+        go true t k i = contains-ext (like q) (like c) ds (like-same q c t) ∙ all-here c cs (distinct-across (c ∷ cs) ds e)
+        go false t k i = i k
+
+-- an item like one before it
+pub distinct-repeated : (like : Bytes → Bytes → Bool) → ((a b : Bytes) → like a b ≡ like b a) → (cs : List Bytes) (c : Bytes) (ds : List Bytes)
+    → contains (like c) cs ≡ true → distinct like (cs ++ (c ∷ ds)) ≡ false
+unfolding contains distinct
+distinct-repeated like like-sym [] c ds e = absurd (false≢true e)
+distinct-repeated like like-sym (d ∷ cs) c ds e = go (like c d) refl (distinct-repeated like like-sym cs c ds)
+  where
+    go : (b : Bool) → like c d ≡ b → (contains (like c) cs ≡ true → distinct like (cs ++ (c ∷ ds)) ≡ false)
+        → (not (contains (like d) (cs ++ (c ∷ ds))) and distinct like (cs ++ (c ∷ ds))) ≡ false
+    go true q i = rw (contains-middle (like d) cs c ds (like-sym d c ∙ q)) (and-off (distinct like (cs ++ (c ∷ ds))))
+    go false q i = rw (i (rw q at e)) (and-no (not (contains (like d) (cs ++ (c ∷ ds)))))

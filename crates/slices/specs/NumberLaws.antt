@@ -1,11 +1,11 @@
 -- Laws of little-endian numbers. Assumes nothing.
-use Prim.Native.Nat.{ℕ, zero, suc, _+_, _-_, _*_, _/_, _%_, _≤_, _<_}
-use mathlib.Core.Path.{_≡_, refl, sym, ap, _∙_}
-use mathlib.Core.List.{List, [], _∷_, _++_}
+use Prim.Native.Nat.{ℕ, _+_, _*_, _/_, _%_, _≤_, _<_}
+use mathlib.Core.Path.{_≡_, sym, _∙_}
+use mathlib.Core.List.{[], _∷_, _++_}
 use native.Mathlib.Omega.{arith}
 use native.Mathlib.Nat.{div-div-eq-div-mul, mod-eq-of-lt, div-eq-of-lt, div-add-mod, add-mul-mod-self-left, add-mul-div-left}
 use lib.ListN.{length, getD, take, drop, List·getD-eq-default}
-use lib.Seq.{getD-take, getD-drop, getD-append-add}
+use lib.Seq.{getD-take, getD-drop}
 use Rattle.slices.specs.PartLaws.{drop-step}
 use Rattle.slices.specs.Bytes.{Bytes, le16, le32, le16Bytes, le32Bytes}
 

@@ -23,6 +23,10 @@ unfolding _and_
 and-no true = refl
 and-no false = refl
 
+pub and-off : (b : Bool) → (false and b) ≡ false
+unfolding _and_
+and-off b = refl
+
 pub and-yes : (a : Bool) → (a and true) ≡ a
 unfolding _and_
 and-yes true = refl

@@ -1,8 +1,330 @@
-// The store of variables.
+// The store of variables: one record, the walk over all records, the search, and the edits in place.
+ghost use mathlib.Core.Path.{_≡_};
+ghost use mathlib.Core.Bool.{true};
+ghost use mathlib.Core.List.{_++_};
+ghost use Prim.Native.Nat.{ℕ, _+_, _≤_, _<_};
+ghost use lib.ListN.{length, take, drop};
+ghost use Rattle.limits.specs.Limits.{namespaceBytes, maxNameBytes, maxPayload};
+ghost use Rattle.slices.specs.Bytes.{Bytes, le32Bytes, allAre, overwrite};
+ghost use Rattle.slices.specs.Chunks.{find};
+ghost use Rattle.names.specs.Name.{Variable};
+ghost use Rattle.store.specs.Record.{attributesOf, nameSize, dataSize, payloadOf, recordSize, attributesOk, recordMark, headerOk, bodyOk, recordLength, isOf, encodeRecord};
+ghost use Rattle.store.specs.Store.{recordsOf, endOf, storeOk, placeOf, withoutVariable, hasRoom, withRecord};
+ghost use Rattle.store.specs.Parts.{variable, HeaderFits, Storable, payloadIn, joined, resized};
 
 pub enum Found {
     // The variable's record begins at `at` and is `len` bytes long.
     At { at: usize, len: usize },
     // The variable has none.
     Absent,
+}
+
+fn attributes_ok(a: usize, nonvolatile: bool) -> bool
+    ensures { λ r. ⌜ r ≡ attributesOk nonvolatile a ⌝ }
+{
+    if nonvolatile {
+        return (a <= 7) & (a / 2 % 2 == 1) & (a % 2 == 1);
+    }
+    (a <= 7) & (a / 2 % 2 == 1) & (a % 2 == 0)
+}
+
+fn header_ok(r: &[u8], nonvolatile: bool) -> bool
+    requires { ⌜ 32 ≤ length (now r) ⌝ }
+    ensures { λ x. ⌜ x ≡ headerOk nonvolatile (now (r .entry)) ⌝ }
+{
+    let n = slices::get32(r, 8);
+    let d = slices::get32(r, 12);
+    (r[0] == 0xAA)
+        & (r[1] == 0x55)
+        & (r[2] == 0x3F)
+        & (r[3] == 0)
+        & attributes_ok(slices::get32(r, 4), nonvolatile)
+        & (4 <= n)
+        & (n <= 130)
+        & (1 <= d)
+        & (d <= limits::MAX_PAYLOAD)
+}
+
+fn body_ok(r: &[u8], n: usize, d: usize) -> bool
+    requires { ⌜ (n ≡ nameSize (now r)) × (d ≡ dataSize (now r)) × (32 + n + d ≤ length (now r)) ⌝ }
+    ensures { λ x. ⌜ x ≡ bodyOk (now (r .entry)) ⌝ }
+{
+    if !names::is_terminated(&r[32..32 + n]) {
+        return false;
+    }
+    slices::few_are(&r[32 + n + d..], 255)
+}
+
+// How long a record is with a NameSize of n and a DataSize of d.
+fn record_size(n: usize, d: usize) -> usize
+    requires { ⌜ (n < 4294967296) × (d < 4294967296) ⌝ }
+    ensures { λ r. ⌜ r ≡ recordSize n d ⌝ }
+{
+    (35 + n + d) / 4 * 4
+}
+
+// The length of the well-formed record that begins t, or 0.
+pub fn record_length(t: &[u8], nonvolatile: bool) -> usize
+    ensures { λ r. ⌜ r ≡ recordLength nonvolatile (now (t .entry)) ⌝ }
+{
+    if t.len() < 32 {
+        return 0;
+    }
+    if !header_ok(t, nonvolatile) {
+        return 0;
+    }
+    let n = slices::get32(t, 8);
+    let d = slices::get32(t, 12);
+    let size = record_size(n, d);
+    if t.len() < size {
+        return 0;
+    }
+    if body_ok(&t[..size], n, d) { size } else { 0 }
+}
+
+// Where the records end.
+pub fn end_of(s: &[u8], nonvolatile: bool) -> usize
+    ensures { λ r. ⌜ r ≡ endOf nonvolatile (now (s .entry)) ⌝ }
+{
+    let mut at = 0;
+    loop {
+        let n = record_length(&s[at..], nonvolatile);
+        if n == 0 {
+            return at;
+        }
+        at += n;
+    }
+}
+
+// Whether the record r is that of the variable: the names first, since most records share a namespace.
+fn is_of(r: &[u8], namespace: &[u8], name: &[u8]) -> bool
+    requires { ⌜ HeaderFits (now r) ⌝ }
+    ensures { λ x. ⌜ x ≡ isOf (variable (now (namespace .entry)) (now (name .entry))) (now (r .entry)) ⌝ }
+{
+    let n = slices::get32(r, 8);
+    if !slices::equal(&r[32..30 + n], name) {
+        return false;
+    }
+    slices::equal(&r[16..32], namespace)
+}
+
+// Where the variable's record stands in a store whose records end at `end`. What is known to be a record is not tested again.
+pub fn find_within(s: &[u8], nonvolatile: bool, end: usize, namespace: &[u8], name: &[u8]) -> Found
+    requires { ⌜ end ≡ endOf nonvolatile (now s) ⌝ }
+    ensures { λ r. ⌜ r ≡ placeOf nonvolatile (now (s .entry)) (variable (now (namespace .entry)) (now (name .entry))) ⌝ }
+{
+    let name_size = name.len() + 2;
+    let mut at = 0;
+    while at < end {
+        let r = &s[at..];
+        let n = slices::get32(r, 8);
+        let size = record_size(n, slices::get32(r, 12));
+        if n == name_size {
+            if is_of(&r[..size], namespace, name) {
+                return Found::At { at: at, len: size };
+            }
+        }
+        at += size;
+    }
+    Found::Absent
+}
+
+// The attributes of a record.
+pub fn attributes(r: &[u8]) -> u32
+    ensures { λ x. ⌜ x ≡ attributesOf (now (r .entry)) ⌝ }
+{
+    slices::le32(r, 4)
+}
+
+// The payload of a record, as a part of it.
+pub fn payload_part(r: &[u8]) -> &[u8]
+    ensures { λ x. ⌜ now x ≡ payloadOf (now (r .entry)) ⌝ }
+{
+    let at = 32 + slices::le32(r, 8) as usize;
+    let end = at + slices::le32(r, 12) as usize;
+    slices::part(r, at, end)
+}
+
+// The payload where the variable's record was found, as a part of the store, or an empty part.
+fn payload_found<'a>(
+    s: &'a [u8],
+    nonvolatile: bool,
+    found: Found,
+    namespace: &[u8],
+    name: &[u8],
+) -> &'a [u8]
+    requires { ⌜ found ≡ placeOf nonvolatile (now s) (variable (now namespace) (now name)) ⌝ }
+    ensures { λ r. ⌜ now r ≡ payloadIn (find (isOf (variable (now (namespace .entry)) (now (name .entry)))) (recordsOf nonvolatile (now (s .entry)))) ⌝ }
+{
+    match found {
+        Found::At { at, len } => payload_part(&s[at..at + len]),
+        Found::Absent => &s[..0],
+    }
+}
+
+// Makes room of `new` bytes in place of the `old` ones at `at`, in a store whose records end at `end`.
+fn resize_record(s: &mut [u8], at: usize, old: usize, new: usize, end: usize)
+    requires { ⌜ (at + old ≤ end) × (end ≤ length (now s)) × (end + new ≤ length (now s) + old) × (allAre 255 (drop end (now s)) ≡ true) ⌝ }
+    ensures { λ _. ⌜ now (s .exit) ≡ resized (now (s .entry)) at old new end ⌝ }
+{
+    let from = at + old;
+    let to = at + new;
+    let n = end - from;
+    if new <= old {
+        slices::move_down(s, from, to, n);
+        slices::fill(s, at, new, 255);
+        slices::fill(s, to + n, old - new, 255);
+    } else {
+        slices::move_up(s, from, to, n);
+        slices::fill(s, at, new, 255);
+    }
+}
+
+// Takes the variable's record out of a sound store, where it was found: the gap is closed and the freed room is 0xFF.
+pub fn remove(
+    s: &mut [u8],
+    nonvolatile: bool,
+    end: usize,
+    found: Found,
+    namespace: &[u8],
+    name: &[u8],
+)
+    requires { ⌜ (storeOk nonvolatile (now s) ≡ true) × (end ≡ endOf nonvolatile (now s)) × (found ≡ placeOf nonvolatile (now s) (variable (now namespace) (now name))) ⌝ }
+    ensures { λ _. ⌜ now (s .exit) ≡ withoutVariable nonvolatile (now (s .entry)) (variable (now (namespace .entry)) (now (name .entry))) ⌝ }
+{
+    match found {
+        Found::At { at, len } => resize_record(s, at, len, 0, end),
+        Found::Absent => (),
+    }
+}
+
+// The first 16 bytes of a record: mark, state, attributes, NameSize and DataSize.
+fn header(attributes: u8, n: usize, d: usize) -> [u8; 16]
+    requires { ⌜ (n < 256) × (d < 65536) ⌝ }
+    ensures { λ r. ⌜ r ≡ recordMark ++ le32Bytes attributes ++ le32Bytes n ++ le32Bytes d ⌝ }
+{
+    let low = (d % 256) as u8;
+    let high = (d / 256) as u8;
+    [
+        0xAA,
+        0x55,
+        0x3F,
+        0,
+        attributes,
+        0,
+        0,
+        0,
+        n as u8,
+        0,
+        0,
+        0,
+        low,
+        high,
+        0,
+        0,
+    ]
+}
+
+// Writes a record at `at`.
+fn put_record(
+    s: &mut [u8],
+    at: usize,
+    attributes: u8,
+    namespace: &[u8],
+    name: &[u8],
+    payload: &[u8],
+)
+    requires { ⌜ (length (now namespace) ≡ namespaceBytes) × (length (now name) ≤ maxNameBytes) × (length (now payload) ≤ maxPayload) × (at + recordSize (length (now name) + 2) (length (now payload)) ≤ length (now s)) ⌝ }
+    ensures { λ _. ⌜ now (s .exit) ≡ overwrite (now (s .entry)) at (encodeRecord attributes (variable (now (namespace .entry)) (now (name .entry))) (now (payload .entry))) ⌝ }
+{
+    let k = name.len();
+    let m = payload.len();
+    let end = 34 + k + m;
+    let first = header(attributes, k + 2, m);
+    slices::copy_in(s, at, &first);
+    slices::copy_in(s, at + 16, namespace);
+    slices::copy_in(s, at + 32, name);
+    slices::fill(s, at + 32 + k, 2, 0);
+    slices::copy_in(s, at + 34 + k, payload);
+    slices::fill(s, at + end, record_size(k + 2, m) - end, 255);
+}
+
+// Step 9: whether the store has room for the variable's record with a payload of n bytes, in place of the one found or behind the last.
+pub fn has_room(
+    s: &[u8],
+    nonvolatile: bool,
+    end: usize,
+    found: Found,
+    namespace: &[u8],
+    name: &[u8],
+    n: usize,
+) -> bool
+    requires { ⌜ (end ≡ endOf nonvolatile (now s)) × (found ≡ placeOf nonvolatile (now s) (variable (now namespace) (now name))) × (length (now namespace) ≡ namespaceBytes) × (length (now name) ≤ maxNameBytes) × (n ≤ maxPayload) ⌝ }
+    ensures { λ r. ⌜ ((a : ℕ) (p : Bytes) → length p ≡ n → r ≡ hasRoom nonvolatile (now (s .entry)) (variable (now (namespace .entry)) (now (name .entry))) (encodeRecord a (variable (now (namespace .entry)) (now (name .entry))) p)) ⌝ }
+{
+    let size = record_size(name.len() + 2, n);
+    match found {
+        Found::At { at: _, len } => size <= s.len() - (end - len),
+        Found::Absent => size <= s.len() - end,
+    }
+}
+
+// Stores the variable's record in a sound store that has room for it: in place of the one found, or behind the last.
+pub fn write(
+    s: &mut [u8],
+    nonvolatile: bool,
+    end: usize,
+    found: Found,
+    attributes: u8,
+    namespace: &[u8],
+    name: &[u8],
+    payload: &[u8],
+)
+    requires { ⌜ (storeOk nonvolatile (now s) ≡ true) × (end ≡ endOf nonvolatile (now s)) × (found ≡ placeOf nonvolatile (now s) (variable (now namespace) (now name)))
+        × Storable nonvolatile attributes (variable (now namespace) (now name)) (now payload)
+        × (hasRoom nonvolatile (now s) (variable (now namespace) (now name)) (encodeRecord attributes (variable (now namespace) (now name)) (now payload)) ≡ true) ⌝ }
+    ensures { λ _. ⌜ now (s .exit) ≡ withRecord nonvolatile (now (s .entry)) (variable (now (namespace .entry)) (now (name .entry))) (encodeRecord attributes (variable (now (namespace .entry)) (now (name .entry))) (now (payload .entry))) ⌝ }
+{
+    match found {
+        Found::At { at, len } => {
+            resize_record(s, at, len, record_size(name.len() + 2, payload.len()), end);
+            put_record(s, at, attributes, namespace, name, payload);
+        }
+        Found::Absent => put_record(s, end, attributes, namespace, name, payload),
+    }
+}
+
+// Joins the payload to that of the variable's record, where it was found, or stores it as a new variable's.
+pub fn append(
+    s: &mut [u8],
+    nonvolatile: bool,
+    end: usize,
+    found: Found,
+    attributes: u8,
+    namespace: &[u8],
+    name: &[u8],
+    payload: &[u8],
+)
+    requires { ⌜ (storeOk nonvolatile (now s) ≡ true) × (end ≡ endOf nonvolatile (now s)) × (found ≡ placeOf nonvolatile (now s) (variable (now namespace) (now name)))
+        × Storable nonvolatile attributes (variable (now namespace) (now name)) (joined nonvolatile (now s) (variable (now namespace) (now name)) (now payload))
+        × (hasRoom nonvolatile (now s) (variable (now namespace) (now name)) (encodeRecord attributes (variable (now namespace) (now name)) (joined nonvolatile (now s) (variable (now namespace) (now name)) (now payload))) ≡ true) ⌝ }
+    ensures { λ _. ⌜ now (s .exit) ≡ withRecord nonvolatile (now (s .entry)) (variable (now (namespace .entry)) (now (name .entry)))
+        (encodeRecord attributes (variable (now (namespace .entry)) (now (name .entry))) (joined nonvolatile (now (s .entry)) (variable (now (namespace .entry)) (now (name .entry))) (now (payload .entry)))) ⌝ }
+{
+    let mut both = [0u8; limits::MAX_PAYLOAD];
+    let old = payload_found(s, nonvolatile, found, namespace, name);
+    let n = old.len();
+    slices::copy_in(&mut both, 0, old);
+    slices::copy_in(&mut both, n, payload);
+    let m = n + payload.len();
+    write(
+        s,
+        nonvolatile,
+        end,
+        found,
+        attributes,
+        namespace,
+        name,
+        &both[..m],
+    )
 }

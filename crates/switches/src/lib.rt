@@ -71,3 +71,21 @@ pub fn disable(switches: Switches) -> SwitchAnswer
         switches: disabled,
     }
 }
+
+// `lock` on switches that the caller lends: what it leaves is written back in place.
+pub fn lock_lent(switches: &mut Switches) -> Status
+    ensures { λ r. ⌜ (r ≡ lockAnswer (now (switches .entry)) .status) × (now (switches .exit) ≡ lockAnswer (now (switches .entry)) .switches) ⌝ }
+{
+    let answer = lock(*switches);
+    *switches = answer.switches;
+    answer.status
+}
+
+// `disable` on switches that the caller lends: what it leaves is written back in place.
+pub fn disable_lent(switches: &mut Switches) -> Status
+    ensures { λ r. ⌜ (r ≡ disableAnswer (now (switches .entry)) .status) × (now (switches .exit) ≡ disableAnswer (now (switches .entry)) .switches) ⌝ }
+{
+    let answer = disable(*switches);
+    *switches = answer.switches;
+    answer.status
+}

@@ -1,5 +1,4 @@
 -- `entry::lock_of` meets its contract. Assumes nothing.
-use Prim.Native.Nat.{_≤_}
 use native.Mathlib.Omega.{arith}
 use borrow.Author.Tests.{eq-eqb, ne-eqb}
 use Rattle.entry.specs.Entry.{lockOf}

@@ -1,9 +1,8 @@
 -- `names::is_hex_digit` meets its contract. Assumes nothing.
 use Rattle.slices.specs.Test.{_and_}
 use Rattle.names.specs.Name.{isHexDigit}
-use borrow.Author.Tests.{eq-eqb, ne-eqb, le-leb, lt-leb}
+use borrow.Author.Tests.{le-leb, lt-leb}
 use native.Mathlib.Omega.{arith}
-use borrow.Author.Needs.{needs}
 use Rattle.names.proofs.is_hex_digit.Statement.{statement}
 use Rattle.names.proofs.is_hex_digit.Tie as tie
 

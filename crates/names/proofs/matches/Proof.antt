@@ -6,7 +6,7 @@ use Rattle.slices.specs.Bytes.{pairwise}
 use lib.ListN.{drop}
 use native.Mathlib.Omega.{arith}
 use mathlib.Core.Path.{_≡_, refl, sym, ap₂, _∙_}
-use Prim.Native.Nat.{_≤_, _<_, _-_, _+_}
+use Prim.Native.Nat.{_≤_, _-_}
 use borrow.Author.Needs.{needs}
 use Rattle.names.proofs.matches.Statement.{statement}
 use Rattle.names.proofs.matches.Tie as tie

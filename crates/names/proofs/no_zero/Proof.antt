@@ -5,7 +5,7 @@ use Rattle.names.specs.Name.{units, noZero}
 use lib.ListN.{drop}
 use native.Mathlib.Omega.{arith}
 use mathlib.Core.Path.{_≡_, refl, sym, _∙_}
-use Prim.Native.Nat.{_≤_, _<_, _-_, _+_}
+use Prim.Native.Nat.{_≤_, _-_}
 use borrow.Author.Needs.{needs}
 use Rattle.names.proofs.no_zero.Statement.{statement}
 use Rattle.names.proofs.no_zero.Tie as tie

@@ -1,7 +1,6 @@
 -- `names::unit_count` meets its contract. Assumes nothing.
 use Rattle.names.specs.NameLaws.{units-length}
 use native.Mathlib.Omega.{arith}
-use borrow.Author.Needs.{needs}
 use Rattle.names.proofs.unit_count.Statement.{statement}
 use Rattle.names.proofs.unit_count.Tie as tie
 

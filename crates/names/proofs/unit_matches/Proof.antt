@@ -1,7 +1,7 @@
 -- `names::unit_matches` meets its contract. Assumes nothing.
 use Rattle.slices.specs.Test.{_and_}
 use Rattle.names.specs.Name.{unitMatches}
-use borrow.Author.Tests.{eq-eqb, ne-eqb, le-leb, lt-leb}
+use borrow.Author.Tests.{eq-eqb, ne-eqb}
 use borrow.Author.Needs.{needs}
 use Rattle.names.proofs.unit_matches.Statement.{statement}
 use Rattle.names.proofs.unit_matches.Tie as tie

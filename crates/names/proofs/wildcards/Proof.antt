@@ -5,8 +5,8 @@ use Rattle.names.specs.NameLaws.{wildcards-hit, wildcards-miss, wildcard
 use Rattle.names.specs.Name.{units, wildcards}
 use lib.ListN.{drop}
 use native.Mathlib.Omega.{arith}
-use mathlib.Core.Path.{_≡_, refl, sym, _∙_}
-use Prim.Native.Nat.{_≤_, _<_, _-_, _+_}
+use mathlib.Core.Path.{_≡_, sym, _∙_}
+use Prim.Native.Nat.{_≤_, _-_, _+_}
 use borrow.Author.Needs.{needs}
 use Rattle.names.proofs.wildcards.Statement.{statement}
 use Rattle.names.proofs.wildcards.Tie as tie

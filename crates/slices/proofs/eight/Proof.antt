@@ -1,8 +1,8 @@
 -- `slices::eight` meets its contract: the answer is `ok` and the answer from j on. Assumes nothing.
-use mathlib.Core.Path.{_≡_, refl, sym, ap, _∙_}
-use Prim.Native.Nat.{ℕ, _≤_, _<_, _-_, _+_}
+use mathlib.Core.Path.{_≡_, ap, _∙_}
+use Prim.Native.Nat.{ℕ, _≤_, _-_, _+_}
 use native.Mathlib.Omega.{arith}
-use lib.ListN.{length, drop}
+use lib.ListN.{drop}
 use Rattle.slices.specs.Test.{_and_}
 use Rattle.slices.specs.Bytes.{same}
 use Rattle.slices.specs.BytesLaws.{same-more, same-zero}

@@ -1,11 +1,9 @@
 -- `slices::fill` meets its contract: after i turns the first i bytes are in place.
 -- Assumes nothing.
-use mathlib.Core.Path.{_≡_, refl, sym, ap, _∙_}
-use Prim.Native.Nat.{_≤_, _<_, _-_, _+_, suc}
+use mathlib.Core.Path.{_≡_, refl, sym, _∙_}
+use Prim.Native.Nat.{_≤_, _-_}
 use native.Mathlib.Omega.{arith}
-use native.Mathlib.Nat.{le-antisymm}
-use native.Mathlib.Numerals.{add-one}
-use lib.ListN.{length, take, drop, replicate, getD-replicate, length-replicate, length-set}
+use lib.ListN.{length, replicate, getD-replicate, length-replicate, length-set}
 use Rattle.slices.proofs.Writes.{upto, upto-start, upto-step, upto-done}
 use Rattle.slices.proofs.fill.Statement.{statement}
 use Rattle.slices.proofs.fill.Tie as tie

@@ -1,11 +1,10 @@
 -- `slices::move_down` meets its contract: after i turns the first i bytes are in place.
 -- Assumes nothing.
-use mathlib.Core.Path.{_≡_, refl, sym, ap, _∙_}
-use Prim.Native.Nat.{_≤_, _<_, _-_, _+_, suc}
+use mathlib.Core.Path.{_≡_, refl, sym, _∙_}
+use Prim.Native.Nat.{_≤_, _<_, _-_, _+_}
 use native.Mathlib.Omega.{arith}
 use native.Mathlib.Nat.{le-of-lt}
-use native.Mathlib.Numerals.{add-one}
-use lib.ListN.{length, take, drop, replicate, getD-replicate, length-replicate, length-set}
+use lib.ListN.{length, take, drop, length-set}
 use Rattle.slices.proofs.Writes.{upto, upto-start, upto-step, upto-done, upto-behind}
 use Rattle.slices.specs.PartLaws.{length-middle, getD-middle}
 use Rattle.slices.proofs.move_down.Statement.{statement}
@@ -43,8 +42,9 @@ loop-again c =
     let l = c .before .before in
     let a = l .before .args in
     let i = l .loop .i in
+    let h : a .from + a .n ≤ length (a .s .now) = omega arith in
     let v = getD-middle (a .s .now) (a .from) (a .n) i (c .before .loop-test .taken) in
-    let k : i < length (take (a .n) (drop (a .from) (a .s .now))) = rw (length-middle (a .s .now) (a .from) (a .n) (l .before .pre .1)) (c .before .loop-test .taken) in
+    let k : i < length (take (a .n) (drop (a .from) (a .s .now))) = rw (length-middle (a .s .now) (a .from) (a .n) h) (c .before .loop-test .taken) in
     let r = upto-behind _ _ _ _ (a .from + i) (l .loop .inv .1) (omega arith) (le-of-lt k) (omega arith) in
     (omega arith, upto-step _ _ _ _ (l .loop .inv .1) (omega arith) k (r ∙ sym v), simp length-set (l .loop .inv .2))
 
@@ -56,7 +56,8 @@ returns c =
     let l = c .before in
     let a = l .before .args in
     let e : a .n ≡ l .loop .i = omega arith in
-    upto-done _ _ _ _ (l .loop .inv .1) (length-middle _ _ _ (l .before .pre .1) ∙ e)
+    let h : a .from + a .n ≤ length (a .s .now) = omega arith in
+    upto-done _ _ _ _ (l .loop .inv .1) (length-middle _ _ _ h ∙ e)
 
 pub move-down-spec : {M : Type 1} → statement M
 move-down-spec = tie.close (tie.spec Inv-loop μ-loop loop-holds add-s slice-read-s add-s-2 slice-write-s add-i loop-less loop-again same-length returns)

@@ -3,9 +3,7 @@
 use mathlib.Core.Path.{_≡_, refl, sym, ap, _∙_}
 use Prim.Native.Nat.{_≤_, _<_, _-_, _+_, suc}
 use native.Mathlib.Omega.{arith}
-use native.Mathlib.Nat.{le-of-lt}
-use native.Mathlib.Numerals.{add-one}
-use lib.ListN.{length, take, drop, replicate, getD-replicate, length-replicate, length-set}
+use lib.ListN.{length, take, drop, length-set}
 use Rattle.slices.proofs.Writes.{downto, downto-start, downto-step, downto-done, downto-before}
 use Rattle.slices.specs.PartLaws.{length-middle, getD-middle}
 use Rattle.slices.proofs.move_up.Statement.{statement}

@@ -1,0 +1,39 @@
+-- The bytes of the chosen entry in the policy record. Assumes nothing.
+use Prim.Native.Nat.{ℕ, _+_, _≤_}
+use mathlib.Core.Path.{_≡_, sym, ap, _∙_, subst⁻¹}
+use mathlib.Core.Bool.{true}
+use mathlib.Core.Option.{Option, some}
+use native.Mathlib.Omega.{arith}
+use lib.ListN.{length}
+use Rattle.slices.specs.Bytes.{Bytes, le16, part}
+use Rattle.names.specs.Name.{Variable}
+use Rattle.entry.specs.Entry.{wellFormed}
+use Rattle.entry.specs.EntryLaws.{sized}
+use Rattle.policy.specs.Policy.{entriesOf}
+use Rattle.policy.specs.Choice.{chosen, choiceOf}
+use Rattle.policy.specs.ChoiceLaws.{Speaks, choice-some, chosen-formed, chosen-within, chosen-size, chosen-entry}
+use Rattle.policy.specs.declared.Choice.the-variants.{Chosen}
+
+module _ (p : Bytes) (v : Variable) (i at r : ℕ) (k : choiceOf (entriesOf p) v ≡ Chosen i at r) where
+  s : Speaks (entriesOf p) v i at r
+  s = choice-some (entriesOf p) v i at r k
+
+  formed : wellFormed (s .entry) ≡ true
+  formed = chosen-formed p v i at r (s .entry) (s .place)
+
+  pub header-within : at + 44 ≤ length p
+  header-within = let w = chosen-within p v i at r (s .entry) (s .place) in let l = sized (s .entry) formed .least in omega arith
+
+  -- n is what stands in the Size field
+  module _ (n : ℕ) (e : n ≡ le16 p (at + 4)) where
+    pub end-within : at + n ≤ length p
+    end-within = let w = chosen-within p v i at r (s .entry) (s .place) in let z = chosen-size p v i at r (s .entry) (s .place) in omega arith
+
+    entry-is : part at (at + n) p ≡ s .entry
+    entry-is = ap (λ m. part at (at + m) p) e ∙ chosen-entry p v i at r (s .entry) (s .place)
+
+    pub entry-formed : wellFormed (part at (at + n) p) ≡ true
+    entry-formed = ap wellFormed entry-is ∙ formed
+
+    pub entry-chosen : chosen (entriesOf p) v ≡ some (part at (at + n) p)
+    entry-chosen = s .is ∙ ap some (sym entry-is)

@@ -1,0 +1,3 @@
+pub mod Hashed
+pub mod Seen
+pub mod Both

@@ -1,0 +1,4 @@
+pub mod Walk
+pub mod Writes
+pub mod Best
+pub mod Marked

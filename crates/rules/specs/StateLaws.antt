@@ -1,0 +1,151 @@
+-- The states that calls lead to. A power-on that answers 0 leads to a sound state from any state, and every call from a
+-- sound state to a sound state. Assumes nothing.
+use Prim.Native.Nat.{suc, _+_, _≤_}
+use mathlib.Core.Path.{_≡_, refl}
+use mathlib.Core.List.{List, [], append-nil}
+use mathlib.Core.Bool.{Bool, true, false, not, cond, true≢false, false≢true}
+use native.Mathlib.Omega.{arith}
+use lib.ListN.{length}
+use lib.Dec.{eqb, leb}
+use borrow.Author.Tests.{leb-true}
+use Rattle.limits.specs.Limits.{maxEntries, policyBytes, maxStore}
+use Rattle.slices.specs.Test.{_and_}
+use Rattle.slices.specs.TestLaws.{and-left, and-right, and-intro}
+use Rattle.slices.specs.Bytes.{Bytes}
+use Rattle.slices.specs.Chunks.{flat, contains, distinct}
+use Rattle.slices.specs.ChunksLaws.{nil}
+use Rattle.entry.specs.Entry.{wellFormed, sameTarget}
+use Rattle.policy.specs.Policy.{entriesOf, emptyPolicy, policyValid}
+use Rattle.policy.specs.PolicyLaws.{sizesSum-flat, entries-policy, policy-append}
+use Rattle.policy.specs.Choice.{chosen}
+use Rattle.store.specs.Store.{storeOk}
+use Rattle.store.specs.StoreLaws.{records-erased, storeOk-erased}
+use Rattle.pair.specs.Pair.{sound, soundAlone}
+use Rattle.status.specs.declared.Status.{Status}
+use Rattle.status.specs.declared.Status.the-variants.{Success, InvalidParameter, WriteProtected, OutOfResources, VolumeCorrupted, AlreadyStarted}
+use Rattle.status.specs.Status.{isSuccess}
+use Rattle.rules.specs.Set.{setStatus}
+use Rattle.rules.specs.SetLaws.{set-sound}
+use Rattle.rules.specs.Engine.{State, Call, powerOnStatus, registerStatus, speaking, setStatusBy, status, erased, effect, step}
+use Rattle.rules.specs.Engine.Call.{powerOn, restart, register, dump, lock, disable, query, read, set}
+
+-- sound stores, a valid policy record, and a disabled engine has leave to disable
+pub record Sound (s : State) : Type 0 where
+  pub stores : sound (s .nv) (s .vol) ≡ true
+  pub policy : policyValid (s .policy) ≡ true
+  pub leave : s .switches .enabled ≡ false → s .switches .«disabling_allowed» ≡ true
+
+-- ---- what a status of 0 says
+
+-- a test before a status
+passed : (b : Bool) (n : Status) → isSuccess (cond b n VolumeCorrupted) ≡ true → (b ≡ true) × (isSuccess n ≡ true)
+passed true n h = (refl, h)
+passed false n h = absurd (false≢true h)
+
+-- a registration's tests
+pub record Registered (locked : Bool) (es : List Bytes) (e : Bytes) : Type 0 where
+  pub unlocked : locked ≡ false
+  pub formed : wellFormed e ≡ true
+  pub new : contains (sameTarget e) es ≡ false
+  pub few : suc (length es) ≤ maxEntries
+  pub room : length (flat es) + length e ≤ policyBytes
+
+register-tests : (l f a r : Bool)
+    → isSuccess (cond l WriteProtected (cond (not f) InvalidParameter (cond a AlreadyStarted (cond r Success OutOfResources)))) ≡ true
+    → (l ≡ false) × (f ≡ true) × (a ≡ false) × (r ≡ true)
+register-tests true f a r h = absurd (false≢true h)
+register-tests false false a r h = absurd (false≢true h)
+register-tests false true true r h = absurd (false≢true h)
+register-tests false true false false h = absurd (false≢true h)
+register-tests false true false true h = (refl, refl, refl, refl)
+
+pub register-granted : (locked : Bool) (es : List Bytes) (e : Bytes) → isSuccess (registerStatus locked es e) ≡ true → Registered locked es e
+unfolding registerStatus
+register-granted locked es e h =
+    let t = register-tests locked (wellFormed e) (contains (sameTarget e) es)
+    (leb (suc (length es)) maxEntries and leb (length (flat es) + length e) policyBytes) h in
+    record {
+      unlocked = t .0;
+      formed = t .1;
+      new = t .2;
+      few = leb-true _ _ (and-left _ _ (t .3));
+      room = leb-true _ _ (and-right (leb (suc (length es)) maxEntries) _ (t .3));
+    }
+
+-- a disable's tests
+disable-tests : (e l a : Bool) → isSuccess (cond e (cond l WriteProtected (cond a Success WriteProtected)) AlreadyStarted) ≡ true → a ≡ true
+disable-tests true true a h = absurd (false≢true h)
+disable-tests true false true h = refl
+disable-tests true false false h = absurd (false≢true h)
+disable-tests false l a h = absurd (false≢true h)
+
+-- ---- power-on
+
+erased-sound : (nv vol : Bytes) → soundAlone nv ≡ true → length vol ≤ maxStore → sound nv (erased vol) ≡ true
+unfolding sound soundAlone
+erased-sound nv vol h k =
+    and-intro _ _ (and-left _ _ h)
+    (and-intro _ _ (storeOk-erased false (length vol) k) (rw (records-erased false (length vol), append-nil) (and-right (storeOk true nv) _ h)))
+
+pub empty-valid : policyValid emptyPolicy ≡ true
+unfolding flat distinct
+empty-valid = entries-policy [] (record { formed = nil; few = omega arith; room = omega arith; apart = refl })
+
+powered : (s : State) (allowed : Bool) → isSuccess (status s (powerOn allowed)) ≡ true → Sound (effect s (powerOn allowed))
+unfolding powerOnStatus
+powered s allowed h =
+    let t = passed (soundAlone (s .nv) and leb (length (s .vol)) maxStore and eqb (length (s .policy)) policyBytes) Success h .0 in
+    record {
+      stores = erased-sound (s .nv) (s .vol) (and-left _ _ t) (leb-true _ _ (and-left _ _ (and-right (soundAlone (s .nv)) _ t)));
+      policy = empty-valid;
+      leave = λ x. absurd (true≢false x);
+    }
+
+-- ---- every call
+
+effect-sound : (s : State) (c : Call) → Sound s → isSuccess (status s c) ≡ true → Sound (effect s c)
+unfolding setStatusBy
+effect-sound s (powerOn allowed) w h = powered s allowed h
+effect-sound s (restart allowed) w h = record { stores = w .stores; policy = empty-valid; leave = λ x. absurd (true≢false x) }
+effect-sound s (register e) w h =
+    let t = register-granted (s .switches .locked) (entriesOf (s .policy)) e
+    (passed (policyValid (s .policy)) (registerStatus (s .switches .locked) (entriesOf (s .policy)) e) h .1) in
+    let few = t .few in
+    let room = t .room in
+    record {
+      stores = w .stores;
+      policy = policy-append (s .policy) e (w .policy) (t .formed) (t .new) (omega arith) (omega (arith, sizesSum-flat (s .policy)));
+      leave = w .leave;
+    }
+effect-sound s (dump buffer) w h = w
+effect-sound s lock w h = record { stores = w .stores; policy = w .policy; leave = w .leave }
+effect-sound s disable w h =
+    record {
+      stores = w .stores;
+      policy = w .policy;
+      leave = λ x. disable-tests (s .switches .enabled) (s .switches .locked) (s .switches .«disabling_allowed») h;
+    }
+effect-sound s query w h = w
+effect-sound s (read v) w h = w
+effect-sound s (set r) w h =
+    let e = speaking (s .switches .enabled) (chosen (entriesOf (s .policy)) (r .variable)) in
+    record {
+      stores = set-sound e (s .nv) (s .vol) r (w .stores)
+          (passed (sound (s .nv) (s .vol) and policyValid (s .policy)) (setStatus e (s .nv) (s .vol) r) h .1);
+      policy = w .policy;
+      leave = w .leave;
+    }
+
+-- EVERY CALL FROM A SOUND STATE LEADS TO A SOUND STATE
+pub step-sound : (s : State) (c : Call) → Sound s → Sound (step s c .1)
+unfolding step
+step-sound s c w = go (isSuccess (status s c)) refl
+  where
+    go : (b : Bool) → isSuccess (status s c) ≡ b → Sound (cond b (effect s c) s)
+    go true e = effect-sound s c w e
+    go false e = w
+
+-- A POWER-ON THAT ANSWERS 0 LEADS TO A SOUND STATE, whatever the state was
+pub power-on-sound : (s : State) (allowed : Bool) → isSuccess (step s (powerOn allowed) .0 .status) ≡ true → Sound (step s (powerOn allowed) .1)
+unfolding step
+power-on-sound s allowed h = rw h (powered s allowed h)

@@ -1,0 +1,4 @@
+pub mod Tests
+pub mod Walk
+pub mod Resize
+pub mod Edits

@@ -1,0 +1,98 @@
+/** @file
+  A rail that is locked while the variable "RailLock" holds 0. An absent "RailLock" locks nothing, so
+  the bring-up script can turn the rail down to 1.8 V; once "RailLock" holds 0, nobody turns it up again.
+
+  SPDX-License-Identifier: BSD-2-Clause-Patent
+**/
+#include <stdio.h>
+#include <string.h>
+
+#include "varpolicy.h"
+
+_Static_assert(sizeof(varpolicy_switches) == 3, "layout of the switches");
+_Static_assert(sizeof(varpolicy_started) == 8, "layout of a start's answer");
+_Static_assert(sizeof(varpolicy_dumped) == 16, "layout of a dump's answer");
+_Static_assert(sizeof(varpolicy_state) == 8, "layout of a query's answer");
+_Static_assert(sizeof(varpolicy_found) == 32, "layout of a read's answer");
+
+static const uint8_t Board[VARPOLICY_NAMESPACE_BYTES] = {0x5C, 0x67, 0xD1, 0x81, 0xF6, 0x86, 0xDF, 0x48,
+                                                         0xBD, 0x95, 0x9A, 0x6E, 0x4F, 0x09, 0x25, 0xC3};
+
+/* The units of the two names, little-endian, without a closing zero. */
+static const uint8_t Rail[]     = {'R', 0, 'a', 0, 'i', 0, 'l', 0};
+static const uint8_t RailLock[] = {'R', 0, 'a', 0, 'i', 0, 'l', 0, 'L', 0, 'o', 0, 'c', 0, 'k', 0};
+
+/* What the engine is lent. */
+static uint8_t            NonVolatile[256];
+static uint8_t            Volatile[256];
+static uint8_t            Policy[VARPOLICY_POLICY_BYTES];
+static varpolicy_switches Switches;
+
+/* Writes a name and a zero unit at *at, and moves *at behind them. */
+static void put_name(uint8_t *entry, size_t *at, const uint8_t *name, size_t length) {
+  memcpy(entry + *at, name, length);
+  memset(entry + *at + length, 0, 2);
+  *at += length + 2;
+}
+
+/* Packs an entry of type 3: "Rail" is locked while "RailLock" holds 0. Answers its length. */
+static size_t pack_entry(uint8_t entry[VARPOLICY_MAX_ENTRY_SIZE]) {
+  size_t at = 44;
+
+  memset(entry, 0, VARPOLICY_MAX_ENTRY_SIZE);
+  entry[2] = 1;                                  /* Version 0x00010000 */
+  memcpy(entry + 8, Board, sizeof Board);        /* Namespace */
+  memset(entry + 28, 0xFF, 4);                   /* MaxSize */
+  entry[40] = VARPOLICY_TYPE_LOCK_ON_VAR_STATE;  /* LockPolicyType */
+  memcpy(entry + at, Board, sizeof Board);       /* the trigger's Namespace; its Value is 0 */
+  at += sizeof Board + 2;
+  put_name(entry, &at, RailLock, sizeof RailLock);
+  entry[6] = (uint8_t)at;                        /* OffsetToName */
+  put_name(entry, &at, Rail, sizeof Rail);
+  entry[4] = (uint8_t)at;                        /* Size */
+  return at;
+}
+
+static uint32_t set(const uint8_t *name, size_t name_len, uint32_t attributes, const char *payload, size_t length) {
+  return varpolicy_set(NonVolatile, sizeof NonVolatile, Volatile, sizeof Volatile, Policy, sizeof Policy, Switches,
+                       Board, name, name_len, attributes, (const uint8_t *)payload, length);
+}
+
+static uint32_t set_rail(const char *volts) {
+  uint32_t status = set(Rail, sizeof Rail, VARPOLICY_ATTRIBUTE_NV | VARPOLICY_ATTRIBUTE_BS, volts, strlen(volts));
+
+  printf("set the rail to %s: status %u\n", volts, (unsigned)status);
+  return status;
+}
+
+int main(void) {
+  uint8_t           entry[VARPOLICY_MAX_ENTRY_SIZE];
+  size_t            size = pack_entry(entry);
+  varpolicy_started started;
+  varpolicy_found   found;
+
+  memset(NonVolatile, 0xFF, sizeof NonVolatile);
+  started  = varpolicy_power_on(NonVolatile, sizeof NonVolatile, Volatile, sizeof Volatile, Policy, sizeof Policy, false);
+  Switches = started.switches;
+  if (started.status != VARPOLICY_SUCCESS ||
+      varpolicy_register(Policy, sizeof Policy, Switches, entry, size) != VARPOLICY_SUCCESS ||
+      varpolicy_lock(&Switches) != VARPOLICY_SUCCESS) {
+    return 1;
+  }
+  if (set_rail("3.3 V") != VARPOLICY_SUCCESS || set_rail("1.8 V") != VARPOLICY_SUCCESS) {
+    return 1;
+  }
+  if (set(RailLock, sizeof RailLock, VARPOLICY_ATTRIBUTE_BS, "\0", 1) != VARPOLICY_SUCCESS) {
+    return 1;
+  }
+  puts("RailLock holds 0");
+  if (set_rail("3.3 V") != VARPOLICY_WRITE_PROTECTED) {
+    return 1;
+  }
+  found = varpolicy_read(NonVolatile, sizeof NonVolatile, Volatile, sizeof Volatile, Board, Rail, sizeof Rail);
+  if (found.status != VARPOLICY_SUCCESS || !found.non_volatile) {
+    return 1;
+  }
+  printf("the rail is at %.*s\n", (int)found.length, (const char *)NonVolatile + found.offset);
+  return 0;
+}

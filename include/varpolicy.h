@@ -1,0 +1,348 @@
+/** @file
+  The calls of libvarpolicy.a, a proved engine for UEFI variable policy.
+
+  The engine keeps no memory of its own. The caller lends it
+
+  - a non-volatile and a volatile store of variables, 0 to 32,768 bytes each: records with EDK2's
+    variable header (0x55AA, state 0x3F) end to end, then 0xFF;
+  - a policy record of exactly 8,192 bytes: packed entries end to end, then zeros;
+  - three switches, varpolicy_switches.
+
+  Every call checks all of what it is lent, and answers VARPOLICY_VOLUME_CORRUPTED before all else if
+  that is not so. A call that answers anything but VARPOLICY_SUCCESS has written nothing, and every
+  number beside the status is zero, but for the needed length at VARPOLICY_BUFFER_TOO_SMALL and the
+  switches of a refused start.
+
+  A status is the low part of an EFI_STATUS, without the high bit. The statuses of a call are listed
+  in the order in which they are tested.
+
+  Pointers: each must be valid for its length, and not NULL even where the length is 0. What is lent
+  for writing may not overlap anything else lent to the same call. Nothing is kept after a call, so
+  calls on different memory may run at the same time.
+
+  Machine: x86-64 with the System V calling convention, SSE2 and the red zone (the 128 bytes below
+  the stack pointer are used, so an interrupt handler must not run on the same stack unless it skips
+  them). With GCC and Clang the declarations say sysv_abi, so that code built for Microsoft's
+  convention, as UEFI's is, can call them. There is no heap, no static data that is written, and no
+  libc but memcpy, memset and memmove, which the caller's program must provide.
+
+  SPDX-License-Identifier: BSD-2-Clause-Patent
+**/
+#ifndef VARPOLICY_H_
+#define VARPOLICY_H_
+
+#include <stdbool.h>
+#include <stddef.h>
+#include <stdint.h>
+
+#ifdef __cplusplus
+extern "C" {
+#endif
+
+#if defined(__GNUC__) && defined(__x86_64__)
+#define VARPOLICY_CALL __attribute__((sysv_abi))
+#else
+#define VARPOLICY_CALL
+#endif
+
+/* Statuses. */
+#define VARPOLICY_SUCCESS           0U
+#define VARPOLICY_INVALID_PARAMETER 2U
+#define VARPOLICY_UNSUPPORTED       3U
+#define VARPOLICY_BUFFER_TOO_SMALL  5U
+#define VARPOLICY_WRITE_PROTECTED   8U
+#define VARPOLICY_OUT_OF_RESOURCES  9U
+#define VARPOLICY_VOLUME_CORRUPTED  10U
+#define VARPOLICY_NOT_FOUND         14U
+#define VARPOLICY_ALREADY_STARTED   20U
+
+/* Attributes. */
+#define VARPOLICY_ATTRIBUTE_NV     0x01U /* non-volatile */
+#define VARPOLICY_ATTRIBUTE_BS     0x02U /* visible to boot services; every stored variable has it */
+#define VARPOLICY_ATTRIBUTE_RT     0x04U /* visible at run time */
+#define VARPOLICY_ATTRIBUTE_APPEND 0x40U /* of a request only: the payload is joined to what is stored */
+
+/* LockPolicyType of an entry. */
+#define VARPOLICY_TYPE_NO_LOCK           0U
+#define VARPOLICY_TYPE_LOCK_NOW          1U
+#define VARPOLICY_TYPE_LOCK_ON_CREATE    2U
+#define VARPOLICY_TYPE_LOCK_ON_VAR_STATE 3U
+
+/* Limits. */
+#define VARPOLICY_ENTRY_VERSION   0x00010000U
+#define VARPOLICY_MIN_ENTRY_SIZE  44U    /* bytes of an entry without trigger and name */
+#define VARPOLICY_MAX_ENTRY_SIZE  322U   /* bytes of an entry with two names of 64 units */
+#define VARPOLICY_MAX_ENTRIES     64U    /* entries of an engine */
+#define VARPOLICY_POLICY_BYTES    8192U  /* bytes of the policy record, and most that the Sizes sum to */
+#define VARPOLICY_MAX_STORE_BYTES 32768U /* bytes of a store */
+#define VARPOLICY_MAX_PAYLOAD     1024U  /* bytes of a payload */
+#define VARPOLICY_MAX_NAME_UNITS  64U    /* 16-bit units of a name */
+#define VARPOLICY_NAMESPACE_BYTES 16U    /* bytes of a namespace, as an EFI_GUID lies in memory */
+
+/**
+  The switches of an engine: kept by the caller, lent to the calls.
+**/
+typedef struct {
+  bool enabled;           /* entries are enforced */
+  bool locked;            /* no more entries are registered */
+  bool disabling_allowed; /* the engine may be disabled */
+} varpolicy_switches;
+
+/** What varpolicy_power_on and varpolicy_restart answer. **/
+typedef struct {
+  uint32_t           status;
+  varpolicy_switches switches;
+} varpolicy_started;
+
+/** What varpolicy_dump answers. **/
+typedef struct {
+  uint32_t status;
+  size_t   length; /* bytes written or, with VARPOLICY_BUFFER_TOO_SMALL, needed */
+} varpolicy_dumped;
+
+/** What varpolicy_query answers. **/
+typedef struct {
+  uint32_t status;
+  bool     enabled;
+} varpolicy_state;
+
+/** What varpolicy_read answers: where the payload stands in the store that non_volatile names. **/
+typedef struct {
+  uint32_t status;
+  uint32_t attributes;
+  bool     non_volatile; /* the non-volatile store holds the variable */
+  size_t   offset;       /* of the payload's first byte in that store */
+  size_t   length;       /* of the payload */
+} varpolicy_found;
+
+/**
+  Powers an engine on: fills the volatile store with 0xFF and the policy record with zeros. The engine
+  is then enabled, unlocked and empty.
+
+  @param[in]  nv                 The non-volatile store.
+  @param[in]  nv_len             Its length.
+  @param[out] vol                The volatile store, with any content.
+  @param[in]  vol_len            Its length.
+  @param[out] policy             The policy record, with any content.
+  @param[in]  policy_len         Its length, VARPOLICY_POLICY_BYTES.
+  @param[in]  disabling_allowed  Whether varpolicy_disable may succeed.
+
+  @retval VARPOLICY_VOLUME_CORRUPTED  The non-volatile store is unsound, the volatile one has more than
+                                      VARPOLICY_MAX_STORE_BYTES bytes, or the policy record is of another
+                                      length. The switches handed back are enabled, locked, and without
+                                      leave to disable; an engine already running keeps its own.
+  @retval VARPOLICY_SUCCESS           The engine is on, with the switches handed back.
+**/
+VARPOLICY_CALL varpolicy_started
+varpolicy_power_on (
+  const uint8_t *nv,
+  size_t         nv_len,
+  uint8_t       *vol,
+  size_t         vol_len,
+  uint8_t       *policy,
+  size_t         policy_len,
+  bool           disabling_allowed
+  );
+
+/**
+  Starts an engine over stores that are kept: as varpolicy_power_on, but both stores must be sound, and
+  neither is written.
+
+  @param[in]  nv                 The non-volatile store.
+  @param[in]  nv_len             Its length.
+  @param[in]  vol                The volatile store.
+  @param[in]  vol_len            Its length.
+  @param[out] policy             The policy record, with any content.
+  @param[in]  policy_len         Its length, VARPOLICY_POLICY_BYTES.
+  @param[in]  disabling_allowed  Whether varpolicy_disable may succeed.
+
+  @retval VARPOLICY_VOLUME_CORRUPTED  The stores are unsound, or the policy record is of another length.
+                                      The switches are as in varpolicy_power_on.
+  @retval VARPOLICY_SUCCESS           The engine is on, with the switches handed back.
+**/
+VARPOLICY_CALL varpolicy_started
+varpolicy_restart (
+  const uint8_t *nv,
+  size_t         nv_len,
+  const uint8_t *vol,
+  size_t         vol_len,
+  uint8_t       *policy,
+  size_t         policy_len,
+  bool           disabling_allowed
+  );
+
+/**
+  Registers a packed entry (VARIABLE_POLICY_ENTRY). A disabled engine still registers.
+
+  @param[in,out] policy      The policy record.
+  @param[in]     policy_len  Its length.
+  @param[in]     switches    The switches.
+  @param[in]     entry       The packed entry.
+  @param[in]     entry_len   Its length, which its Size must equal.
+
+  @retval VARPOLICY_VOLUME_CORRUPTED   The policy record is not distinct well-formed entries within the
+                                       limits and then zeros, in VARPOLICY_POLICY_BYTES bytes.
+  @retval VARPOLICY_WRITE_PROTECTED    The engine is locked.
+  @retval VARPOLICY_INVALID_PARAMETER  The entry is malformed.
+  @retval VARPOLICY_ALREADY_STARTED    An entry of the same namespace and name is registered.
+  @retval VARPOLICY_OUT_OF_RESOURCES   It would be the 65th entry, or the Sizes would sum to more than
+                                       VARPOLICY_POLICY_BYTES.
+  @retval VARPOLICY_SUCCESS            The entry stands behind the others.
+**/
+VARPOLICY_CALL uint32_t
+varpolicy_register (
+  uint8_t           *policy,
+  size_t             policy_len,
+  varpolicy_switches switches,
+  const uint8_t     *entry,
+  size_t             entry_len
+  );
+
+/**
+  Writes the entries, end to end in the order registered, to the start of a buffer. Later bytes of the
+  buffer stay.
+
+  @param[in]  policy      The policy record.
+  @param[in]  policy_len  Its length.
+  @param[out] buffer      The buffer.
+  @param[in]  buffer_len  Its length.
+
+  @retval VARPOLICY_VOLUME_CORRUPTED  The policy record is bad, as in varpolicy_register.
+  @retval VARPOLICY_BUFFER_TOO_SMALL  The buffer is shorter than the sum of Sizes, which is the length.
+  @retval VARPOLICY_SUCCESS           The entries are written; the length is the sum of Sizes. Without
+                                      entries it is 0, even for an empty buffer.
+**/
+VARPOLICY_CALL varpolicy_dumped
+varpolicy_dump (
+  const uint8_t *policy,
+  size_t         policy_len,
+  uint8_t       *buffer,
+  size_t         buffer_len
+  );
+
+/**
+  Locks the engine: no entry is registered until the next power-on or restart.
+
+  @param[in,out] switches  The switches.
+
+  @retval VARPOLICY_WRITE_PROTECTED  The engine is locked already.
+  @retval VARPOLICY_SUCCESS          The engine is locked.
+**/
+VARPOLICY_CALL uint32_t
+varpolicy_lock (
+  varpolicy_switches *switches
+  );
+
+/**
+  Disables the engine: no entry is enforced until the next power-on or restart.
+
+  @param[in,out] switches  The switches.
+
+  @retval VARPOLICY_ALREADY_STARTED  The engine is disabled already.
+  @retval VARPOLICY_WRITE_PROTECTED  The engine is locked, or disabling is not allowed.
+  @retval VARPOLICY_SUCCESS          The engine is disabled.
+**/
+VARPOLICY_CALL uint32_t
+varpolicy_disable (
+  varpolicy_switches *switches
+  );
+
+/**
+  Tells whether entries are enforced.
+
+  @param[in] switches  The switches.
+
+  @retval VARPOLICY_SUCCESS  Always.
+**/
+VARPOLICY_CALL varpolicy_state
+varpolicy_query (
+  varpolicy_switches switches
+  );
+
+/**
+  Reads a variable: tells its attributes, and where its payload stands.
+
+  @param[in] nv                  The non-volatile store.
+  @param[in] nv_len              Its length.
+  @param[in] vol                 The volatile store.
+  @param[in] vol_len             Its length.
+  @param[in] variable_namespace  The 16 bytes of the variable's namespace.
+  @param[in] name                The bytes of the 16-bit units of its name, without a closing zero.
+  @param[in] name_len            How many bytes.
+
+  @retval VARPOLICY_VOLUME_CORRUPTED   The stores are unsound.
+  @retval VARPOLICY_INVALID_PARAMETER  The name is not 1 to 64 units, none of them zero.
+  @retval VARPOLICY_NOT_FOUND          No such variable.
+  @retval VARPOLICY_SUCCESS            The variable is as told.
+**/
+VARPOLICY_CALL varpolicy_found
+varpolicy_read (
+  const uint8_t *nv,
+  size_t         nv_len,
+  const uint8_t *vol,
+  size_t         vol_len,
+  const uint8_t  variable_namespace[VARPOLICY_NAMESPACE_BYTES],
+  const uint8_t *name,
+  size_t         name_len
+  );
+
+/**
+  Sets, appends to or deletes a variable.
+
+  Without APPEND, a request with an empty payload or with neither BS nor RT is a deletion; its other
+  attributes are not compared. The entry chosen for a variable is the one with the fewest '#' among
+  those that target it, the first registered among equals, and a whole-namespace entry only if there is
+  no other.
+
+  @param[in,out] nv                  The non-volatile store.
+  @param[in]     nv_len              Its length.
+  @param[in,out] vol                 The volatile store.
+  @param[in]     vol_len             Its length.
+  @param[in]     policy              The policy record.
+  @param[in]     policy_len          Its length.
+  @param[in]     switches            The switches.
+  @param[in]     variable_namespace  The 16 bytes of the variable's namespace.
+  @param[in]     name                The bytes of the 16-bit units of its name, without a closing zero.
+  @param[in]     name_len            How many bytes.
+  @param[in]     attributes          The attributes.
+  @param[in]     payload             The payload.
+  @param[in]     payload_len         Its length.
+
+  @retval VARPOLICY_VOLUME_CORRUPTED   The stores are unsound, or the policy record is bad, as in
+                                       varpolicy_register.
+  @retval VARPOLICY_INVALID_PARAMETER  The name is not 1 to 64 units, none of them zero, or the payload is
+                                       longer than VARPOLICY_MAX_PAYLOAD.
+  @retval VARPOLICY_UNSUPPORTED        An attribute bit outside 0x47.
+  @retval VARPOLICY_INVALID_PARAMETER  RT or APPEND without BS.
+  @retval VARPOLICY_INVALID_PARAMETER  The engine is enabled, an entry is chosen, the request is no
+                                       deletion, and the length of the payload is outside MinSize to
+                                       MaxSize, or a required attribute is missing or a prohibited one set.
+  @retval VARPOLICY_WRITE_PROTECTED    The engine is enabled and the chosen entry locks the variable.
+  @retval VARPOLICY_NOT_FOUND          A deletion, and there is no such variable.
+  @retval VARPOLICY_INVALID_PARAMETER  The variable exists with other NV, BS or RT.
+  @retval VARPOLICY_OUT_OF_RESOURCES   An append would make the payload longer than VARPOLICY_MAX_PAYLOAD,
+                                       or the records would be longer than their store.
+  @retval VARPOLICY_SUCCESS            Stored, appended, deleted or, for an empty append, left as it was.
+**/
+VARPOLICY_CALL uint32_t
+varpolicy_set (
+  uint8_t           *nv,
+  size_t             nv_len,
+  uint8_t           *vol,
+  size_t             vol_len,
+  const uint8_t     *policy,
+  size_t             policy_len,
+  varpolicy_switches switches,
+  const uint8_t      variable_namespace[VARPOLICY_NAMESPACE_BYTES],
+  const uint8_t     *name,
+  size_t             name_len,
+  uint32_t           attributes,
+  const uint8_t     *payload,
+  size_t             payload_len
+  );
+
+#ifdef __cplusplus
+}
+#endif
+
+#endif

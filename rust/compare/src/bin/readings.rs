@@ -1,0 +1,207 @@
+//! The bench readings of document 01, each run by the library and by the reference. The starred ones
+//! are proved as well; the last three are not, and this program is what checks them.
+
+use compare::call::{Answer, Call, Values, by_library, by_reference};
+use compare::make::{EntryFields, G, entry_of_size, unit_bytes, units};
+use compare::state::State;
+use std::process::ExitCode;
+use varpolicy::POLICY_BYTES;
+
+/// An implementation: makes a call on a state.
+type Implementation = fn(&mut State, &Call) -> Answer;
+
+/// A reading: its text, what answers it, and the statuses expected.
+type Reading = (&'static str, fn(Implementation) -> Vec<u32>, &'static [u32]);
+
+const READINGS: [Reading; 13] = [
+    ("*43 bytes: 2. A sound 44-byte entry: 0.", least_entry, &[2, 0]),
+    ("*Type 0, Size 46, name only a zero unit: 2.", zero_unit_name, &[2]),
+    ("*Type 3 with OffsetToName 64: 2; with 66 and one unit: 0.", trigger_name, &[2, 0]),
+    ("*\"Boot####\" targets \"Boot00fF\" and \"Boot####\", not \"Boot000G\".", wildcards, &[8, 8, 0]),
+    (
+        "*\"Boot00##\" then \"Boot##01\": \"Boot0001\" gets the first. Whole namespace first, then \"Boot####\": the second.",
+        ranks,
+        &[8, 0, 0, 8],
+    ),
+    ("*Value 0: trigger absent, write allowed; trigger 00, 8; trigger 00 00, allowed.", triggers, &[0, 8, 0]),
+    ("*Type 2: create 0, rewrite 8, delete 8.", lock_on_create, &[0, 8, 8]),
+    ("*MinSize 2: one byte 2, two bytes 0, then delete 0.", min_size, &[2, 0, 0]),
+    ("*Attributes 4: 2. Attributes 8: 3.", attributes, &[2, 3]),
+    ("*Disable, lock: 0, 0. Lock, disable: 0, 8. Disable twice: 0, 20.", switches, &[0, 0, 0, 8, 0, 20]),
+    ("A 40-byte store: name \"A\" with 4 bytes 0; with 5 bytes 9.", forty_bytes, &[0, 9]),
+    ("Twenty-five entries of 322 and one of 142 make 8,192: all 0; another 9.", full_record, &[0, 8192, 9]),
+    ("The whole dump of two entries, 94 bytes.", whole_dump, &[0, 94, 1]),
+];
+
+fn main() -> ExitCode {
+    let mut all_agree = true;
+    for (text, run, expected) in READINGS {
+        let library = run(by_library);
+        let reference = run(|state, call| by_reference(state, call).0);
+        let agrees = library == expected && reference == expected;
+        all_agree &= agrees;
+        let verdict = if agrees { "ok    " } else { "FAILED" };
+        println!("{verdict} {text} library {library:?} reference {reference:?}");
+    }
+    if all_agree { ExitCode::SUCCESS } else { ExitCode::FAILURE }
+}
+
+/// An engine on the bench: a state, and who runs it.
+struct Bench {
+    state: State,
+    implementation: Implementation,
+}
+
+impl Bench {
+    /// An engine powered on over two empty stores of this length, disabling allowed.
+    fn new(implementation: Implementation, store_len: usize) -> Bench {
+        let store = vec![0xFF; store_len];
+        let state = State::new(&store, &store, &[0; POLICY_BYTES]);
+        let mut bench = Bench { state, implementation };
+        assert_eq!(bench.call(&Call::PowerOn { disabling_allowed: true }), 0);
+        bench
+    }
+
+    fn call(&mut self, call: &Call) -> u32 {
+        (self.implementation)(&mut self.state, call).status.number()
+    }
+
+    fn register(&mut self, fields: &EntryFields) -> u32 {
+        self.call(&Call::Register { entry: fields.pack() })
+    }
+
+    fn set_with(&mut self, name: &str, attributes: u32, payload: &[u8]) -> u32 {
+        let name = unit_bytes(&units(name));
+        self.call(&Call::Set { namespace: G, name, attributes, payload: payload.to_vec() })
+    }
+
+    /// A set with NV and BS.
+    fn set(&mut self, name: &str, payload: &[u8]) -> u32 {
+        self.set_with(name, 3, payload)
+    }
+
+    fn delete(&mut self, name: &str) -> u32 {
+        self.set_with(name, 0, &[])
+    }
+}
+
+fn entry(name: &str) -> EntryFields {
+    EntryFields::new(G, &units(name))
+}
+
+fn locked_now(name: &str) -> EntryFields {
+    EntryFields { lock_type: 1, ..entry(name) }
+}
+
+fn least_entry(implementation: Implementation) -> Vec<u32> {
+    let mut bench = Bench::new(implementation, 256);
+    let mut short = EntryFields { size_off_by: -1, ..entry("") }.pack();
+    short.truncate(43);
+    vec![bench.call(&Call::Register { entry: short }), bench.register(&entry(""))]
+}
+
+fn zero_unit_name(implementation: Implementation) -> Vec<u32> {
+    let fields = EntryFields { name: vec![0, 0], ..entry("") };
+    assert_eq!(fields.pack().len(), 46);
+    vec![Bench::new(implementation, 256).register(&fields)]
+}
+
+fn trigger_name(implementation: Implementation) -> Vec<u32> {
+    let mut bench = Bench::new(implementation, 256);
+    ["", "T"].map(|trigger| bench.register(&entry("A").with_trigger(G, &units(trigger), 0))).to_vec()
+}
+
+fn wildcards(implementation: Implementation) -> Vec<u32> {
+    let mut bench = Bench::new(implementation, 256);
+    assert_eq!(bench.register(&locked_now("Boot####")), 0);
+    ["Boot00fF", "Boot####", "Boot000G"].map(|name| bench.set(name, &[1])).to_vec()
+}
+
+fn ranks(implementation: Implementation) -> Vec<u32> {
+    let policies = [
+        [locked_now("Boot00##"), entry("Boot##01")],
+        [entry("Boot00##"), locked_now("Boot##01")],
+        [locked_now(""), entry("Boot####")],
+        [entry(""), locked_now("Boot####")],
+    ];
+    let answer = |policy: [EntryFields; 2]| {
+        let mut bench = Bench::new(implementation, 256);
+        assert!(policy.iter().all(|fields| bench.register(fields) == 0));
+        bench.set("Boot0001", &[1])
+    };
+    policies.map(answer).to_vec()
+}
+
+fn triggers(implementation: Implementation) -> Vec<u32> {
+    let mut bench = Bench::new(implementation, 256);
+    assert_eq!(bench.register(&entry("A").with_trigger(G, &units("T"), 0)), 0);
+    let absent = bench.set("A", &[1]);
+    assert_eq!(bench.set("T", &[0]), 0);
+    let holds_value = bench.set("A", &[2]);
+    assert_eq!(bench.set("T", &[0, 0]), 0);
+    vec![absent, holds_value, bench.set("A", &[3])]
+}
+
+fn lock_on_create(implementation: Implementation) -> Vec<u32> {
+    let mut bench = Bench::new(implementation, 256);
+    assert_eq!(bench.register(&EntryFields { lock_type: 2, ..entry("A") }), 0);
+    vec![bench.set("A", &[1]), bench.set("A", &[2]), bench.delete("A")]
+}
+
+fn min_size(implementation: Implementation) -> Vec<u32> {
+    let mut bench = Bench::new(implementation, 256);
+    assert_eq!(bench.register(&EntryFields { min_size: 2, ..entry("A") }), 0);
+    vec![bench.set("A", &[1]), bench.set("A", &[1, 2]), bench.delete("A")]
+}
+
+fn attributes(implementation: Implementation) -> Vec<u32> {
+    let mut bench = Bench::new(implementation, 256);
+    [4, 8].map(|attributes| bench.set_with("A", attributes, &[1])).to_vec()
+}
+
+fn switches(implementation: Implementation) -> Vec<u32> {
+    let orders = [[Call::Disable, Call::Lock], [Call::Lock, Call::Disable], [Call::Disable, Call::Disable]];
+    let answers = orders.iter().flat_map(|calls| {
+        let mut bench = Bench::new(implementation, 256);
+        calls.each_ref().map(|call| bench.call(call))
+    });
+    answers.collect()
+}
+
+fn forty_bytes(implementation: Implementation) -> Vec<u32> {
+    [4, 5].map(|len| Bench::new(implementation, 40).set("A", &vec![1; len])).to_vec()
+}
+
+/// The highest status of the 26, the sum of their Sizes, and the status of one more.
+fn full_record(implementation: Implementation) -> Vec<u32> {
+    let mut bench = Bench::new(implementation, 256);
+    let sizes = [vec![322; 25], vec![142]].concat();
+    let entries: Vec<Vec<u8>> = sizes.iter().enumerate().map(|(place, size)| entry_of_size(*size, place)).collect();
+    let sum: usize = entries.iter().map(Vec::len).sum();
+    let statuses = entries.into_iter().map(|entry| bench.call(&Call::Register { entry }));
+    let highest = statuses.max().unwrap_or(0);
+    vec![highest, sum as u32, bench.call(&Call::Register { entry: entry_of_size(44, 26) })]
+}
+
+/// The status, the length, and 1 if the bytes are document 01's, later bytes untouched.
+fn whole_dump(implementation: Implementation) -> Vec<u32> {
+    const DUMP: &str = "00 00 01 00 2C 00 2C 00 G 00 00 00 00 FF FF FF FF 00 00 00 00 00 00 00 00 01 00 00 00 \
+                        00 00 01 00 32 00 2C 00 G 00 00 00 00 FF FF FF FF 00 00 00 00 00 00 00 00 00 00 00 00 \
+                        41 00 23 00 00 00";
+    let mut expected: Vec<u8> = Vec::new();
+    for word in DUMP.split(' ') {
+        match word {
+            "G" => expected.extend(G),
+            digits => expected.push(u8::from_str_radix(digits, 16).expect("two hex digits")),
+        }
+    }
+    expected.resize(100, 0x77);
+    let mut bench = Bench::new(implementation, 256);
+    assert_eq!(bench.register(&locked_now("")), 0);
+    assert_eq!(bench.register(&entry("A#")), 0);
+    let answer = implementation(&mut bench.state, &Call::Dump { buffer: vec![0x77; 100] });
+    let Values::Dumped { length, buffer } = answer.values else {
+        return vec![answer.status.number()];
+    };
+    vec![answer.status.number(), length as u32, u32::from(buffer == expected)]
+}

@@ -1,0 +1,210 @@
+//! One call of a history, as a value, and what it answers; run by the library or by the reference.
+
+use crate::state::{Guarded, State};
+use reference::{RegisterGround, SetGround};
+use varpolicy::{Attributes, Namespace, Status, Switches, calls};
+
+/// A call with its own arguments. The state is lent beside it.
+#[derive(Clone, Debug)]
+#[allow(missing_docs)]
+pub enum Call {
+    PowerOn { disabling_allowed: bool },
+    Restart { disabling_allowed: bool },
+    Register { entry: Vec<u8> },
+    Dump { buffer: Vec<u8> },
+    Lock,
+    Disable,
+    Query,
+    Read { namespace: Namespace, name: Vec<u8> },
+    Set { namespace: Namespace, name: Vec<u8>, attributes: u32, payload: Vec<u8> },
+}
+
+impl Call {
+    /// The name of the call.
+    pub fn name(&self) -> &'static str {
+        match self {
+            Call::PowerOn { .. } => "power-on",
+            Call::Restart { .. } => "restart",
+            Call::Register { .. } => "register",
+            Call::Dump { .. } => "dump",
+            Call::Lock => "lock",
+            Call::Disable => "disable",
+            Call::Query => "query",
+            Call::Read { .. } => "read",
+            Call::Set { .. } => "set",
+        }
+    }
+}
+
+/// The status and every value beside it.
+#[derive(Clone, PartialEq, Eq, Debug)]
+pub struct Answer {
+    /// The status.
+    pub status: Status,
+    /// The values.
+    pub values: Values,
+}
+
+/// The values beside a status.
+#[derive(Clone, PartialEq, Eq, Debug)]
+#[allow(missing_docs)]
+pub enum Values {
+    None,
+    Started(Switches),
+    Dumped { length: usize, buffer: Vec<u8> },
+    State { enabled: bool },
+    Found { attributes: u32, non_volatile: bool, offset: usize, payload: Vec<u8> },
+}
+
+/// Makes the call through the library.
+pub fn by_library(state: &mut State, call: &Call) -> Answer {
+    let State { nv, volatile, policy, switches } = state;
+    match call {
+        Call::PowerOn { disabling_allowed } => {
+            let started = calls::power_on(nv, volatile, policy, *disabling_allowed);
+            start(switches, started.status, started.switches)
+        }
+        Call::Restart { disabling_allowed } => {
+            let started = calls::restart(nv, volatile, policy, *disabling_allowed);
+            start(switches, started.status, started.switches)
+        }
+        Call::Register { entry } => plain(calls::register(policy, *switches, entry)),
+        Call::Dump { buffer } => {
+            let mut guarded = Guarded::new(buffer, 5);
+            let dumped = calls::dump(policy, &mut guarded);
+            assert!(guarded.is_intact(), "a dump has written outside of its buffer");
+            let values = Values::Dumped { length: dumped.length, buffer: guarded.to_vec() };
+            Answer { status: dumped.status, values }
+        }
+        Call::Lock => plain(calls::lock(switches)),
+        Call::Disable => plain(calls::disable(switches)),
+        Call::Query => {
+            let (status, enabled) = calls::query(*switches);
+            Answer { status, values: Values::State { enabled } }
+        }
+        Call::Read { namespace, name } => {
+            let found = calls::read(nv, volatile, namespace, name);
+            let values = Values::Found {
+                attributes: found.attributes.0,
+                non_volatile: found.non_volatile,
+                offset: found.offset,
+                payload: found.payload.to_vec(),
+            };
+            Answer { status: found.status, values }
+        }
+        Call::Set { namespace, name, attributes, payload } => {
+            let request = calls::Request { namespace, name, attributes: Attributes(*attributes), payload };
+            plain(calls::set(nv, volatile, policy, *switches, request))
+        }
+    }
+}
+
+/// What decided a call: the reference's ground for a registration or a set, else the status alone.
+#[derive(Clone, Copy, PartialEq, Eq, PartialOrd, Ord, Debug)]
+#[allow(missing_docs)]
+pub enum Ground {
+    Status,
+    Register(RegisterGround),
+    DisableLocked,
+    DisableNotAllowed,
+    QueryEnabled,
+    QueryDisabled,
+    Set(SetGround),
+}
+
+/// Makes the call through the reference.
+pub fn by_reference(state: &mut State, call: &Call) -> (Answer, Ground) {
+    let State { nv, volatile, policy, switches } = state;
+    let mut ground = Ground::Status;
+    let answer = match call {
+        Call::PowerOn { disabling_allowed } => {
+            let (status, handed) = reference::power_on(nv, volatile, policy, *disabling_allowed);
+            start(switches, translate(status), from_reference(handed))
+        }
+        Call::Restart { disabling_allowed } => {
+            let (status, handed) = reference::restart(nv, volatile, policy, *disabling_allowed);
+            start(switches, translate(status), from_reference(handed))
+        }
+        Call::Register { entry } => {
+            let decided = reference::register(policy, to_reference(*switches), entry);
+            ground = Ground::Register(decided);
+            plain(translate(decided.status()))
+        }
+        Call::Dump { buffer } => {
+            let mut buffer = buffer.clone();
+            let (status, length) = reference::dump(policy, &mut buffer);
+            Answer { status: translate(status), values: Values::Dumped { length, buffer } }
+        }
+        Call::Lock => plain(with_switches(switches, reference::lock)),
+        Call::Disable => {
+            let locked = switches.locked;
+            let status = with_switches(switches, reference::disable);
+            if status == Status::WriteProtected {
+                ground = if locked { Ground::DisableLocked } else { Ground::DisableNotAllowed };
+            }
+            plain(status)
+        }
+        Call::Query => {
+            let (status, enabled) = reference::query(to_reference(*switches));
+            ground = if enabled { Ground::QueryEnabled } else { Ground::QueryDisabled };
+            Answer { status: translate(status), values: Values::State { enabled } }
+        }
+        Call::Read { namespace, name } => read_by_reference(nv, volatile, namespace, name),
+        Call::Set { namespace, name, attributes, payload } => {
+            let request = reference::Request { namespace, name, attributes: *attributes, payload };
+            let decided = reference::set(nv, volatile, policy, to_reference(*switches), request);
+            ground = Ground::Set(decided);
+            plain(translate(decided.status()))
+        }
+    };
+    (answer, ground)
+}
+
+fn read_by_reference(nv: &[u8], volatile: &[u8], namespace: &Namespace, name: &[u8]) -> Answer {
+    match reference::read(nv, volatile, namespace, name) {
+        Ok(found) => {
+            let non_volatile = found.kind == reference::Kind::NonVolatile;
+            let reference::Found { attributes, offset, payload, .. } = found;
+            let values = Values::Found { attributes, non_volatile, offset, payload };
+            Answer { status: Status::Success, values }
+        }
+        Err(status) => {
+            let values = Values::Found { attributes: 0, non_volatile: false, offset: 0, payload: Vec::new() };
+            Answer { status: translate(status), values }
+        }
+    }
+}
+
+/// An answer without values.
+fn plain(status: Status) -> Answer {
+    Answer { status, values: Values::None }
+}
+
+/// After a start that succeeded the history goes on with the switches handed back, else with its own.
+fn start(switches: &mut Switches, status: Status, handed: Switches) -> Answer {
+    if status == Status::Success {
+        *switches = handed;
+    }
+    Answer { status, values: Values::Started(handed) }
+}
+
+fn translate(status: reference::Status) -> Status {
+    Status::from_number(status as u32).expect("both have UEFI's numbers")
+}
+
+fn to_reference(switches: Switches) -> reference::Switches {
+    let Switches { enabled, locked, disabling_allowed } = switches;
+    reference::Switches { enabled, locked, disabling_allowed }
+}
+
+fn from_reference(switches: reference::Switches) -> Switches {
+    let reference::Switches { enabled, locked, disabling_allowed } = switches;
+    Switches { enabled, locked, disabling_allowed }
+}
+
+fn with_switches(switches: &mut Switches, call: fn(&mut reference::Switches) -> reference::Status) -> Status {
+    let mut lent = to_reference(*switches);
+    let status = call(&mut lent);
+    *switches = from_reference(lent);
+    translate(status)
+}

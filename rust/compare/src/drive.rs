@@ -1,0 +1,386 @@
+//! Random histories, each call made by the library and by the reference, everything compared.
+//!
+//! After every call the answers and all lent bytes of both are equal, a refused call has changed
+//! nothing, and no byte outside of what was lent has changed. A history that began with a power-on
+//! is also run by the library a second time without its rebuilds: every answer and every byte of
+//! the stores and switches must be the same, and the policy record and granted dumps may differ only
+//! in the order of the entries, and only after a rebuild in another order (document 01, "Histories
+//! and rebuilds").
+
+use crate::call::{Answer, Call, Ground, Values, by_library, by_reference};
+use crate::coverage::{Coverage, Input};
+use crate::make::Pool;
+use crate::random::Random;
+use crate::state::State;
+use crate::{damage, inputs, make};
+use reference::{Entry, Policy};
+use std::fmt::{self, Display};
+use varpolicy::{MAX_STORE_BYTES, POLICY_BYTES, Status, Switches};
+
+/// Compares for at least `calls` calls and tells what was hit, or the first difference in words.
+pub fn run(calls: u64, seed: u64) -> Result<Coverage, String> {
+    let mut run = Run { random: Random::new(seed), pool: Pool::default(), coverage: Coverage::default(), calls: 0 };
+    let mut number = 0;
+    while run.calls < calls {
+        number += 1;
+        run.pool = Pool::new(&mut run.random);
+        let outcome = if run.random.one_in(5) { run.unrelated_calls() } else { run.history() };
+        outcome.map_err(|what| format!("seed {seed}, history {number}, call {}: {what}", run.calls))?;
+    }
+    Ok(run.coverage)
+}
+
+struct Run {
+    random: Random,
+    /// The names that the history at hand uses most.
+    pool: Pool,
+    coverage: Coverage,
+    calls: u64,
+}
+
+/// The states that the two implementations keep. They are equal between calls.
+struct Sides {
+    library: State,
+    reference: State,
+}
+
+impl Sides {
+    fn new(state: State) -> Sides {
+        Sides { library: state.clone(), reference: state }
+    }
+}
+
+/// A history after its power-on.
+struct History {
+    sides: Sides,
+    /// The state of the same history without its rebuilds.
+    straight: State,
+    /// The entries of the policy record, in the order that stands.
+    order: Vec<Vec<u8>>,
+    /// The entries of the policy record without the rebuilds.
+    straight_order: Vec<Vec<u8>>,
+    /// The entries of the last dump that is still complete.
+    complete_dump: Option<Vec<Vec<u8>>>,
+}
+
+/// A policy record of these entries.
+fn packed(entries: &[Vec<u8>]) -> Vec<u8> {
+    let mut record = entries.concat();
+    record.resize(POLICY_BYTES, 0);
+    record
+}
+
+fn check(holds: bool, what: impl Display) -> Result<(), String> {
+    if holds { Ok(()) } else { Err(what.to_string()) }
+}
+
+/// A difference, written only when there is one.
+struct Difference<'a> {
+    what: &'a str,
+    call: &'a Call,
+    answer: &'a Answer,
+    expected: &'a Answer,
+}
+
+impl Display for Difference<'_> {
+    fn fmt(&self, out: &mut fmt::Formatter) -> fmt::Result {
+        let Difference { what, call, answer, expected } = self;
+        write!(out, "{what}\ncall {call:?}\nlibrary {answer:?}\nreference {expected:?}")
+    }
+}
+
+impl Run {
+    /// Makes a call on both sides and compares everything.
+    fn exchange(&mut self, sides: &mut Sides, call: &Call) -> Result<Answer, String> {
+        self.calls += 1;
+        inputs::count(&mut self.coverage, &sides.library, call);
+        let before = sides.library.clone();
+        let answer = by_library(&mut sides.library, call);
+        let (expected, ground) = by_reference(&mut sides.reference, call);
+        let describe = |what| Difference { what, call, answer: &answer, expected: &expected };
+        check(answer == expected, describe("the answers differ"))?;
+        if let Some(difference) = sides.library.difference(&sides.reference) {
+            return Err(describe(&difference).to_string());
+        }
+        check(sides.library.is_intact(), describe("a byte outside of what was lent has changed"))?;
+        if answer.status != Status::Success {
+            check(sides.library == before, describe("a refused call has changed something"))?;
+        }
+        check(self.coverage.answer(call.name(), answer.status, ground), describe("no such answer is possible"))?;
+        Ok(answer)
+    }
+
+    /// A history from power-on, with rebuilds, and with calls on damaged copies of its state.
+    fn history(&mut self) -> Result<(), String> {
+        let (nv, volatile) = self.lent_stores();
+        let old_policy = vec![self.random.byte(); POLICY_BYTES];
+        let old_volatile = if self.random.one_in(2) { volatile } else { self.random.bytes(volatile.len()) };
+        let mut sides = Sides::new(State::new(&nv, &old_volatile, &old_policy));
+        let power_on = Call::PowerOn { disabling_allowed: !self.random.one_in(4) };
+        let answer = self.exchange(&mut sides, &power_on)?;
+        check(answer.status == Status::Success, "power-on over a sound store was refused")?;
+        let straight = sides.library.clone();
+        let mut history =
+            History { sides, straight, order: Vec::new(), straight_order: Vec::new(), complete_dump: None };
+        let crowded = nv.len() == MAX_STORE_BYTES;
+        if self.random.one_in(30) {
+            self.fill_policy(&mut history)?;
+        }
+        let length = if crowded { 12 } else { 10 + self.random.below(120) };
+        for _ in 0..length {
+            match self.random.below(100) {
+                0..=3 => self.rebuild(&mut history)?,
+                4..=12 => self.damaged_call(&history.sides.library)?,
+                13..=40 if crowded => self.damaged_call(&history.sides.library)?,
+                _ => {
+                    let needed = history.order.iter().map(Vec::len).sum();
+                    let call = self.call(needed);
+                    self.step(&mut history, &call)?;
+                }
+            }
+        }
+        Ok(())
+    }
+
+    /// Calls over a state that no history made: any entries, any switches, often damaged.
+    fn unrelated_calls(&mut self) -> Result<(), String> {
+        let (nv, volatile) = self.lent_stores();
+        let mut policy = Policy::default();
+        for _ in 0..self.random.pick(&[0, 1, 3, 10]) {
+            let entry =
+                Entry::decode(&self.pool.entry_fields(&mut self.random).pack()).ok_or("a made entry is malformed")?;
+            let fits = policy.encode().len() + entry.encode().len() <= POLICY_BYTES;
+            if fits && !policy.holds(&entry) {
+                policy.entries.push(entry);
+            }
+        }
+        let mut state = State::new(&nv, &volatile, &packed(&[policy.encode()]));
+        let bits = self.random.bits();
+        state.switches = Switches { enabled: bits & 3 != 0, locked: bits & 12 == 0, disabling_allowed: bits & 16 != 0 };
+        for _ in 0..1 + self.random.below(10) {
+            if self.random.one_in(3) {
+                self.damaged_call(&state)?;
+            } else {
+                let needed = damage::entry_sizes(&state.policy).iter().sum();
+                let call = self.call(needed);
+                let mut sides = Sides::new(state);
+                self.exchange(&mut sides, &call)?;
+                state = sides.library;
+            }
+        }
+        Ok(())
+    }
+
+    /// Two sound stores to begin with.
+    fn lent_stores(&mut self) -> (Vec<u8>, Vec<u8>) {
+        let random = &mut self.random;
+        if random.one_in(20) {
+            let count = random.pick(&[20, 100, 300, 819]);
+            let (nv, volatile, pool) = make::crowded_stores(random, count);
+            self.pool = pool;
+            return (nv, volatile);
+        }
+        let (nv_len, volatile_len) = (make::store_len(random), make::store_len(random));
+        self.pool.stores(random, nv_len, volatile_len)
+    }
+
+    /// Any call.
+    fn call(&mut self, needed: usize) -> Call {
+        let random = &mut self.random;
+        match random.below(100) {
+            0..=55 => self.pool.set(random),
+            56..=69 => self.pool.read(random),
+            70..=85 if random.one_in(4) => {
+                let (kind, entry) = damage::entry(random, &self.pool);
+                self.coverage.input(Input::Entry, kind);
+                Call::Register { entry }
+            }
+            70..=85 => Call::Register { entry: self.pool.entry_fields(random).pack() },
+            86..=91 => make::dump(random, needed),
+            92..=93 => Call::Lock,
+            94..=95 => Call::Disable,
+            96..=97 => Call::Query,
+            98 => Call::PowerOn { disabling_allowed: random.one_in(2) },
+            _ => Call::Restart { disabling_allowed: random.one_in(2) },
+        }
+    }
+
+    /// A call on a copy of a state in which something is damaged. The copy is then dropped.
+    fn damaged_call(&mut self, state: &State) -> Result<(), String> {
+        let random = &mut self.random;
+        let mut nv = state.nv.to_vec();
+        let mut volatile = state.volatile.to_vec();
+        let mut policy = state.policy.to_vec();
+        if random.one_in(3) {
+            let kind = damage::policy(random, &self.pool, &mut policy);
+            self.coverage.input(Input::Policy, kind);
+        } else {
+            let kind = damage::stores(random, &mut nv, &mut volatile);
+            self.coverage.input(Input::Stores, kind);
+        }
+        let mut damaged = State::new(&nv, &volatile, &policy);
+        damaged.switches = state.switches;
+        let call = match self.random.below(4) {
+            0 => Call::PowerOn { disabling_allowed: true },
+            1 => Call::Restart { disabling_allowed: true },
+            _ => self.call(damage::entry_sizes(&policy).iter().sum()),
+        };
+        self.exchange(&mut Sides::new(damaged), &call).map(|_| ())
+    }
+
+    /// Registers entries until the engine holds no more, by number or by length.
+    fn fill_policy(&mut self, history: &mut History) -> Result<(), String> {
+        let size = self.random.pick(&[44, 44, 322, 142]);
+        for number in 0..66 {
+            let entry = make::entry_of_size(size, number);
+            self.step(history, &Call::Register { entry })?;
+        }
+        Ok(())
+    }
+
+    /// A call of the history: on both sides, and on the state without rebuilds.
+    fn step(&mut self, history: &mut History, call: &Call) -> Result<(), String> {
+        if history.order != history.straight_order {
+            self.count_after_reorder(call);
+        }
+        let answer = self.exchange(&mut history.sides, call)?;
+        let straight_answer = by_library(&mut history.straight, call);
+        if answer.status == Status::Success {
+            match call {
+                Call::Register { entry } => {
+                    history.order.push(entry.clone());
+                    history.straight_order.push(entry.clone());
+                    history.complete_dump = None;
+                }
+                Call::PowerOn { .. } | Call::Restart { .. } => {
+                    history.order.clear();
+                    history.straight_order.clear();
+                    history.complete_dump = None;
+                }
+                Call::Dump { .. } => history.complete_dump = Some(history.order.clone()),
+                _ => {}
+            }
+        }
+        compare_dumps_or_all(history, call, &answer, &straight_answer)?;
+        compare_states(history)
+    }
+
+    /// A rebuild: a restart over the same stores, the entries of a complete dump registered again,
+    /// then disable and lock, each only if the old engine was. Every call of it must succeed.
+    fn rebuild(&mut self, history: &mut History) -> Result<(), String> {
+        let before = history.sides.library.clone();
+        let older = history.complete_dump.clone().filter(|_| self.random.one_in(2));
+        let is_older = older.is_some();
+        let mut entries = match older {
+            Some(entries) => entries,
+            None => self.dump_for_rebuild(history)?,
+        };
+        let reorder = entries.len() > 1 && self.random.one_in(2) && !quarrel(&entries)?;
+        if reorder {
+            self.random.shuffle(&mut entries);
+        }
+        let Switches { enabled, locked, disabling_allowed } = before.switches;
+        self.rebuild_call(history, &Call::Restart { disabling_allowed })?;
+        for entry in &entries {
+            self.rebuild_call(history, &Call::Register { entry: entry.clone() })?;
+        }
+        if !enabled {
+            self.rebuild_call(history, &Call::Disable)?;
+        }
+        if locked {
+            self.rebuild_call(history, &Call::Lock)?;
+        }
+        if entries == history.order {
+            check(history.sides.library == before, "a rebuild in order has changed the state")?;
+        }
+        history.order = entries;
+        self.coverage.input(Input::Rebuild, usize::from(is_older) + if reorder { 2 } else { 0 });
+        compare_states(history)
+    }
+
+    /// The entries of a dump that the rebuild takes itself, into a buffer that is long enough.
+    fn dump_for_rebuild(&mut self, history: &mut History) -> Result<Vec<Vec<u8>>, String> {
+        let needed: usize = history.order.iter().map(Vec::len).sum();
+        let buffer = vec![0x5A; needed + self.random.pick(&[0, 1, 300])];
+        let answer = self.rebuild_call(history, &Call::Dump { buffer })?;
+        let Values::Dumped { length, buffer } = answer.values else {
+            return Err("a dump answered no length".to_string());
+        };
+        let mut rest = &buffer[..length];
+        let mut entries = Vec::new();
+        for size in damage::entry_sizes(rest) {
+            let (entry, behind) = rest.split_at(size);
+            entries.push(entry.to_vec());
+            rest = behind;
+        }
+        check(entries == history.order && rest.is_empty(), "a dump does not hold the registered entries")?;
+        Ok(entries)
+    }
+
+    fn rebuild_call(&mut self, history: &mut History, call: &Call) -> Result<Answer, String> {
+        let answer = self.exchange(&mut history.sides, call)?;
+        let refused = format_args!("{} of a rebuild answered {}", call.name(), answer.status);
+        check(answer.status == Status::Success, refused)?;
+        self.coverage.answer("rebuild", Status::Success, Ground::Status);
+        Ok(answer)
+    }
+
+    fn count_after_reorder(&mut self, call: &Call) {
+        let label = match call {
+            Call::Set { .. } => 0,
+            Call::Read { .. } => 1,
+            Call::Dump { .. } => 2,
+            Call::Register { .. } => 3,
+            Call::Lock | Call::Disable | Call::Query => 4,
+            Call::PowerOn { .. } | Call::Restart { .. } => 5,
+        };
+        self.coverage.input(Input::AfterReorder, label);
+    }
+}
+
+/// Every answer is the one that the history without rebuilds got, but for the order of a granted dump.
+fn compare_dumps_or_all(history: &History, call: &Call, answer: &Answer, straight: &Answer) -> Result<(), String> {
+    let (Call::Dump { buffer: old }, Status::Success) = (call, answer.status) else {
+        return check(answer == straight, "a rebuild has changed a later answer");
+    };
+    for (answer, order) in [(answer, &history.order), (straight, &history.straight_order)] {
+        let entries = order.concat();
+        let buffer = [&entries[..], &old[entries.len()..]].concat();
+        let expected = Answer { status: Status::Success, values: Values::Dumped { length: entries.len(), buffer } };
+        check(*answer == expected, "a dump does not hold the entries in the order that stands")?;
+    }
+    Ok(())
+}
+
+/// Stores and switches are those of the history without rebuilds, and both policy records hold their entries.
+fn compare_states(history: &History) -> Result<(), String> {
+    let (state, straight) = (&history.sides.library, &history.straight);
+    check(state.nv == straight.nv, "a rebuild has changed the non-volatile store")?;
+    check(state.volatile == straight.volatile, "a rebuild has changed the volatile store")?;
+    check(state.switches == straight.switches, "a rebuild has changed the switches")?;
+    for (state, order) in [(state, &history.order), (straight, &history.straight_order)] {
+        check(state.policy[..] == packed(order)[..], "the policy record does not hold the entries in order")?;
+    }
+    Ok(())
+}
+
+/// Whether two entries of equal rank target one variable, whether or not it exists.
+fn quarrel(entries: &[Vec<u8>]) -> Result<bool, String> {
+    let decoded: Option<Vec<Entry>> = entries.iter().map(|entry| Entry::decode(entry)).collect();
+    let decoded = decoded.ok_or("a registered entry is malformed")?;
+    let mut pairs = decoded.iter().enumerate().flat_map(|(place, entry)| {
+        let later = &decoded[place + 1..];
+        later.iter().map(move |other| (entry, other))
+    });
+    Ok(pairs.any(|(entry, other)| {
+        entry.namespace == other.namespace && entry.rank() == other.rank() && share_a_target(&entry.name, &other.name)
+    }))
+}
+
+/// Whether some name is matched by both patterns.
+fn share_a_target(pattern: &[u16], other: &[u16]) -> bool {
+    let number_sign = 0x23;
+    let digit = |unit: u16| char::from_u32(unit.into()).is_some_and(|unit| unit.is_ascii_hexdigit());
+    let meet = |a: u16, b: u16| a == b || (a == number_sign && digit(b)) || (b == number_sign && digit(a));
+    pattern.len() == other.len() && pattern.iter().zip(other).all(|(a, b)| meet(*a, *b))
+}

@@ -1,0 +1,7 @@
+//! A short comparison, with everything that can be hit hit.
+
+#[test]
+fn library_and_reference_agree() {
+    let coverage = compare::drive::run(40_000, 7).unwrap();
+    assert_eq!(coverage.missed(), Vec::<String>::new());
+}

@@ -1,0 +1,51 @@
+//! The lent policy record, decoded, and the choice of the entry that speaks for a variable.
+
+use crate::entry::Entry;
+use crate::{MAX_ENTRIES, Namespace, POLICY_BYTES};
+
+/// The entries of an engine, in the order registered.
+#[derive(Clone, PartialEq, Eq, Debug, Default)]
+pub struct Policy {
+    /// The entries, in the order registered.
+    pub entries: Vec<Entry>,
+}
+
+impl Policy {
+    /// The entries of a lent policy record: distinct well-formed ones within the limits, then zeros,
+    /// in exactly 8,192 bytes. Nothing if the record is not so.
+    pub fn decode(record: &[u8]) -> Option<Policy> {
+        if record.len() != POLICY_BYTES {
+            return None;
+        }
+        let mut policy = Policy::default();
+        let mut rest = record;
+        while rest.iter().any(|byte| *byte != 0) {
+            let size = u16::from_le_bytes(rest.get(4..6)?.try_into().ok()?);
+            let (bytes, behind) = rest.split_at_checked(size.into())?;
+            let entry = Entry::decode(bytes)?;
+            if policy.entries.len() == MAX_ENTRIES || policy.holds(&entry) {
+                return None;
+            }
+            policy.entries.push(entry);
+            rest = behind;
+        }
+        Some(policy)
+    }
+
+    /// The bytes of the entries, end to end.
+    pub fn encode(&self) -> Vec<u8> {
+        self.entries.iter().flat_map(Entry::encode).collect()
+    }
+
+    /// Whether an entry of this namespace and name is registered.
+    pub fn holds(&self, entry: &Entry) -> bool {
+        self.entries.iter().any(|known| known.repeats(entry))
+    }
+
+    /// The entry that speaks for a variable: of those that target it the one of lowest rank, among
+    /// equals the one registered first.
+    pub fn choose(&self, namespace: &Namespace, name: &[u16]) -> Option<&Entry> {
+        let targeting = self.entries.iter().filter(|entry| entry.targets(namespace, name));
+        targeting.min_by_key(|entry| entry.rank())
+    }
+}

@@ -1,0 +1,175 @@
+//! The state that a history keeps, and what each command does to it.
+
+use crate::command::{Command, Expected, Order, Part};
+use crate::describe;
+use std::collections::BTreeMap;
+use varpolicy::calls::{self, Request, Started};
+use varpolicy::{Namespace, POLICY_BYTES, Status, Switches};
+
+/// Both stores, the policy record and the switches.
+pub struct Simulation {
+    nv: Vec<u8>,
+    volatile: Vec<u8>,
+    policy: Vec<u8>,
+    switches: Switches,
+}
+
+/// The switches before the first power-on, which are those of a refused one.
+const NOT_STARTED: Switches = Switches { enabled: true, locked: true, disabling_allowed: false };
+
+impl Default for Simulation {
+    fn default() -> Simulation {
+        Simulation {
+            nv: vec![0xFF; 4096],
+            volatile: vec![0xFF; 4096],
+            policy: vec![0; POLICY_BYTES],
+            switches: NOT_STARTED,
+        }
+    }
+}
+
+impl Simulation {
+    /// Runs a command and tells the status with the values beside it; nothing for a definition.
+    pub fn run(
+        &mut self,
+        command: Command,
+        namespaces: &BTreeMap<String, Namespace>,
+    ) -> Result<Option<String>, Expected> {
+        let answer = match command {
+            Command::Alias => return Ok(None),
+            Command::Note(text) => text,
+            Command::Stores { nv, volatile } => {
+                *self = Simulation { nv: vec![0xFF; nv], volatile: vec![0xFF; volatile], ..Simulation::default() };
+                return Ok(None);
+            }
+            Command::PowerOn { disabling_allowed } => {
+                let started = calls::power_on(&self.nv, &mut self.volatile, &mut self.policy, disabling_allowed);
+                self.started(started)
+            }
+            Command::Restart { disabling_allowed } => {
+                let started = calls::restart(&self.nv, &self.volatile, &mut self.policy, disabling_allowed);
+                self.started(started)
+            }
+            Command::Register { entry } => calls::register(&mut self.policy, self.switches, &entry).to_string(),
+            Command::Set { namespace, name, attributes, payload } => {
+                let request = Request { namespace: &namespace, name: &name, attributes, payload: &payload };
+                calls::set(&mut self.nv, &mut self.volatile, &self.policy, self.switches, request).to_string()
+            }
+            Command::Read { namespace, name } => self.read(&namespace, &name),
+            Command::Dump { buffer } => self.dump(buffer, namespaces),
+            Command::Lock => calls::lock(&mut self.switches).to_string(),
+            Command::Disable => calls::disable(&mut self.switches).to_string(),
+            Command::State => {
+                let (status, enabled) = calls::query(self.switches);
+                format!("{status} {}", if enabled { "enabled" } else { "disabled" })
+            }
+            Command::Rebuild(order) => self.rebuild(order)?,
+            Command::Poke { part, at, bytes } => {
+                self.poke(part, at, &bytes)?;
+                "written".to_string()
+            }
+        };
+        Ok(Some(answer))
+    }
+
+    /// After a start that succeeded the engine goes on with the switches handed back, else with its own.
+    fn started(&mut self, started: Started) -> String {
+        let Started { status, switches } = started;
+        if status == Status::Success {
+            self.switches = switches;
+        }
+        let enabled = if switches.enabled { "enabled" } else { "disabled" };
+        let locked = if switches.locked { "locked" } else { "unlocked" };
+        let allowed = if switches.disabling_allowed { "allowed" } else { "not allowed" };
+        format!("{status} {enabled}, {locked}, disabling {allowed}")
+    }
+
+    fn read(&self, namespace: &Namespace, name: &[u8]) -> String {
+        let found = calls::read(&self.nv, &self.volatile, namespace, name);
+        match found.status {
+            Status::Success => format!("SUCCESS {}, {}", found.attributes, describe::payload(found.payload)),
+            refused => refused.to_string(),
+        }
+    }
+
+    fn dump(&self, buffer: usize, namespaces: &BTreeMap<String, Namespace>) -> String {
+        let mut buffer = vec![0; buffer];
+        let dumped = calls::dump(&self.policy, &mut buffer);
+        match dumped.status {
+            Status::Success => {
+                let entries = describe::entries(&buffer[..dumped.length], namespaces);
+                format!("SUCCESS {} bytes{entries}", dumped.length)
+            }
+            Status::BufferTooSmall => format!("BUFFER_TOO_SMALL {} bytes needed", dumped.length),
+            refused => refused.to_string(),
+        }
+    }
+
+    /// A dump, a restart over the same stores with the old disable setting, each entry registered again,
+    /// then disable and lock, each only if the old engine was. Stops at the first refusal.
+    fn rebuild(&mut self, order: Order) -> Result<String, Expected> {
+        let mut buffer = vec![0; POLICY_BYTES];
+        let dumped = calls::dump(&self.policy, &mut buffer);
+        if dumped.status != Status::Success {
+            return Ok(format!("dump {}", dumped.status));
+        }
+        let mut entries = describe::split(&buffer[..dumped.length]);
+        match order {
+            Order::Kept => {}
+            Order::Reversed => entries.reverse(),
+            Order::Places(places) => entries = arranged(&entries, &places)?,
+        }
+        let old = self.switches;
+        let started = calls::restart(&self.nv, &self.volatile, &mut self.policy, old.disabling_allowed);
+        if started.status != Status::Success {
+            return Ok(format!("restart {}", started.status));
+        }
+        self.switches = started.switches;
+        for (place, entry) in entries.iter().enumerate() {
+            let status = calls::register(&mut self.policy, self.switches, entry);
+            if status != Status::Success {
+                return Ok(format!("register of entry {place} {status}"));
+            }
+        }
+        let mut made = format!("SUCCESS restart, {} registered", entries.len());
+        for (wanted, name, call) in [
+            (!old.enabled, "disable", calls::disable as fn(&mut Switches) -> Status),
+            (old.locked, "lock", calls::lock),
+        ] {
+            if wanted {
+                let status = call(&mut self.switches);
+                if status != Status::Success {
+                    return Ok(format!("{name} {status}"));
+                }
+                made += &format!(", {name}");
+            }
+        }
+        Ok(made)
+    }
+
+    fn poke(&mut self, part: Part, at: usize, bytes: &[u8]) -> Result<(), Expected> {
+        let lent = match part {
+            Part::Nv => &mut self.nv,
+            Part::Volatile => &mut self.volatile,
+            Part::Policy => &mut self.policy,
+        };
+        let len = lent.len();
+        match lent.get_mut(at..at + bytes.len()) {
+            Some(place) => {
+                place.copy_from_slice(bytes);
+                Ok(())
+            }
+            None => Err(format!("expected bytes within the {len} that are lent")),
+        }
+    }
+}
+
+/// The entries at these places, each once.
+fn arranged<'a>(entries: &[&'a [u8]], places: &[usize]) -> Result<Vec<&'a [u8]>, Expected> {
+    let mut sorted = places.to_vec();
+    sorted.sort_unstable();
+    if sorted.iter().copied().ne(0..entries.len()) {
+        return Err(format!("expected each place of the {} entries once, counted from 0", entries.len()));
+    }
+    Ok(places.iter().map(|place| entries[*place]).collect())
+}

@@ -1,0 +1,70 @@
+//! Every history in examples/ prints what stands beside it, and bad lines are told.
+
+use std::io::Write;
+use std::path::Path;
+use std::process::{Command, Output, Stdio};
+
+/// Runs the simulator over a history on standard input.
+fn simulate(history: &[u8]) -> Output {
+    let mut child = Command::new(env!("CARGO_BIN_EXE_simulate"))
+        .stdin(Stdio::piped())
+        .stdout(Stdio::piped())
+        .spawn()
+        .expect("simulate starts");
+    child.stdin.take().expect("piped").write_all(history).expect("simulate reads");
+    child.wait_with_output().expect("simulate ends")
+}
+
+#[test]
+fn examples_print_what_is_expected() {
+    let folder = Path::new(env!("CARGO_MANIFEST_DIR")).join("../../examples");
+    let mut run = 0;
+    for file in std::fs::read_dir(&folder).expect("examples/ is there") {
+        let history = file.expect("readable").path();
+        if history.extension().is_none_or(|extension| extension != "txt") {
+            continue;
+        }
+        let expected = std::fs::read_to_string(history.with_extension("expected")).expect("expected output");
+        let output = simulate(&std::fs::read(&history).expect("readable"));
+        assert_eq!(String::from_utf8_lossy(&output.stdout), expected, "{}", history.display());
+        assert!(output.status.success());
+        run += 1;
+    }
+    assert!(run >= 4);
+}
+
+#[test]
+fn a_bad_line_is_told_and_the_rest_runs() {
+    let history = b"power-off\nset G \"A\" BS 01\nnamespace G 5C67D181F686DF48BD959A6E4F0925C3\npower-on now\npower-on\n\
+        set G A BS 01\nset G \"A\" BS 0\nset G \"A\" XX 00\nregister G \"A\" lock=later\nregister G \"A\" lock=on-state\n\
+        stores 1 many\nrebuild 0\npoke nv 4096 00\nset G \"A\" BS 1024*07\nread G \"A\"\nstate now\nset G \"\" BS 01\n\
+        set G hex:410042 BS 01\nset G \"A\\u0000\" BS 01\npoke volatile 0 00\nread G \"A\"\n";
+    let output = simulate(history);
+    assert_eq!(output.status.code(), Some(1));
+    let expected = "\
+1: power-off -> not understood: expected namespace, stores, power-on, restart, register, set, append, delete, read, \
+dump, lock, disable, state, rebuild, poke or note, found power-off
+2: set G \"A\" BS 01 -> not understood: expected a namespace (an alias, a GUID or 32 hex digits), found G
+4: power-on now -> not understood: expected allow-disable or the end of the line, found now
+5: power-on -> SUCCESS enabled, unlocked, disabling not allowed
+6: set G A BS 01 -> not understood: expected a name in quotes (or hex:DIGITS), found A
+7: set G \"A\" BS 0 -> not understood: expected hex digits in pairs, ASCII text in quotes, or COUNT*HH, found 0
+8: set G \"A\" XX 00 -> not understood: expected attributes, as NV|BS, 0x8 or 0, found XX
+9: register G \"A\" lock=later -> not understood: expected no, now, on-create or on-state after the =, found lock=later
+10: register G \"A\" lock=on-state -> not understood: expected trigger= and value= beside lock=on-state at the end of \
+the line
+11: stores 1 many -> not understood: expected a number of bytes up to 1048576, found many
+12: rebuild 0 -> not understood: expected each place of the 0 entries once, counted from 0
+13: poke nv 4096 00 -> not understood: expected bytes within the 4096 that are lent
+14: set G \"A\" BS 1024*07 -> SUCCESS
+15: read G \"A\" -> SUCCESS BS, 1024 bytes: 07 07 07 07 07 07 07 07 07 07 07 07 07 07 07 07 07 07 07 07 07 07 07 07 07 \
+07 07 07 07 07 07 07 ..
+16: state now -> not understood: expected the end of the line, found now
+17: set G \"\" BS 01 -> INVALID_PARAMETER
+18: set G hex:410042 BS 01 -> INVALID_PARAMETER
+19: set G \"A\\u0000\" BS 01 -> INVALID_PARAMETER
+20: poke volatile 0 00 -> written
+21: read G \"A\" -> VOLUME_CORRUPTED
+";
+    assert_eq!(String::from_utf8_lossy(&output.stdout), expected);
+}

@@ -1,0 +1,105 @@
+//! The C functions of libvarpolicy.a and the records that they pass, declared here and nowhere else
+//! in Rust. Nothing checks these declarations against the archive but the tests and the comparison;
+//! include/varpolicy.h has the same ones for C.
+
+use crate::Switches;
+
+#[repr(C)]
+pub(crate) struct Started {
+    pub(crate) status: u32,
+    pub(crate) switches: Switches,
+}
+
+#[repr(C)]
+pub(crate) struct Dumped {
+    pub(crate) status: u32,
+    pub(crate) length: usize,
+}
+
+#[repr(C)]
+pub(crate) struct State {
+    pub(crate) status: u32,
+    pub(crate) enabled: bool,
+}
+
+#[repr(C)]
+pub(crate) struct Found {
+    pub(crate) status: u32,
+    pub(crate) attributes: u32,
+    pub(crate) non_volatile: bool,
+    pub(crate) offset: usize,
+    pub(crate) length: usize,
+}
+
+unsafe extern "C" {
+    pub(crate) fn varpolicy_power_on(
+        nv: *const u8,
+        nv_len: usize,
+        volatile: *mut u8,
+        volatile_len: usize,
+        policy: *mut u8,
+        policy_len: usize,
+        disabling_allowed: bool,
+    ) -> Started;
+
+    pub(crate) fn varpolicy_restart(
+        nv: *const u8,
+        nv_len: usize,
+        volatile: *const u8,
+        volatile_len: usize,
+        policy: *mut u8,
+        policy_len: usize,
+        disabling_allowed: bool,
+    ) -> Started;
+
+    pub(crate) fn varpolicy_register(
+        policy: *mut u8,
+        policy_len: usize,
+        switches: Switches,
+        entry: *const u8,
+        entry_len: usize,
+    ) -> u32;
+
+    pub(crate) fn varpolicy_dump(policy: *const u8, policy_len: usize, buffer: *mut u8, buffer_len: usize) -> Dumped;
+
+    pub(crate) fn varpolicy_lock(switches: *mut Switches) -> u32;
+
+    pub(crate) fn varpolicy_disable(switches: *mut Switches) -> u32;
+
+    pub(crate) fn varpolicy_query(switches: Switches) -> State;
+
+    pub(crate) fn varpolicy_read(
+        nv: *const u8,
+        nv_len: usize,
+        volatile: *const u8,
+        volatile_len: usize,
+        namespace: *const [u8; 16],
+        name: *const u8,
+        name_len: usize,
+    ) -> Found;
+
+    pub(crate) fn varpolicy_set(
+        nv: *mut u8,
+        nv_len: usize,
+        volatile: *mut u8,
+        volatile_len: usize,
+        policy: *const u8,
+        policy_len: usize,
+        switches: Switches,
+        namespace: *const [u8; 16],
+        name: *const u8,
+        name_len: usize,
+        attributes: u32,
+        payload: *const u8,
+        payload_len: usize,
+    ) -> u32;
+}
+
+// The layout that the C declarations have.
+const _: () = {
+    assert!(size_of::<Switches>() == 3);
+    assert!(size_of::<Started>() == 8);
+    assert!(size_of::<Dumped>() == 16);
+    assert!(size_of::<State>() == 8);
+    assert!(size_of::<Found>() == 32);
+};

@@ -1,0 +1,205 @@
+//! The calls of the library, one safe function each, on lent slices. Every answer is a value: a
+//! refusal is a [`Status`] other than [`Status::Success`], with nothing written anywhere.
+
+use crate::abi;
+use crate::{Attributes, Namespace, Status, Switches};
+
+/// What power-on and restart answer.
+#[derive(Clone, Copy, PartialEq, Eq, Debug)]
+pub struct Started {
+    /// SUCCESS or VOLUME_CORRUPTED.
+    pub status: Status,
+    /// The switches of the engine. After a refusal: enabled, locked, no leave to disable; an engine
+    /// already running keeps its own.
+    pub switches: Switches,
+}
+
+/// What a dump answers.
+#[derive(Clone, Copy, PartialEq, Eq, Debug)]
+pub struct Dumped {
+    /// SUCCESS, BUFFER_TOO_SMALL or VOLUME_CORRUPTED.
+    pub status: Status,
+    /// The length written or, with BUFFER_TOO_SMALL, needed.
+    pub length: usize,
+}
+
+/// What a read answers. Refused: zeros and an empty payload.
+#[derive(Clone, Copy, PartialEq, Eq, Debug)]
+pub struct Found<'a> {
+    /// SUCCESS, INVALID_PARAMETER, VOLUME_CORRUPTED or NOT_FOUND.
+    pub status: Status,
+    /// The stored attributes.
+    pub attributes: Attributes,
+    /// Whether the non-volatile store holds the variable.
+    pub non_volatile: bool,
+    /// Where the payload begins in its store.
+    pub offset: usize,
+    /// The payload, a part of its store.
+    pub payload: &'a [u8],
+}
+
+/// Power-on. Fills `volatile` with 0xFF and `policy` with zeros; the engine is then enabled,
+/// unlocked and empty.
+///
+/// * VOLUME_CORRUPTED: `nv` is unsound, `volatile` has more than 32,768 bytes, or `policy` does not
+///   have 8,192.
+pub fn power_on(nv: &[u8], volatile: &mut [u8], policy: &mut [u8], disabling_allowed: bool) -> Started {
+    // SAFETY: each pointer and length is of one live slice, the mutable ones apart from all others.
+    let answer = unsafe {
+        abi::varpolicy_power_on(
+            nv.as_ptr(),
+            nv.len(),
+            volatile.as_mut_ptr(),
+            volatile.len(),
+            policy.as_mut_ptr(),
+            policy.len(),
+            disabling_allowed,
+        )
+    };
+    Started { status: Status::answered(answer.status), switches: answer.switches }
+}
+
+/// Restart: as power-on, but both stores must be sound and stay as they are.
+///
+/// * VOLUME_CORRUPTED: the stores are unsound, or `policy` does not have 8,192 bytes.
+pub fn restart(nv: &[u8], volatile: &[u8], policy: &mut [u8], disabling_allowed: bool) -> Started {
+    // SAFETY: each pointer and length is of one live slice, the mutable one apart from all others.
+    let answer = unsafe {
+        abi::varpolicy_restart(
+            nv.as_ptr(),
+            nv.len(),
+            volatile.as_ptr(),
+            volatile.len(),
+            policy.as_mut_ptr(),
+            policy.len(),
+            disabling_allowed,
+        )
+    };
+    Started { status: Status::answered(answer.status), switches: answer.switches }
+}
+
+/// Registers a packed entry. A disabled engine still registers.
+///
+/// * VOLUME_CORRUPTED: `policy` is not a policy record.
+/// * WRITE_PROTECTED: the engine is locked.
+/// * INVALID_PARAMETER: the entry is malformed.
+/// * ALREADY_STARTED: an entry of the same namespace and name is registered.
+/// * OUT_OF_RESOURCES: it would be the 65th entry, or the Sizes would sum to more than 8,192.
+pub fn register(policy: &mut [u8], switches: Switches, entry: &[u8]) -> Status {
+    // SAFETY: each pointer and length is of one live slice, the mutable one apart from the other.
+    let answer =
+        unsafe { abi::varpolicy_register(policy.as_mut_ptr(), policy.len(), switches, entry.as_ptr(), entry.len()) };
+    Status::answered(answer)
+}
+
+/// Writes the entries, end to end in the order registered, to the start of `buffer`; later bytes stay.
+///
+/// * VOLUME_CORRUPTED: `policy` is not a policy record.
+/// * BUFFER_TOO_SMALL: `buffer` is shorter than the sum of Sizes, which is the length answered.
+pub fn dump(policy: &[u8], buffer: &mut [u8]) -> Dumped {
+    // SAFETY: each pointer and length is of one live slice, the mutable one apart from the other.
+    let answer = unsafe { abi::varpolicy_dump(policy.as_ptr(), policy.len(), buffer.as_mut_ptr(), buffer.len()) };
+    Dumped { status: Status::answered(answer.status), length: answer.length }
+}
+
+/// Closes registration until the next power-on or restart.
+///
+/// * WRITE_PROTECTED: locked already.
+pub fn lock(switches: &mut Switches) -> Status {
+    // SAFETY: the pointer is of one live record that nothing else refers to.
+    Status::answered(unsafe { abi::varpolicy_lock(switches) })
+}
+
+/// Turns enforcement off until the next power-on or restart.
+///
+/// * ALREADY_STARTED: disabled already.
+/// * WRITE_PROTECTED: locked, or disabling is not allowed.
+pub fn disable(switches: &mut Switches) -> Status {
+    // SAFETY: the pointer is of one live record that nothing else refers to.
+    Status::answered(unsafe { abi::varpolicy_disable(switches) })
+}
+
+/// Tells whether entries are enforced. The status is always SUCCESS.
+pub fn query(switches: Switches) -> (Status, bool) {
+    // SAFETY: only values are passed.
+    let answer = unsafe { abi::varpolicy_query(switches) };
+    (Status::answered(answer.status), answer.enabled)
+}
+
+/// Reads a variable. `name` is the bytes of its 16-bit units, without a closing zero.
+///
+/// * VOLUME_CORRUPTED: the stores are unsound.
+/// * INVALID_PARAMETER: the name is not 1 to 64 units, none of them zero.
+/// * NOT_FOUND: no such variable.
+pub fn read<'a>(nv: &'a [u8], volatile: &'a [u8], namespace: &Namespace, name: &[u8]) -> Found<'a> {
+    // SAFETY: each pointer and length is of one live slice, and nothing is written.
+    let answer = unsafe {
+        abi::varpolicy_read(
+            nv.as_ptr(),
+            nv.len(),
+            volatile.as_ptr(),
+            volatile.len(),
+            namespace,
+            name.as_ptr(),
+            name.len(),
+        )
+    };
+    let store = if answer.non_volatile { nv } else { volatile };
+    Found {
+        status: Status::answered(answer.status),
+        attributes: Attributes(answer.attributes),
+        non_volatile: answer.non_volatile,
+        offset: answer.offset,
+        payload: &store[answer.offset..answer.offset + answer.length],
+    }
+}
+
+/// A request to set a variable.
+#[derive(Clone, Copy, Debug)]
+pub struct Request<'a> {
+    /// The namespace of the variable.
+    pub namespace: &'a Namespace,
+    /// The bytes of the 16-bit units of its name, without a closing zero.
+    pub name: &'a [u8],
+    /// The attributes. Without APPEND, and with neither BS nor RT, the request is a deletion.
+    pub attributes: Attributes,
+    /// The payload. Without APPEND, an empty one makes the request a deletion.
+    pub payload: &'a [u8],
+}
+
+/// Sets, appends to or deletes a variable.
+///
+/// * VOLUME_CORRUPTED: the stores are unsound, or `policy` is not a policy record.
+/// * INVALID_PARAMETER: the name is not 1 to 64 units, none of them zero, or the payload is longer
+///   than 1,024 bytes.
+/// * UNSUPPORTED: an attribute bit outside 0x47.
+/// * INVALID_PARAMETER: RT or APPEND without BS.
+/// * If the engine is enabled and an entry is chosen, and unless this is a deletion,
+///   INVALID_PARAMETER: the length of the payload is outside MinSize to MaxSize, or the attributes
+///   lack a required bit or have a prohibited one. Then, for a deletion too, WRITE_PROTECTED: the
+///   entry locks the variable.
+/// * NOT_FOUND: the variable to delete does not exist.
+/// * INVALID_PARAMETER: the variable exists with other attributes.
+/// * OUT_OF_RESOURCES: an append would make the payload longer than 1,024 bytes, or the records
+///   would be longer than their store.
+pub fn set(nv: &mut [u8], volatile: &mut [u8], policy: &[u8], switches: Switches, request: Request) -> Status {
+    // SAFETY: each pointer and length is of one live slice, the mutable ones apart from all others.
+    let answer = unsafe {
+        abi::varpolicy_set(
+            nv.as_mut_ptr(),
+            nv.len(),
+            volatile.as_mut_ptr(),
+            volatile.len(),
+            policy.as_ptr(),
+            policy.len(),
+            switches,
+            request.namespace,
+            request.name.as_ptr(),
+            request.name.len(),
+            request.attributes.0,
+            request.payload.as_ptr(),
+            request.payload.len(),
+        )
+    };
+    Status::answered(answer)
+}

@@ -1,0 +1,70 @@
+//! Safe calls of `libvarpolicy.a`, the proved engine for UEFI variable policy.
+//!
+//! The engine keeps no memory of its own. The caller lends it two stores of variables (non-volatile
+//! and volatile, 0 to 32,768 bytes each), a policy record of 8,192 bytes, and three switches. Every
+//! call checks all of what it is lent, and a call that is refused writes nothing.
+//!
+//! [`calls`] has one function for each call of the library. [`Engine`] keeps the lent slices and the
+//! switches together and answers with `Result`. [`Entry`] packs a policy entry.
+//!
+//! ```
+//! use varpolicy::{Attributes, Engine, Entry, Lock, Name, Status, POLICY_BYTES};
+//!
+//! let board = *b"sixteen bytes..!";
+//! let (mut nv, mut volatile, mut policy) = ([0xFF; 256], [0xFF; 256], [0; POLICY_BYTES]);
+//! let mut engine = Engine::power_on(&mut nv, &mut volatile, &mut policy, false)?;
+//!
+//! // The serial number can be written once.
+//! let serial = Name::new("Serial").unwrap();
+//! let entry = Entry { lock: Lock::OnCreate, ..Entry::new(board, serial) };
+//! engine.register(&entry.pack())?;
+//!
+//! let attributes = Attributes::NV | Attributes::BS;
+//! engine.set(&board, &serial, attributes, b"0042")?;
+//! assert_eq!(engine.set(&board, &serial, attributes, b"0043"), Err(Status::WriteProtected));
+//! assert_eq!(engine.read(&board, &serial)?.payload, b"0042");
+//! # Ok::<(), Status>(())
+//! ```
+#![no_std]
+
+mod abi;
+mod attributes;
+pub mod calls;
+mod engine;
+mod entry;
+mod status;
+
+pub use attributes::Attributes;
+pub use engine::{Engine, NotDumped, Variable};
+pub use entry::{Entry, Lock, Name, PackedEntry};
+pub use status::Status;
+
+/// The 16 bytes of a namespace, in the order in which they stand in an entry and in a record.
+pub type Namespace = [u8; 16];
+
+/// Most entries that an engine holds.
+pub const MAX_ENTRIES: usize = 64;
+/// Length of the lent policy record, and the most that the Sizes of its entries sum to.
+pub const POLICY_BYTES: usize = 8192;
+/// Least bytes of an entry.
+pub const MIN_ENTRY_SIZE: usize = 44;
+/// Most bytes of an entry.
+pub const MAX_ENTRY_SIZE: usize = 322;
+/// Most bytes of a lent store.
+pub const MAX_STORE_BYTES: usize = 32768;
+/// Most bytes of a payload.
+pub const MAX_PAYLOAD_BYTES: usize = 1024;
+/// Most units of a name.
+pub const MAX_NAME_UNITS: usize = 64;
+
+/// The switches of an engine: a small record that the caller keeps and lends.
+#[derive(Clone, Copy, PartialEq, Eq, Hash, Debug)]
+#[repr(C)]
+pub struct Switches {
+    /// Whether entries are enforced.
+    pub enabled: bool,
+    /// Whether registration is closed.
+    pub locked: bool,
+    /// Whether the engine may be disabled.
+    pub disabling_allowed: bool,
+}
