@@ -20,7 +20,6 @@ ghost use Rattle.rules.specs.Set.{isDeletion, isEmptyAppend, requestStatus, exi
 ghost use Rattle.rules.specs.Engine.{speaking};
 ghost use Rattle.decision.specs.Decision.{requestOf, writeDecision, decisionOf};
 ghost use Rattle.store.specs.Parts.{variable};
-
 use entry::LockRule;
 use entry::Trigger;
 use policy::Choice;
@@ -82,9 +81,9 @@ pub fn is_deletion(attributes: u32, payload: &[u8]) -> bool
 pub fn check_request(namespace: &[u8], name: &[u8], attributes: u32, payload: &[u8]) -> Status
     ensures { λ r.
         ⌜ r ≡ requestStatus (record {
-            variable = record { namespace = now (namespace .entry); name = now (name .entry) };
-            attributes = attributes;
-            payload = now (payload .entry)
+          variable = record { namespace = now (namespace .entry); name = now (name .entry) };
+          attributes = attributes;
+          payload = now (payload .entry);
         }) ⌝ }
 {
     if namespace.len() != 16 {
@@ -141,33 +140,36 @@ fn is_value(payload: &[u8], value: u8) -> bool
     payload[0] == value
 }
 
-// Whether a place holds a record.
-fn is_somewhere(place: Place) -> bool
-    ensures { λ r. ⌜ r ≡ isSomewhere place ⌝ }
-{
-    match place {
-        Place::NonVolatile { at: _, len: _ } => true,
-        Place::Volatile { at: _, len: _ } => true,
-        Place::Nowhere => false,
-    }
-}
-
 // Whether the variable exists, in stores whose records end at nv_end and vol_end.
-fn exists(nv: &[u8], nv_end: usize, vol: &[u8], vol_end: usize, namespace: &[u8], name: &[u8]) -> bool
+fn exists(
+    nv: &[u8],
+    nv_end: usize,
+    vol: &[u8],
+    vol_end: usize,
+    namespace: &[u8],
+    name: &[u8],
+) -> bool
     requires { ⌜ («nv_end» ≡ endOf true (now nv)) × («vol_end» ≡ endOf false (now vol)) ⌝ }
     ensures { λ r.
         ⌜ r ≡ exists (lookup (now (nv .entry)) (now (vol .entry)) (record { namespace = now (namespace .entry); name = now (name .entry) })) ⌝ }
 {
-    is_somewhere(variables::locate(nv, nv_end, vol, vol_end, namespace, name))
+    variables::is_somewhere(variables::locate(nv, nv_end, vol, vol_end, namespace, name))
 }
 
 // Whether the trigger of an entry exists, has exactly one payload byte, and that byte equals Value.
-fn trigger_holds<'a>(e: &[u8], trigger: Trigger, nv: &'a [u8], nv_end: usize, vol: &'a [u8], vol_end: usize) -> bool
+fn trigger_holds<'a>(
+    e: &[u8],
+    trigger: Trigger,
+    nv: &'a [u8],
+    nv_end: usize,
+    vol: &'a [u8],
+    vol_end: usize,
+) -> bool
     requires { ⌜ («nv_end» ≡ endOf true (now nv)) × («vol_end» ≡ endOf false (now vol)) × (trigger .namespace ≡ 44) ⌝ }
     ensures { λ r.
         ⌜ r ≡ holdsValue (lookup (now (nv .entry)) (now (vol .entry)) (record {
-            namespace = part (trigger .namespace) (trigger .namespace + 16) (now (e .entry));
-            name = part (trigger .name) (trigger .«name_end») (now (e .entry))
+          namespace = part (trigger .namespace) (trigger .namespace + 16) (now (e .entry));
+          name = part (trigger .name) (trigger .«name_end») (now (e .entry));
         })) (trigger .value) ⌝ }
 {
     let from = trigger.namespace;
@@ -178,12 +180,21 @@ fn trigger_holds<'a>(e: &[u8], trigger: Trigger, nv: &'a [u8], nv_end: usize, vo
 }
 
 // Whether the chosen entry locks the variable.
-fn locks<'a>(e: &[u8], rule: LockRule, nv: &'a [u8], nv_end: usize, vol: &'a [u8], vol_end: usize, namespace: &[u8], name: &[u8]) -> bool
-    requires {
-        ⌜ («nv_end» ≡ endOf true (now nv)) × («vol_end» ≡ endOf false (now vol)) × (wellFormed (now e) ≡ true) × (rule ≡ lockOf (now e)) ⌝ }
+fn locks<'a>(
+    e: &[u8],
+    rule: LockRule,
+    nv: &'a [u8],
+    nv_end: usize,
+    vol: &'a [u8],
+    vol_end: usize,
+    namespace: &[u8],
+    name: &[u8],
+) -> bool
+    requires { ⌜ («nv_end» ≡ endOf true (now nv)) × («vol_end» ≡ endOf false (now vol)) × (wellFormed (now e) ≡ true) × (rule ≡ lockOf (now e)) ⌝ }
     ensures { λ r.
         ⌜ r ≡ locks (now (e .entry)) (lookup (now (nv .entry)) (now (vol .entry))) (record {
-            namespace = now (namespace .entry); name = now (name .entry)
+          namespace = now (namespace .entry);
+          name = now (name .entry);
         }) ⌝ }
 {
     match rule {
@@ -207,7 +218,11 @@ fn request_ground(e: &[u8], attributes: u32, payload: &[u8]) -> Ground
     if !size_allowed(entry.min_size, entry.max_size, payload.len()) {
         return Ground::SizeGround;
     }
-    if attributes_allowed(entry.attributes_must_have, entry.attributes_cant_have, attributes) {
+    if attributes_allowed(
+        entry.attributes_must_have,
+        entry.attributes_cant_have,
+        attributes,
+    ) {
         return Ground::NoGround;
     }
     Ground::AttributeGround
@@ -228,7 +243,7 @@ fn entry_ground<'a>(
     requires { ⌜ («nv_end» ≡ endOf true (now nv)) × («vol_end» ≡ endOf false (now vol)) × (wellFormed (now e) ≡ true) ⌝ }
     ensures { λ r.
         ⌜ r ≡ groundOf (now (e .entry)) (lookup (now (nv .entry)) (now (vol .entry)))
-            (requestOf (now (namespace .entry)) (now (name .entry)) attributes (now (payload .entry))) ⌝ }
+        (requestOf (now (namespace .entry)) (now (name .entry)) attributes (now (payload .entry))) ⌝ }
 {
     let by_request = request_ground(e, attributes, payload);
     match by_request {
@@ -262,18 +277,33 @@ pub fn ground<'a>(
     requires { ⌜ («nv_end» ≡ endOf true (now nv)) × («vol_end» ≡ endOf false (now vol)) × (count ≡ length (entriesOf (now policy))) ⌝ }
     ensures { λ r.
         ⌜ r ≡ groundBy (speaking enabled (chosen (entriesOf (now (policy .entry))) (variable (now (namespace .entry)) (now (name .entry)))))
-            (lookup (now (nv .entry)) (now (vol .entry)))
-            (requestOf (now (namespace .entry)) (now (name .entry)) attributes (now (payload .entry))) ⌝ }
+        (lookup (now (nv .entry)) (now (vol .entry)))
+        (requestOf (now (namespace .entry)) (now (name .entry)) attributes (now (payload .entry))) ⌝ }
 {
     if !enabled {
         return Ground::NoGround;
     }
     let choice = policy::choose(policy, count, namespace, name);
-    let Choice::Chosen { index: _, at, rank: _ } = choice else {
+    let Choice::Chosen {
+        index: _,
+        at,
+        rank: _,
+    } = choice
+    else {
         return Ground::NoGround;
     };
     let end = at + slices::le16(policy, at + 4) as usize;
-    entry_ground(&policy[at..end], nv, nv_end, vol, vol_end, namespace, name, attributes, payload)
+    entry_ground(
+        &policy[at..end],
+        nv,
+        nv_end,
+        vol,
+        vol_end,
+        namespace,
+        name,
+        attributes,
+        payload,
+    )
 }
 
 // Whether a set is an append that joins nothing.
@@ -292,9 +322,9 @@ fn decide_write(nv: &[u8], vol: &[u8], place: Place, attributes: u32, payload: &
     requires { ⌜ Within (now nv) (now vol) place ⌝ }
     ensures { λ r.
         ⌜ ((v : Variable) → r ≡ writeDecision (recordAt (now (nv .entry)) (now (vol .entry)) place)
-            (record { variable = v; attributes = attributes; payload = now (payload .entry) })) ⌝ }
+        (record { variable = v; attributes = attributes; payload = now (payload .entry) })) ⌝ }
 {
-    let found = is_somewhere(place);
+    let found = variables::is_somewhere(place);
     if is_deletion(attributes, payload) {
         if found {
             return Decision::Delete;
@@ -338,19 +368,30 @@ pub fn decide<'a>(
     attributes: u32,
     payload: &[u8],
 ) -> Decision
-    requires {
-        ⌜ («nv_end» ≡ endOf true (now nv)) × («vol_end» ≡ endOf false (now vol)) × (count ≡ length (entriesOf (now policy)))
-            × (place ≡ placeIn (now nv) (now vol) (variable (now namespace) (now name))) ⌝ }
+    requires { ⌜ («nv_end» ≡ endOf true (now nv)) × («vol_end» ≡ endOf false (now vol)) × (count ≡ length (entriesOf (now policy)))
+        × (place ≡ placeIn (now nv) (now vol) (variable (now namespace) (now name))) ⌝ }
     ensures { λ r.
         ⌜ r ≡ decisionOf (speaking enabled (chosen (entriesOf (now (policy .entry))) (variable (now (namespace .entry)) (now (name .entry)))))
-            (now (nv .entry)) (now (vol .entry))
-            (requestOf (now (namespace .entry)) (now (name .entry)) attributes (now (payload .entry))) ⌝ }
+        (now (nv .entry)) (now (vol .entry))
+        (requestOf (now (namespace .entry)) (now (name .entry)) attributes (now (payload .entry))) ⌝ }
 {
     let by_request = check_request(namespace, name, attributes, payload);
     if !status::is_success(by_request) {
         return Decision::Refuse(by_request);
     }
-    let by_ground = ground_status(ground(policy, count, enabled, nv, nv_end, vol, vol_end, namespace, name, attributes, payload));
+    let by_ground = ground_status(ground(
+        policy,
+        count,
+        enabled,
+        nv,
+        nv_end,
+        vol,
+        vol_end,
+        namespace,
+        name,
+        attributes,
+        payload,
+    ));
     if !status::is_success(by_ground) {
         return Decision::Refuse(by_ground);
     }

@@ -2,7 +2,7 @@
 -- sound state to a sound state. Assumes nothing.
 use Prim.Native.Nat.{suc, _+_, _≤_}
 use mathlib.Core.Path.{_≡_, refl}
-use mathlib.Core.List.{List, [], append-nil}
+use mathlib.Core.List.{List, []}
 use mathlib.Core.Bool.{Bool, true, false, not, cond, true≢false, false≢true}
 use native.Mathlib.Omega.{arith}
 use lib.ListN.{length}
@@ -10,7 +10,7 @@ use lib.Dec.{eqb, leb}
 use borrow.Author.Tests.{leb-true}
 use Rattle.limits.specs.Limits.{maxEntries, policyBytes, maxStore}
 use Rattle.slices.specs.Test.{_and_}
-use Rattle.slices.specs.TestLaws.{and-left, and-right, and-intro}
+use Rattle.slices.specs.TestLaws.{and-left, and-right}
 use Rattle.slices.specs.Bytes.{Bytes}
 use Rattle.slices.specs.Chunks.{flat, contains, distinct}
 use Rattle.slices.specs.ChunksLaws.{nil}
@@ -18,15 +18,14 @@ use Rattle.entry.specs.Entry.{wellFormed, sameTarget}
 use Rattle.policy.specs.Policy.{entriesOf, emptyPolicy, policyValid}
 use Rattle.policy.specs.PolicyLaws.{sizesSum-flat, entries-policy, policy-append}
 use Rattle.policy.specs.Choice.{chosen}
-use Rattle.store.specs.Store.{storeOk}
-use Rattle.store.specs.StoreLaws.{records-erased, storeOk-erased}
 use Rattle.pair.specs.Pair.{sound, soundAlone}
+use Rattle.pair.specs.PairLaws.{sound-erased}
 use Rattle.status.specs.declared.Status.{Status}
 use Rattle.status.specs.declared.Status.the-variants.{Success, InvalidParameter, WriteProtected, OutOfResources, VolumeCorrupted, AlreadyStarted}
 use Rattle.status.specs.Status.{isSuccess}
 use Rattle.rules.specs.Set.{setStatus}
 use Rattle.rules.specs.SetLaws.{set-sound}
-use Rattle.rules.specs.Engine.{State, Call, powerOnStatus, registerStatus, speaking, setStatusBy, status, erased, effect, step}
+use Rattle.rules.specs.Engine.{State, Call, powerOnStatus, registerStatus, speaking, setStatusBy, status, effect, step}
 use Rattle.rules.specs.Engine.Call.{powerOn, restart, register, dump, lock, disable, query, read, set}
 
 -- sound stores, a valid policy record, and a disabled engine has leave to disable
@@ -81,12 +80,6 @@ disable-tests false l a h = absurd (false≢true h)
 
 -- ---- power-on
 
-erased-sound : (nv vol : Bytes) → soundAlone nv ≡ true → length vol ≤ maxStore → sound nv (erased vol) ≡ true
-unfolding sound soundAlone
-erased-sound nv vol h k =
-    and-intro _ _ (and-left _ _ h)
-    (and-intro _ _ (storeOk-erased false (length vol) k) (rw (records-erased false (length vol), append-nil) (and-right (storeOk true nv) _ h)))
-
 pub empty-valid : policyValid emptyPolicy ≡ true
 unfolding flat distinct
 empty-valid = entries-policy [] (record { formed = nil; few = omega arith; room = omega arith; apart = refl })
@@ -96,7 +89,7 @@ unfolding powerOnStatus
 powered s allowed h =
     let t = passed (soundAlone (s .nv) and leb (length (s .vol)) maxStore and eqb (length (s .policy)) policyBytes) Success h .0 in
     record {
-      stores = erased-sound (s .nv) (s .vol) (and-left _ _ t) (leb-true _ _ (and-left _ _ (and-right (soundAlone (s .nv)) _ t)));
+      stores = sound-erased (s .nv) (length (s .vol)) (and-left _ _ t) (leb-true _ _ (and-left _ _ (and-right (soundAlone (s .nv)) _ t)));
       policy = empty-valid;
       leave = λ x. absurd (true≢false x);
     }

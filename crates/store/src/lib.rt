@@ -146,7 +146,7 @@ pub fn payload_part(r: &[u8]) -> &[u8]
 }
 
 // The payload where the variable's record was found, as a part of the store, or an empty part.
-fn payload_found<'a>(
+pub fn payload_found<'a>(
     s: &'a [u8],
     nonvolatile: bool,
     found: Found,

@@ -2,8 +2,7 @@
 ghost use mathlib.Core.Path.{_≡_};
 ghost use mathlib.Core.Bool.{true, false};
 ghost use Rattle.store.specs.Store.{endOf};
-ghost use Rattle.variables.specs.Place.{placeIn, attributesAt, payloadAt, Within};
-
+ghost use Rattle.variables.specs.Place.{placeIn, isSomewhere, attributesAt, payloadAt, Within};
 use store::Found;
 
 pub enum Place {
@@ -14,7 +13,14 @@ pub enum Place {
 }
 
 // Where the variable stands, in stores whose records end at nv_end and vol_end.
-pub fn locate(nv: &[u8], nv_end: usize, vol: &[u8], vol_end: usize, namespace: &[u8], name: &[u8]) -> Place
+pub fn locate(
+    nv: &[u8],
+    nv_end: usize,
+    vol: &[u8],
+    vol_end: usize,
+    namespace: &[u8],
+    name: &[u8],
+) -> Place
     requires { ⌜ («nv_end» ≡ endOf true (now nv)) × («vol_end» ≡ endOf false (now vol)) ⌝ }
     ensures { λ r.
         ⌜ r ≡ placeIn (now (nv .entry)) (now (vol .entry)) (record { namespace = now (namespace .entry); name = now (name .entry) }) ⌝ }
@@ -51,5 +57,16 @@ pub fn payload_at<'a>(nv: &'a [u8], vol: &'a [u8], place: Place) -> &'a [u8]
         Place::NonVolatile { at, len } => store::payload_part(&nv[at..at + len]),
         Place::Volatile { at, len } => store::payload_part(&vol[at..at + len]),
         Place::Nowhere => &nv[..0],
+    }
+}
+
+// Whether a place holds a record.
+pub fn is_somewhere(place: Place) -> bool
+    ensures { λ r. ⌜ r ≡ isSomewhere place ⌝ }
+{
+    match place {
+        Place::NonVolatile { at: _, len: _ } => true,
+        Place::Volatile { at: _, len: _ } => true,
+        Place::Nowhere => false,
     }
 }

@@ -1,0 +1,88 @@
+-- DEMAND 3 over the rules' engine, closed: no parameter is left open, and nothing is assumed but that the power-on answered 0.
+-- The definitions that it uses are in `history`'s History.antt, and what they are of this engine is in Machine.antt.
+use mathlib.Core.Path.{_≡_, refl}
+use mathlib.Core.List.{List, [], _∷_, _++_, map}
+use mathlib.Core.Bool.{Bool, true, false}
+use mathlib.Core.Option.{none}
+use Prim.Native.Nat.{_≤_}
+use lib.ListN.{length}
+use Rattle.slices.specs.Bytes.{Bytes}
+use Rattle.policy.specs.Policy.{entriesOf, sizesSum}
+use Rattle.status.specs.Status.{isSuccess}
+use Rattle.rules.specs.Engine as rules
+use Rattle.rules.specs.Engine.{Call}
+use Rattle.rules.specs.Engine.Call.{powerOn}
+use Rattle.rules.specs.StateLaws.{power-on-sound}
+use Rattle.history.specs.History.{Items, Order, Past, Proper, Complete, Permitted, Demand3, endWith}
+use Rattle.history.specs.History.ItemOf.{call, ownDump, rebuild}
+use Rattle.history.specs.HistoryLaws as general
+use Rattle.history.specs.AnyMoment as moment
+use Rattle.history.specs.AnyMoment.{NoneOutdates, OneRebuild, pastAfter}
+use Rattle.demand3.specs.Machine.{State, grouped, machine}
+use Rattle.demand3.specs.MachineLaws.{Reached, laws, never-cut}
+
+-- "A history starts from the state that a power-on with answer 0 left, whatever the stores held and whether or not disabling
+-- is allowed"
+abbrev pub poweredOn : rules.State → Bool → State
+poweredOn s allowed = grouped (rules.step s (powerOn allowed) .1)
+
+start : (s : rules.State) (allowed : Bool) → isSuccess (rules.step s (powerOn allowed) .0 .status) ≡ true → Reached false (poweredOn s allowed)
+start s allowed h = record { uncut = refl; sound = power-on-sound s allowed h }
+
+-- THE CLAIM: of every list of all nine kinds of calls with any arguments, refused ones included, with rebuilds at any
+-- places, each from a complete dump and in order or in a permitted other order
+pub demand-3 : (s : rules.State) (allowed : Bool) → isSuccess (rules.step s (powerOn allowed) .0 .status) ≡ true
+    → (is : Items machine) → Proper machine false [] (poweredOn s allowed) is → Demand3 machine (poweredOn s allowed) is
+demand-3 s allowed h is p = general.demand-3 machine Reached laws (poweredOn s allowed) (start s allowed h) is p
+
+-- ---- "AT ANY PLACES IN IT, AS OFTEN AS YOU LIKE": which lists are proper
+
+module _ (s : rules.State) (allowed : Bool) (answered0 : isSuccess (rules.step s (powerOn allowed) .0 .status) ≡ true) where
+  -- the list is one that the claim is about
+  abbrev pub ProperFrom : Items machine → Type 0
+  ProperFrom is = Proper machine false [] (poweredOn s allowed) is
+
+  -- the entries that stand after a list, and what counts for complete dumps then
+  abbrev pub entriesAt : Items machine → List Bytes
+  entriesAt xs = entriesOf (endWith machine (poweredOn s allowed) xs .policy)
+
+  abbrev pub pastAt : Items machine → Past machine
+  pastAt xs = pastAfter machine [] (poweredOn s allowed) xs
+
+  uncut : (xs : Items machine) → moment.cutAtEnd machine false (poweredOn s allowed) xs ≡ false
+  uncut xs = moment.never-cut machine never-cut xs (poweredOn s allowed)
+
+  -- any calls may stand behind a proper list, and so a list of calls alone is proper
+  pub append-calls : (is : Items machine) (cs : List Call) → ProperFrom is → ProperFrom (is ++ map call cs)
+  append-calls is cs p = moment.append-calls machine never-cut is cs (poweredOn s allowed) p
+
+  -- an own dump into any buffer may be inserted at any place
+  pub insert-dump : (xs ys : Items machine) (buffer : Bytes) → ProperFrom (xs ++ ys) → ProperFrom (xs ++ (ownDump buffer ∷ ys))
+  insert-dump xs ys buffer p = moment.insert-dump machine Reached laws (poweredOn s allowed) (start s allowed answered0) xs ys buffer p (uncut xs)
+
+  -- a rebuild in order from a complete dump of the entries as they stand may be inserted at any place
+  pub insert-rebuild : (xs ys : Items machine) → ProperFrom (xs ++ ys) → Complete machine (entriesAt xs) (pastAt xs)
+      → ProperFrom (xs ++ (rebuild (entriesAt xs) none ∷ ys))
+  insert-rebuild xs ys p d = moment.insert-rebuild machine Reached laws (poweredOn s allowed) (start s allowed answered0) xs ys p (uncut xs) d
+
+  -- and so may, without any condition but room for the sum of Sizes, an own dump and the rebuild from it
+  pub insert-dump-rebuild : (xs ys : Items machine) (buffer : Bytes) → ProperFrom (xs ++ ys)
+      → sizesSum (endWith machine (poweredOn s allowed) xs .policy) ≤ length buffer
+      → ProperFrom (xs ++ (ownDump buffer ∷ rebuild (entriesAt xs) none ∷ ys))
+  insert-dump-rebuild xs ys buffer p room =
+      moment.insert-dump-rebuild machine Reached laws (poweredOn s allowed) (start s allowed answered0) xs ys buffer p (uncut xs) room
+
+  -- a rebuild from any complete dump, in order or in any permitted other order, may stand behind a list
+  pub append-rebuild : (is : Items machine) (ds : List Bytes) (x : Order machine) → ProperFrom is → Complete machine ds (pastAt is)
+      → Permitted machine ds x → ProperFrom (is ++ (rebuild ds x ∷ []))
+  append-rebuild is ds x p d m =
+      moment.append-rebuild machine Reached laws (poweredOn s allowed) (start s allowed answered0) is ds x p (uncut is) d m
+
+  -- ONE REBUILD between any two lists of calls
+  pub one-rebuild : (cs₁ cs₂ : List Call) → OneRebuild machine (poweredOn s allowed) cs₁ cs₂
+  one-rebuild cs₁ cs₂ = moment.one-rebuild machine Reached laws (poweredOn s allowed) (start s allowed answered0) never-cut cs₁ cs₂
+
+-- a complete dump stays complete across own dumps, rebuilds and every call that does not outdate it, in any state
+pub stays-complete : (is : Items machine) (ds : List Bytes) (past : Past machine) (s : State) → NoneOutdates machine s is
+    → Complete machine ds past → Complete machine ds (pastAfter machine past s is)
+stays-complete is ds past s n d = moment.stays-complete machine Reached laws is ds past s n d

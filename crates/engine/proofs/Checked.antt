@@ -1,0 +1,87 @@
+-- What the check of a policy record tells, and the statuses of register and dump by it. Assumes nothing.
+use Prim.Native.Nat.{ℕ, suc, _+_, _≤_, _<_}
+use mathlib.Core.Path.{_≡_, refl, sym, ap, _∙_}
+use mathlib.Core.List.{List}
+use mathlib.Core.Bool.{Bool, true, false, not, cond}
+use native.Mathlib.Omega.{arith}
+use lib.ListN.{length}
+use lib.Dec.{leb}
+use borrow.Author.Tests.{le-leb, lt-leb}
+use Rattle.limits.specs.Limits.{maxEntries, policyBytes}
+use Rattle.slices.specs.Test.{_and_}
+use Rattle.slices.specs.TestLaws.{and-no}
+use Rattle.slices.specs.Bytes.{Bytes}
+use Rattle.slices.specs.Chunks.{flat, contains}
+use Rattle.entry.specs.Entry.{wellFormed, sameTarget}
+use Rattle.policy.specs.Policy.{entriesOf, sizesSum, policyValid, policyCheck}
+use Rattle.policy.specs.PolicyLaws.{sizesSum-flat}
+use Rattle.policy.specs.declared.PolicyCheck.{PolicyCheck}
+use Rattle.policy.specs.declared.PolicyCheck.the-variants.{Valid, Invalid}
+use Rattle.status.specs.declared.Status.{Status}
+use Rattle.status.specs.declared.Status.the-variants.{Success, InvalidParameter, BufferTooSmall, WriteProtected, OutOfResources, VolumeCorrupted, AlreadyStarted}
+use Rattle.rules.specs.Engine.{registerStatus, dumpStatus}
+
+pub record Checked (p : Bytes) (count taken : ℕ) : Type 0 where
+  pub valid : policyValid p ≡ true
+  pub counted : count ≡ length (entriesOf p)
+  pub summed : taken ≡ sizesSum p
+
+pub check-valid : (p : Bytes) (count taken : ℕ) → policyCheck p ≡ Valid count taken → Checked p count taken
+unfolding policyCheck
+check-valid p count taken e = go (policyValid p) refl e
+  where
+    go : (b : Bool) → policyValid p ≡ b → cond b (Valid (length (entriesOf p)) (sizesSum p)) Invalid ≡ Valid count taken → Checked p count taken
+    go true h k = record { valid = h; counted = cc; summed = cc }
+    go false h k = let z : _≡_ {A = ℕ} 0 1 = cc in absurd (omega arith)
+
+pub check-invalid : (p : Bytes) → policyCheck p ≡ Invalid → policyValid p ≡ false
+unfolding policyCheck
+check-invalid p e = go (policyValid p) refl e
+  where
+    go : (b : Bool) → policyValid p ≡ b → cond b (Valid (length (entriesOf p)) (sizesSum p)) Invalid ≡ Invalid → policyValid p ≡ false
+    go true h k = let z : _≡_ {A = ℕ} 0 1 = cc in absurd (omega arith)
+    go false h k = h
+
+-- a call that is lent the record, by the check
+pub lent-invalid : (p : Bytes) (n : Status) → policyValid p ≡ false → cond (policyValid p) n VolumeCorrupted ≡ VolumeCorrupted
+lent-invalid p n h = ap (λ b. cond b n VolumeCorrupted) h
+
+pub lent-valid : (p : Bytes) (n m : Status) → policyValid p ≡ true → n ≡ m → cond (policyValid p) n VolumeCorrupted ≡ m
+lent-valid p n m h k = ap (λ b. cond b n VolumeCorrupted) h ∙ k
+
+-- the statuses of register, in their order
+module _ (locked : Bool) (es : List Bytes) (e : Bytes) where
+  pub register-locked : locked ≡ true → registerStatus locked es e ≡ WriteProtected
+  unfolding registerStatus
+  register-locked h = simp h
+
+  module _ (h : locked ≡ false) where
+    pub register-malformed : wellFormed e ≡ false → registerStatus locked es e ≡ InvalidParameter
+    unfolding registerStatus
+    register-malformed k = simp (h, k)
+
+    module _ (k : wellFormed e ≡ true) where
+      pub register-repeated : contains (sameTarget e) es ≡ true → registerStatus locked es e ≡ AlreadyStarted
+      unfolding registerStatus
+      register-repeated l = simp (h, k, l)
+
+      module _ (l : contains (sameTarget e) es ≡ false) where
+        pub register-many : maxEntries ≤ length es → registerStatus locked es e ≡ OutOfResources
+        unfolding registerStatus _and_
+        register-many m = simp (h, k, l, lt-leb (suc (length es)) maxEntries (omega arith))
+
+        pub register-long : policyBytes < length (flat es) + length e → registerStatus locked es e ≡ OutOfResources
+        unfolding registerStatus
+        register-long m = simp (h, k, l, lt-leb (length (flat es) + length e) policyBytes m, and-no)
+
+        pub register-done : length es < maxEntries → length (flat es) + length e ≤ policyBytes → registerStatus locked es e ≡ Success
+        unfolding registerStatus _and_
+        register-done m n = simp (h, k, l, le-leb (suc (length es)) maxEntries (omega arith), le-leb (length (flat es) + length e) policyBytes n)
+
+pub dump-short : (es : List Bytes) (b : Bytes) → length b < length (flat es) → dumpStatus es b ≡ BufferTooSmall
+unfolding dumpStatus
+dump-short es b h = simp (lt-leb (length (flat es)) (length b) h)
+
+pub dump-done : (es : List Bytes) (b : Bytes) → length (flat es) ≤ length b → dumpStatus es b ≡ Success
+unfolding dumpStatus
+dump-done es b h = simp (le-leb (length (flat es)) (length b) h)

@@ -1,0 +1,6 @@
+pub mod Steps
+pub mod Checked
+pub mod Registered
+pub mod Started
+pub mod Readings
+pub mod Named
