@@ -11,7 +11,9 @@ ghost use mathlib.Core.List.{[]};
 ghost use mathlib.Core.Bool.{true, false};
 ghost use Rattle.status.specs.declared.Status.the-variants.{Success, VolumeCorrupted};
 ghost use Rattle.switches.specs.Switches.{freshSwitches, refusedSwitches};
+ghost use Rattle.decision.specs.Decision.{requestOf};
 ghost use Rattle.engine.specs.Answers.{dumpAnswer, queryAnswer, readingOf, ReadStep};
+use decision::Decision;
 use pair::PairCheck;
 use policy::PolicyCheck;
 use status::Status;
@@ -276,4 +278,97 @@ pub fn payload<'a>(nv: &'a [u8], vol: &'a [u8], namespace: [u8; 16], name: &[u8]
         Reading::Refused(_) => &nv[..0],
         Reading::Stands(place) => variables::payload_at(nv, vol, place),
     }
+}
+
+// A set whose namespace is lent.
+fn set_variable(
+    nv: &mut [u8],
+    vol: &mut [u8],
+    policy: &[u8],
+    switches: Switches,
+    namespace: &[u8],
+    name: &[u8],
+    attributes: u32,
+    payload: &[u8],
+) -> Status
+    ensures { λ r.
+        ⌜ step (stateOf (now (nv .entry)) (now (vol .entry)) (now (policy .entry)) switches)
+        (set (requestOf (now (namespace .entry)) (now (name .entry)) attributes (now (payload .entry))))
+        ≡ (onlyStatus r, stateOf (now (nv .exit)) (now (vol .exit)) (now (policy .entry)) switches) ⌝ }
+{
+    let checked = pair::check(nv, vol);
+    let PairCheck::Sound { nv_end, vol_end } = checked else {
+        return Status::VolumeCorrupted;
+    };
+    let entries = policy::check(policy);
+    let PolicyCheck::Valid { count, used: _ } = entries else {
+        return Status::VolumeCorrupted;
+    };
+    let place = variables::locate(nv, nv_end, vol, vol_end, namespace, name);
+    let decision = decision::decide(
+        policy,
+        count,
+        switches.enabled,
+        nv,
+        nv_end,
+        vol,
+        vol_end,
+        place,
+        namespace,
+        name,
+        attributes,
+        payload,
+    );
+    match decision {
+        Decision::Refuse(status) => status,
+        Decision::Keep => Status::Success,
+        Decision::Delete => {
+            writing::delete(nv, nv_end, vol, vol_end, place, namespace, name);
+            Status::Success
+        }
+        Decision::Store => writing::store_variable(
+            nv,
+            nv_end,
+            vol,
+            vol_end,
+            place,
+            namespace,
+            name,
+            attributes,
+            payload,
+        ),
+    }
+}
+
+// Creates, rewrites, appends to or deletes a variable.
+// VOLUME_CORRUPTED where the stores are unsound or the policy record is not valid; then the first of:
+// 1. INVALID_PARAMETER for a bad name or a payload over 1,024 bytes; 2. UNSUPPORTED for an attribute bit outside 0x47;
+// 3. INVALID_PARAMETER for RT or append without BS; 4. what the chosen entry gives: INVALID_PARAMETER for the size or the
+// attributes, WRITE_PROTECTED for a lock; 5. NOT_FOUND for the deletion of an absent variable; 6. INVALID_PARAMETER for other
+// attributes than the stored ones; 8. OUT_OF_RESOURCES for an append to more than 1,024 bytes; 9. OUT_OF_RESOURCES for no room.
+pub fn set(
+    nv: &mut [u8],
+    vol: &mut [u8],
+    policy: &[u8],
+    switches: Switches,
+    namespace: [u8; 16],
+    name: &[u8],
+    attributes: u32,
+    payload: &[u8],
+) -> Status
+    ensures { λ r.
+        ⌜ step (stateOf (now (nv .entry)) (now (vol .entry)) (now (policy .entry)) switches)
+        (set (requestOf namespace (now (name .entry)) attributes (now (payload .entry))))
+        ≡ (onlyStatus r, stateOf (now (nv .exit)) (now (vol .exit)) (now (policy .entry)) switches) ⌝ }
+{
+    set_variable(
+        nv,
+        vol,
+        policy,
+        switches,
+        &namespace,
+        name,
+        attributes,
+        payload,
+    )
 }
