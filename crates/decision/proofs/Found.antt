@@ -6,7 +6,8 @@ use mathlib.Core.Bool.{Bool, true, false}
 use mathlib.Core.Option.{Option, none, some}
 use Rattle.slices.specs.Bytes.{Bytes, same, pairwise}
 use Rattle.names.specs.Name.{Variable}
-use Rattle.pair.specs.Pair.{lookup, payloadFound}
+use Rattle.pair.specs.Pair.{lookup}
+use Rattle.store.specs.Parts.{payloadIn}
 use Rattle.variables.specs.declared.Place.{Place}
 use Rattle.variables.specs.declared.Place.the-variants.{NonVolatile, Volatile, Nowhere}
 use Rattle.variables.specs.Place.{placeIn, isSomewhere, recordAt, payloadAt}
@@ -22,7 +23,7 @@ exists-at nv vol Nowhere = refl
 pub exists-place : (nv vol : Bytes) (v : Variable) (p : Place) → p ≡ placeIn nv vol v → isSomewhere p ≡ exists (lookup nv vol v)
 exists-place nv vol v p e = sym (ap exists (lookup-place nv vol v ∙ ap (recordAt nv vol) (sym e)) ∙ exists-at nv vol p)
 
-holds-found : (o : Option Bytes) (value : ℕ) → same (payloadFound o) (value ∷ []) ≡ holdsValue o value
+holds-found : (o : Option Bytes) (value : ℕ) → same (payloadIn o) (value ∷ []) ≡ holdsValue o value
 unfolding holdsValue pairwise
 holds-found none value = refl
 holds-found (some r) value = refl
@@ -30,7 +31,7 @@ holds-found (some r) value = refl
 pub holds-place : (nv vol : Bytes) (v : Variable) (p : Place) (value : ℕ) → p ≡ placeIn nv vol v
     → same (payloadAt nv vol p) (value ∷ []) ≡ holdsValue (lookup nv vol v) value
 holds-place nv vol v p value e =
-    ap (λ o. same (payloadFound o) (value ∷ [])) (ap (recordAt nv vol) e ∙ sym (lookup-place nv vol v)) ∙ holds-found (lookup nv vol v) value
+    ap (λ o. same (payloadIn o) (value ∷ [])) (ap (recordAt nv vol) e ∙ sym (lookup-place nv vol v)) ∙ holds-found (lookup nv vol v) value
 
 -- as the code reads the trigger: its namespace g and name n, its place p, its payload d
 pub trigger-by : {x : Bool} {p : Place} {d g n g′ n′ : Bytes} (nv vol : Bytes) (value : ℕ) → x ≡ same d (value ∷ []) → d ≡ payloadAt nv vol p

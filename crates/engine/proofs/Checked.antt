@@ -1,4 +1,4 @@
--- What the check of a policy record tells, and the statuses of register and dump by it. Assumes nothing.
+-- The statuses of register and dump, by what the code found. Assumes nothing.
 use Prim.Native.Nat.{ℕ, suc, _+_, _≤_, _<_}
 use mathlib.Core.Path.{_≡_, refl, sym, ap, _∙_}
 use mathlib.Core.List.{List}
@@ -13,34 +13,10 @@ use Rattle.slices.specs.TestLaws.{and-no}
 use Rattle.slices.specs.Bytes.{Bytes}
 use Rattle.slices.specs.Chunks.{flat, contains}
 use Rattle.entry.specs.Entry.{wellFormed, sameTarget}
-use Rattle.policy.specs.Policy.{entriesOf, sizesSum, policyValid, policyCheck}
-use Rattle.policy.specs.PolicyLaws.{sizesSum-flat}
-use Rattle.policy.specs.declared.PolicyCheck.{PolicyCheck}
-use Rattle.policy.specs.declared.PolicyCheck.the-variants.{Valid, Invalid}
+use Rattle.policy.specs.Policy.{policyValid}
 use Rattle.status.specs.declared.Status.{Status}
 use Rattle.status.specs.declared.Status.the-variants.{Success, InvalidParameter, BufferTooSmall, WriteProtected, OutOfResources, VolumeCorrupted, AlreadyStarted}
 use Rattle.rules.specs.Engine.{registerStatus, dumpStatus}
-
-pub record Checked (p : Bytes) (count taken : ℕ) : Type 0 where
-  pub valid : policyValid p ≡ true
-  pub counted : count ≡ length (entriesOf p)
-  pub summed : taken ≡ sizesSum p
-
-pub check-valid : (p : Bytes) (count taken : ℕ) → policyCheck p ≡ Valid count taken → Checked p count taken
-unfolding policyCheck
-check-valid p count taken e = go (policyValid p) refl e
-  where
-    go : (b : Bool) → policyValid p ≡ b → cond b (Valid (length (entriesOf p)) (sizesSum p)) Invalid ≡ Valid count taken → Checked p count taken
-    go true h k = record { valid = h; counted = cc; summed = cc }
-    go false h k = let z : _≡_ {A = ℕ} 0 1 = cc in absurd (omega arith)
-
-pub check-invalid : (p : Bytes) → policyCheck p ≡ Invalid → policyValid p ≡ false
-unfolding policyCheck
-check-invalid p e = go (policyValid p) refl e
-  where
-    go : (b : Bool) → policyValid p ≡ b → cond b (Valid (length (entriesOf p)) (sizesSum p)) Invalid ≡ Invalid → policyValid p ≡ false
-    go true h k = let z : _≡_ {A = ℕ} 0 1 = cc in absurd (omega arith)
-    go false h k = h
 
 -- a call that is lent the record, by the check
 pub lent-invalid : (p : Bytes) (n : Status) → policyValid p ≡ false → cond (policyValid p) n VolumeCorrupted ≡ VolumeCorrupted

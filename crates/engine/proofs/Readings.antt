@@ -6,7 +6,8 @@ use mathlib.Core.Bool.{Bool, true, false, cond}
 use native.Mathlib.Omega.{arith}
 use Rattle.slices.specs.Bytes.{Bytes}
 use Rattle.names.specs.Name.{Variable, named}
-use Rattle.pair.specs.Pair.{sound, lookup, attributesFound, payloadFound}
+use Rattle.pair.specs.Pair.{sound, lookup}
+use Rattle.store.specs.Parts.{attributesIn, payloadIn}
 use Rattle.status.specs.declared.Status.{Status}
 use Rattle.status.specs.declared.Status.the-variants.{Success, InvalidParameter, VolumeCorrupted, NotFound}
 use Rattle.status.specs.Status.{isSuccess}
@@ -97,12 +98,12 @@ module _ (nv vol : Bytes) (v : Variable) where
       read-refused =
           record {
             itsStatus = ap (λ x. x .0 .status) step-refused;
-            itsAttributes = ap (λ x. x .0 .number) step-refused ∙ ap (λ b. cond b (attributesFound (lookup nv vol v)) 0) refuses;
+            itsAttributes = ap (λ x. x .0 .number) step-refused ∙ ap (λ b. cond b (attributesIn (lookup nv vol v)) 0) refuses;
             itsState = ap (λ x. x .1) step-refused;
           }
 
       pub payload-refused : [] ≡ step (stateOf nv vol policy w) (read v) .0 .bytes
-      payload-refused = sym (ap (λ x. x .0 .bytes) step-refused ∙ ap (λ b. cond b (payloadFound (lookup nv vol v)) []) refuses)
+      payload-refused = sym (ap (λ x. x .0 .bytes) step-refused ∙ ap (λ b. cond b (payloadIn (lookup nv vol v)) []) refuses)
 
     module _ (p : Place) (e : readingOf nv vol v ≡ Stands p) where
       step-stands : step (stateOf nv vol policy w) (read v) ≡ (readAnswer Success (lookup nv vol v), stateOf nv vol policy w)
@@ -115,9 +116,9 @@ module _ (nv vol : Bytes) (v : Variable) where
       read-stands k =
           record {
             itsStatus = ap (λ x. x .0 .status) step-stands;
-            itsAttributes = ap (λ x. x .0 .number) step-stands ∙ ap attributesFound found ∙ sym k;
+            itsAttributes = ap (λ x. x .0 .number) step-stands ∙ ap attributesIn found ∙ sym k;
             itsState = ap (λ x. x .1) step-stands;
           }
 
       pub payload-stands : {d : Bytes} → d ≡ payloadAt nv vol p → d ≡ step (stateOf nv vol policy w) (read v) .0 .bytes
-      payload-stands k = k ∙ sym (ap (λ x. x .0 .bytes) step-stands ∙ ap payloadFound found)
+      payload-stands k = k ∙ sym (ap (λ x. x .0 .bytes) step-stands ∙ ap payloadIn found)

@@ -5,6 +5,7 @@ use mathlib.Core.Bool.{Bool, true, false, cond, _||_}
 use lib.ListN.{length, getD}
 use lib.Dec.{eqb, leb}
 use lib.Bits.{bitAnd}
+use Rattle.limits.specs.Limits.{entryHeader, triggerHeader, wholeNamespaceRank}
 use Rattle.slices.specs.Test.{_and_}
 use Rattle.slices.specs.Bytes.{Bytes, le16, le32, part, same}
 use Rattle.names.specs.Name.{Variable, isTerminated, units, matches, wildcards}
@@ -46,7 +47,7 @@ lockPolicyType e = getD e 40 0
 -- the header's rules: 44 bytes at least, Version 0x00010000, Size the length given, MinSize ≤ MaxSize, no common bit
 unfoldable pub headerOk : Bytes → Bool
 headerOk e =
-    leb 44 (length e)
+    leb entryHeader (length e)
     and eqb (version e) 0x10000
     and eqb (sizeField e) (length e)
     and leb (minSize e) (maxSize e)
@@ -55,9 +56,9 @@ headerOk e =
 -- types 0 to 2: OffsetToName is 44; type 3: the trigger's name, with its zero unit, from byte 62 up to OffsetToName
 unfoldable pub lockOk : Bytes → Bool
 lockOk e =
-    cond (leb (lockPolicyType e) 2) (eqb (offsetToName e) 44)
+    cond (leb (lockPolicyType e) 2) (eqb (offsetToName e) entryHeader)
     (eqb (lockPolicyType e) 3
-    and leb 62 (offsetToName e) and leb (offsetToName e) (length e) and isTerminated (part 62 (offsetToName e) e))
+    and leb triggerHeader (offsetToName e) and leb (offsetToName e) (length e) and isTerminated (part triggerHeader (offsetToName e) e))
 
 -- the entry's name from OffsetToName to Size: empty, or a name with its zero unit
 abbrev pub nameIsEmpty : Bytes → Bool
@@ -108,10 +109,10 @@ parse e = cond (wellFormed e) (WellFormed (entryOf e)) Malformed
 unfoldable pub targets : Bytes → Variable → Bool
 targets e v = same (namespaceOf e) (v .namespace) and (nameIsEmpty e || matches (units (nameOf e)) (units (v .name)))
 
--- rank: the number of '#'; an empty name ranks behind all others
+-- rank of a well-formed entry: the number of '#'; an empty name ranks behind all others
 unfoldable pub rank : Bytes → ℕ
-rank e = cond (nameIsEmpty e) 65 (wildcards (units (nameOf e)))
+rank e = cond (nameIsEmpty e) wholeNamespaceRank (wildcards (units (nameOf e)))
 
--- the same entry name and namespace: what registration answers 20 to
+-- the same entry name and namespace, of well-formed entries: what registration answers 20 to
 unfoldable pub sameTarget : Bytes → Bytes → Bool
 sameTarget e f = same (namespaceOf e) (namespaceOf f) and same (nameOf e) (nameOf f)

@@ -184,30 +184,6 @@ pub fn same_namespace(a: &[u8], b: &[u8]) -> bool
     ok
 }
 
-// Whether the entry targets the variable of that namespace and name.
-pub fn targets(e: &[u8], namespace: &[u8], name: &[u8]) -> bool
-    ensures { λ r.
-        ⌜ r ≡ targets (now (e .entry)) (record { namespace = now (namespace .entry); name = now (name .entry) }) ⌝ }
-{
-    if slices::equal(slices::part(e, 8, 24), namespace) {
-        if slices::le16(e, 6) as usize == e.len() {
-            return true;
-        }
-        return names::matches(name_bytes(e), name);
-    }
-    false
-}
-
-// The number of '#' in the entry's name; an empty name ranks behind all others.
-pub fn rank(e: &[u8]) -> usize
-    ensures { λ r. ⌜ r ≡ rank (now (e .entry)) ⌝ }
-{
-    if slices::le16(e, 6) as usize == e.len() {
-        return 65;
-    }
-    names::wildcards(name_bytes(e))
-}
-
 // Whether two entries have the same namespace and the same name.
 pub fn same_target(e: &[u8], f: &[u8]) -> bool
     ensures { λ r. ⌜ r ≡ sameTarget (now (e .entry)) (now (f .entry)) ⌝ }

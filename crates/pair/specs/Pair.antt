@@ -1,14 +1,14 @@
 -- The two stores: the non-volatile one and the volatile one.
 -- Assumes nothing: these are definitions.
 use Prim.Native.Nat.{ℕ}
-use mathlib.Core.List.{List, [], _++_}
+use mathlib.Core.List.{List, _++_}
 use mathlib.Core.Bool.{Bool, true, false, cond}
-use mathlib.Core.Option.{Option, none, some}
+use mathlib.Core.Option.{Option}
 use Rattle.slices.specs.Test.{_and_}
 use Rattle.slices.specs.Bytes.{Bytes}
 use Rattle.slices.specs.Chunks.{distinct, find}
 use Rattle.names.specs.Name.{Variable}
-use Rattle.store.specs.Record.{sameVariable, isOf, attributesOf, payloadOf}
+use Rattle.store.specs.Record.{sameVariable, isOf}
 use Rattle.store.specs.Store.{recordsOf, endOf, storeOk}
 use Rattle.pair.specs.declared.PairCheck.{PairCheck}
 use Rattle.pair.specs.declared.PairCheck.the-variants.{Sound, Unsound}
@@ -31,12 +31,3 @@ pairCheck nv vol = cond (sound nv vol) (Sound (endOf true nv) (endOf false vol))
 -- the variable's record, in whichever store holds it
 unfoldable pub lookup : Bytes → Bytes → Variable → Option Bytes
 lookup nv vol v = find (isOf v) (allRecords nv vol)
-
--- what a found record says: its attributes and its payload; zero and nothing where there is none
-abbrev pub attributesFound : Option Bytes → ℕ
-attributesFound none = 0
-attributesFound (some r) = attributesOf r
-
-abbrev pub payloadFound : Option Bytes → Bytes
-payloadFound none = []
-payloadFound (some r) = payloadOf r

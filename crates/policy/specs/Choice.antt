@@ -18,9 +18,8 @@ use Rattle.policy.specs.declared.Choice.the-variants.{Chosen, Nothing}
 unfoldable pub chosen : List Bytes → Variable → Option Bytes
 chosen es v = lists.chosen rank (λ e. targets e v) es
 
--- the same with its place in the list, its first byte and its rank
-
--- a rank is better than the best so far: lower
+-- The same with its place in the list, its first byte and its rank, as the code answers it.
+-- A rank is better than the best so far: lower
 abbrev pub beats : ℕ → Choice → Bool
 beats r Nothing = true
 beats r (Chosen i at b) = ltb r b

@@ -14,7 +14,8 @@ use Rattle.names.specs.Name.{Variable, named}
 use Rattle.entry.specs.Entry.{wellFormed, sameTarget}
 use Rattle.policy.specs.Policy.{entriesOf, packPolicy, emptyPolicy, policyValid}
 use Rattle.policy.specs.Choice.{chosen}
-use Rattle.pair.specs.Pair.{sound, soundAlone, lookup, attributesFound, payloadFound}
+use Rattle.pair.specs.Pair.{sound, soundAlone, lookup}
+use Rattle.store.specs.Parts.{attributesIn, payloadIn}
 use Rattle.status.specs.declared.Status.{Status}
 use Rattle.status.specs.declared.Status.the-variants.{Success, InvalidParameter, BufferTooSmall, WriteProtected, OutOfResources, VolumeCorrupted, NotFound, AlreadyStarted}
 use Rattle.status.specs.Status.{isSuccess, statusNumber}
@@ -135,7 +136,7 @@ queried n enabled = record { status = n; number = cond enabled 1 0; bytes = []; 
 -- a read: the attributes, and the payload
 abbrev pub readAnswer : Status → Option Bytes → Answer
 readAnswer n r =
-    record { status = n; number = cond (isSuccess n) (attributesFound r) 0; bytes = cond (isSuccess n) (payloadFound r) []; switches = none }
+    record { status = n; number = cond (isSuccess n) (attributesIn r) 0; bytes = cond (isSuccess n) (payloadIn r) []; switches = none }
 
 abbrev pub answer : State → Call → Status → Answer
 answer s (powerOn allowed) n = started n allowed

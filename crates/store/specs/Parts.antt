@@ -10,7 +10,7 @@ use Rattle.limits.specs.Limits.{maxPayload}
 use Rattle.slices.specs.Bytes.{Bytes, padded}
 use Rattle.slices.specs.Chunks.{find}
 use Rattle.names.specs.Name.{Variable, named}
-use Rattle.store.specs.Record.{nameSize, dataSize, payloadOf, isOf, attributesOk}
+use Rattle.store.specs.Record.{attributesOf, nameSize, dataSize, payloadOf, isOf, attributesOk}
 use Rattle.store.specs.Store.{recordsOf}
 
 -- the variable of this namespace and name
@@ -30,7 +30,11 @@ pub record Storable (nonVolatile : Bool) (attributes : ℕ) (v : Variable) (payl
   pub some : 1 ≤ length payload
   pub most : length payload ≤ maxPayload
 
--- a payload where a record was found, or nothing
+-- what a found record says: its attributes and its payload; zero and nothing where there is none
+abbrev pub attributesIn : Option Bytes → ℕ
+attributesIn none = 0
+attributesIn (some r) = attributesOf r
+
 abbrev pub payloadIn : Option Bytes → Bytes
 payloadIn none = []
 payloadIn (some r) = payloadOf r

@@ -5,7 +5,7 @@ use mathlib.Core.List.{List, [], _∷_, _++_}
 use mathlib.Core.Bool.{Bool, true, false, cond}
 use lib.ListN.{length, getD, take, drop, replicate}
 use lib.Dec.{eqb, leb}
-use Rattle.limits.specs.Limits.{maxPayload}
+use Rattle.limits.specs.Limits.{maxNameSize, maxPayload}
 use Rattle.slices.specs.Test.{_and_}
 use Rattle.slices.specs.Bytes.{Bytes, le32, le32Bytes, part, same, allAre}
 use Rattle.names.specs.Name.{Variable, isTerminated}
@@ -61,7 +61,7 @@ unfoldable pub headerOk : Bool → Bytes → Bool
 headerOk nonVolatile r =
     same (take 4 r) recordMark
     and attributesOk nonVolatile (attributesOf r)
-    and leb 4 (nameSize r) and leb (nameSize r) 130
+    and leb 4 (nameSize r) and leb (nameSize r) maxNameSize
     and leb 1 (dataSize r) and leb (dataSize r) maxPayload
 
 -- the name with its zero unit, and 0xFF behind the payload

@@ -82,20 +82,6 @@ pub fn record_length(t: &[u8], nonvolatile: bool) -> usize
     if body_ok(&t[..size], n, d) { size } else { 0 }
 }
 
-// Where the records end.
-pub fn end_of(s: &[u8], nonvolatile: bool) -> usize
-    ensures { λ r. ⌜ r ≡ endOf nonvolatile (now (s .entry)) ⌝ }
-{
-    let mut at = 0;
-    loop {
-        let n = record_length(&s[at..], nonvolatile);
-        if n == 0 {
-            return at;
-        }
-        at += n;
-    }
-}
-
 // Whether the record r is that of the variable: the names first, since most records share a namespace.
 fn is_of(r: &[u8], namespace: &[u8], name: &[u8]) -> bool
     requires { ⌜ HeaderFits (now r) ⌝ }

@@ -9,7 +9,7 @@ use Rattle.names.specs.Name.{Variable}
 use Rattle.store.specs.declared.Found.{Found}
 use Rattle.store.specs.declared.Found.the-variants.{At, Absent}
 use Rattle.store.specs.Store.{placeOf}
-use Rattle.pair.specs.Pair.{attributesFound, payloadFound}
+use Rattle.store.specs.Parts.{attributesIn, payloadIn}
 use Rattle.variables.specs.declared.Place.{Place}
 use Rattle.variables.specs.declared.Place.the-variants.{NonVolatile, Volatile, Nowhere}
 
@@ -36,10 +36,10 @@ recordAt nv vol Nowhere = none
 
 -- what the record at a place says
 abbrev pub attributesAt : Bytes → Bytes → Place → ℕ
-attributesAt nv vol p = attributesFound (recordAt nv vol p)
+attributesAt nv vol p = attributesIn (recordAt nv vol p)
 
 abbrev pub payloadAt : Bytes → Bytes → Place → Bytes
-payloadAt nv vol p = payloadFound (recordAt nv vol p)
+payloadAt nv vol p = payloadIn (recordAt nv vol p)
 
 -- a place lies within its store
 abbrev pub Within : Bytes → Bytes → Place → Type 0

@@ -1,6 +1,6 @@
 use Rattle.engine.proofs.Registered.{dump-invalid, dump-needs, dump-granted}
-use Rattle.engine.proofs.Checked.{check-valid, check-invalid, dump-short, dump-done}
-use Rattle.policy.specs.PolicyLaws.{sizesSum-flat}
+use Rattle.engine.proofs.Checked.{dump-short, dump-done}
+use Rattle.policy.specs.PolicyLaws.{sizesSum-flat, check-valid, check-invalid}
 use Rattle.policy.specs.Policy.{entriesOf}
 use Rattle.slices.specs.Chunks.{flat}
 use lib.ListN.{length}

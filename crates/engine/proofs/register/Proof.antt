@@ -1,7 +1,7 @@
 use Rattle.engine.proofs.Registered.{register-invalid, register-refused, register-granted}
-use Rattle.engine.proofs.Checked.{check-valid, check-invalid, register-locked, register-malformed, register-repeated, register-many, register-long, register-done}
+use Rattle.engine.proofs.Checked.{register-locked, register-malformed, register-repeated, register-many, register-long, register-done}
 use Rattle.status.specs.declared.Status.the-variants.{WriteProtected, InvalidParameter, AlreadyStarted, OutOfResources}
-use Rattle.policy.specs.PolicyLaws.{sizesSum-flat, sizesSum-within, policyValid-length}
+use Rattle.policy.specs.PolicyLaws.{sizesSum-flat, sizesSum-within, policyValid-length, check-valid, check-invalid}
 use Rattle.policy.specs.Policy.{entriesOf}
 use Rattle.entry.specs.EntryLaws.{sized}
 use Rattle.slices.specs.Chunks.{flat}

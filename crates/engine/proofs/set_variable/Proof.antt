@@ -1,6 +1,6 @@
 use Rattle.engine.proofs.Sets.{set-unsound, set-invalid, set-refused, set-kept, set-deleted, set-storing, set-stored}
 use Rattle.engine.proofs.Started.{pair-sound, pair-unsound}
-use Rattle.engine.proofs.Checked.{check-valid, check-invalid}
+use Rattle.policy.specs.PolicyLaws.{check-valid, check-invalid}
 use Rattle.decision.specs.Decision.{requestOf}
 use mathlib.Core.Path.{sym, _∙_}
 use borrow.Author.Needs.{needs}
