@@ -14,6 +14,7 @@ ghost use Rattle.switches.specs.Switches.{freshSwitches, refusedSwitches};
 ghost use Rattle.decision.specs.Decision.{requestOf};
 ghost use Rattle.engine.specs.Answers.{dumpAnswer, queryAnswer, readingOf, ReadStep};
 use decision::Decision;
+use entry::Parsed;
 use pair::PairCheck;
 use policy::PolicyCheck;
 use status::Status;
@@ -147,9 +148,10 @@ pub fn register(policy: &mut [u8], switches: Switches, entry: &[u8]) -> Status
     if switches.locked {
         return Status::WriteProtected;
     }
-    if !entry::well_formed(entry) {
+    let parsed = entry::parse(entry);
+    let Parsed::WellFormed(_) = parsed else {
         return Status::InvalidParameter;
-    }
+    };
     if policy::contains(policy, count, entry) {
         return Status::AlreadyStarted;
     }
