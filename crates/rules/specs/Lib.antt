@@ -2,5 +2,6 @@ pub mod Set
 pub mod SetLaws
 pub mod Engine
 pub mod EngineLaws
+pub mod LentLaws
 pub mod StateLaws
 pub mod Readings
