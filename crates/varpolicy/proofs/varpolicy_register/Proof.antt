@@ -1,0 +1,21 @@
+-- `varpolicy::varpolicy_register` meets its contract, by `engine::register`. Assumes nothing.
+use borrow.Author.Needs.{needs}
+use Rattle.varpolicy.proofs.Answers.{status-numbered}
+use Rattle.varpolicy.proofs.varpolicy_register.Statement.{statement}
+use Rattle.varpolicy.proofs.varpolicy_register.Tie as tie
+
+register-requires : tie.Need-register-requires
+register-requires c κs = search needs
+
+number-requires : tie.Need-number-requires
+number-requires c κs = search needs
+
+same-length : tie.Need-same-length
+same-length c = search needs
+
+returns : tie.Need-returns
+returns c = λ nv vol. status-numbered _ (c .before .before .before .register .ensures nv vol) (c .number .ensures)
+
+pub varpolicy-register-spec : {M : Type 1} → statement M
+varpolicy-register-spec =
+    tie.close (tie.spec register-requires number-requires same-length returns)

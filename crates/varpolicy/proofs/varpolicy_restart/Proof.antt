@@ -1,0 +1,21 @@
+-- `varpolicy::varpolicy_restart` meets its contract, by `engine::restart`. Assumes nothing.
+use borrow.Author.Needs.{needs}
+use Rattle.varpolicy.proofs.Answers.{start-numbered}
+use Rattle.varpolicy.proofs.varpolicy_restart.Statement.{statement}
+use Rattle.varpolicy.proofs.varpolicy_restart.Tie as tie
+
+restart-requires : tie.Need-restart-requires
+restart-requires c κs = search needs
+
+numbered-start-requires : tie.Need-numbered-start-requires
+numbered-start-requires c κs = search needs
+
+same-length : tie.Need-same-length
+same-length c = search needs
+
+returns : tie.Need-returns
+returns c = λ w. start-numbered _ _ _ w _ (c .before .before .before .restart .ensures w) (c .numbered-start .ensures)
+
+pub varpolicy-restart-spec : {M : Type 1} → statement M
+varpolicy-restart-spec =
+    tie.close (tie.spec restart-requires numbered-start-requires same-length returns)

@@ -1,0 +1,24 @@
+-- `varpolicy::varpolicy_set` meets its contract, by `engine::set`. Assumes nothing.
+use borrow.Author.Needs.{needs}
+use Rattle.varpolicy.proofs.Answers.{status-numbered}
+use Rattle.varpolicy.proofs.varpolicy_set.Statement.{statement}
+use Rattle.varpolicy.proofs.varpolicy_set.Tie as tie
+
+set-requires : tie.Need-set-requires
+set-requires c κs = search needs
+
+number-requires : tie.Need-number-requires
+number-requires c κs = search needs
+
+same-length : tie.Need-same-length
+same-length c = search needs
+
+same-length-2 : tie.Need-same-length-2
+same-length-2 c = search needs
+
+returns : tie.Need-returns
+returns c = status-numbered _ (c .before .before .before .before .before .set .ensures) (c .number .ensures)
+
+pub varpolicy-set-spec : {M : Type 1} → statement M
+varpolicy-set-spec =
+    tie.close (tie.spec set-requires number-requires same-length same-length-2 returns)
