@@ -1,6 +1,6 @@
 -- Laws of well-formed entries. Assumes nothing.
 use Prim.Native.Nat.{ℕ, _+_, _-_, _≤_}
-use mathlib.Core.Path.{_≡_, refl, ap, ap₂, _∙_}
+use mathlib.Core.Path.{_≡_, refl, sym, ap, ap₂, _∙_}
 use mathlib.Core.List.{[]}
 use mathlib.Core.Bool.{Bool, true, false, cond, _||_}
 use mathlib.Core.Logic.{_⊎_, inl, inr}
@@ -9,7 +9,7 @@ use native.Mathlib.Nat.{le-refl}
 use lib.ListN.{length, take, drop, length-drop}
 use lib.Seq.{take-take}
 use lib.Dec.{eqb, leb}
-use borrow.Author.Tests.{eq-eqb, leb-true, eqb-true}
+use borrow.Author.Tests.{eq-eqb, ne-eqb, leb-true, eqb-true}
 use Rattle.limits.specs.Limits.{maxNameBytes, namespaceBytes}
 use Rattle.slices.specs.Test.{_and_}
 use Rattle.slices.specs.TestLaws.{and-left, and-right, and-intro}
@@ -84,6 +84,15 @@ unfolding wellFormed nameOk
 name-least e w q =
     let h : isTerminated (part (offsetToName e) (length e) e) ≡ true = rw q at (and-right _ _ (and-right _ _ (and-right _ _ w))) in
     omega (arith, isTerminated-length (part (offsetToName e) (length e) e) h, length-part (offsetToName e) (length e) e (le-refl (length e)))
+
+-- so the name is empty exactly if it has no bytes
+pub nameOf-none : (e : Bytes) → wellFormed e ≡ true → nameIsEmpty e ≡ eqb (length (nameOf e)) 0
+unfolding nameOf
+nameOf-none e w = go (nameIsEmpty e) refl
+  where
+    go : (t : Bool) → nameIsEmpty e ≡ t → t ≡ eqb (length (part (offsetToName e) (length e - 2) e)) 0
+    go true q = sym (eq-eqb _ 0 (ap length (part-none (offsetToName e) (length e - 2) e (omega (arith, eqb-true (offsetToName e) (length e) q)))))
+    go false q = sym (ne-eqb (length (part (offsetToName e) (length e - 2) e)) 0 (λ z. omega (arith, name-least e w q, length-part (offsetToName e) (length e - 2) e (omega arith))))
 
 pub nameOf-most : (e : Bytes) → wellFormed e ≡ true → length (nameOf e) ≤ maxNameBytes
 nameOf-most e w = go (nameOf-name e w)

@@ -159,15 +159,17 @@ pub fn parse(e: &[u8]) -> Parsed
     Parsed::Malformed
 }
 
-// The bytes of the entry's name without its zero unit; of an empty name, none.
+// The bytes of a well-formed entry's name without its zero unit; of an empty name, none.
 pub fn name_bytes(e: &[u8]) -> &[u8]
+    requires { ⌜ wellFormed (now e) ≡ true ⌝ }
     ensures { λ r. ⌜ now r ≡ nameOf (now (e .entry)) ⌝ }
 {
-    let offset = slices::le16(e, 6) as usize;
-    if e.len() < 2 {
-        return slices::part(e, offset, 0);
+    let start = slices::get16(e, 6);
+    let end = e.len();
+    if start == end {
+        return &e[..0];
     }
-    slices::part(e, offset, e.len() - 2)
+    &e[start..end - 2]
 }
 
 // Whether two namespaces are equal. No exit before the end, so that it is compiled to one wide compare.
@@ -184,12 +186,13 @@ pub fn same_namespace(a: &[u8], b: &[u8]) -> bool
     ok
 }
 
-// Whether two entries have the same namespace and the same name.
+// Whether two well-formed entries have the same namespace and the same name: the names first, since most entries share a namespace.
 pub fn same_target(e: &[u8], f: &[u8]) -> bool
+    requires { ⌜ (wellFormed (now e) ≡ true) × (wellFormed (now f) ≡ true) ⌝ }
     ensures { λ r. ⌜ r ≡ sameTarget (now (e .entry)) (now (f .entry)) ⌝ }
 {
-    if slices::equal(slices::part(e, 8, 24), slices::part(f, 8, 24)) {
-        return slices::equal(name_bytes(e), name_bytes(f));
+    if !slices::equal(name_bytes(e), name_bytes(f)) {
+        return false;
     }
-    false
+    same_namespace(&e[8..24], &f[8..24])
 }

@@ -2,17 +2,17 @@
 use Prim.Native.Nat.{ℕ, zero, suc, _+_, _-_, _*_, _/_, _%_, _≤_, _<_}
 use mathlib.Core.Path.{_≡_, refl, sym, ap, _∙_}
 use mathlib.Core.List.{List, [], _∷_, _++_}
-use mathlib.Core.Bool.{Bool, true, false, not}
+use mathlib.Core.Bool.{Bool, true, false, not, _&&_}
 use native.Mathlib.Omega.{arith}
 use native.Mathlib.Numerals.{add-one}
-use lib.ListN.{length, getD, take, drop, drop-of-length-le, length-append, length-take, take-append-drop}
+use lib.ListN.{length, getD, take, drop, drop-of-length-le, length-append, length-drop, length-take, take-append-drop}
 use lib.Seq.{drop-cons, getD-append-add, getD-append-seam, take-append-seam}
 use lib.Dec.{eqb}
 use borrow.Author.Tests.{eq-eqb, ne-eqb, le-leb, leb-true, eqb-true}
 use Rattle.limits.specs.Limits.{maxNameBytes, namespaceBytes}
 use Rattle.slices.specs.Test.{_and_}
-use Rattle.slices.specs.TestLaws.{and-left, and-right, and-intro}
-use Rattle.slices.specs.Bytes.{Bytes, pairwise}
+use Rattle.slices.specs.TestLaws.{and-left, and-right, and-intro, and-assoc, and-eager}
+use Rattle.slices.specs.Bytes.{Bytes, le16, pairwise}
 use Rattle.slices.specs.BytesLaws.{pairwise-refl}
 use Rattle.slices.specs.PartLaws.{drop-step}
 use Rattle.names.specs.Name.{units, noZero, isName, isTerminated, Variable, named, unitMatches, wildcards, numberSign, oneIf}
@@ -51,23 +51,39 @@ units-injective (a ∷ b ∷ s) (c ∷ d ∷ t) hs ht es et e =
     let q : b ≡ d = omega arith in
     rw (p, q, units-injective s t (λ i. hs (suc (suc i))) (λ i. ht (suc (suc i))) (omega arith) (omega arith) r)
 
+-- one turn of a loop over the bytes of the units
+module _ (s : Bytes) (i : ℕ) (h : i + 2 ≤ length s) where
+  pub noZero-step : noZero (units (drop i s)) ≡ (not (eqb (le16 s i) 0) and noZero (units (drop (i + 2) s)))
+  unfolding units noZero le16
+  noZero-step =
+      let e : i + 1 + 1 ≡ i + 2 = omega arith in
+      rw (drop-step s i (omega arith), drop-step s (i + 1) (omega arith), e)
+
+  pub noZero-hit : le16 s i ≡ 0 → noZero (units (drop i s)) ≡ false
+  unfolding _and_
+  noZero-hit e = noZero-step ∙ rw (eq-eqb (le16 s i) 0 e)
+
+  pub noZero-miss : (le16 s i ≡ 0 → ⊥) → noZero (units (drop i s)) ≡ noZero (units (drop (i + 2) s))
+  unfolding _and_
+  noZero-miss e = noZero-step ∙ rw (ne-eqb (le16 s i) 0 e)
+
+-- the same where the loop goes on after a zero
+pub noZero-more : {x : Bool} {u : ℕ} (ok : Bool) (s : Bytes) (i j : ℕ) → i + j + 2 ≤ length s → x ≡ (ok and noZero (units (drop (i + j) s))) → u ≡ le16 s (i + j)
+    → x ≡ ((ok && not (eqb u 0)) and noZero (units (drop (i + (j + 2)) s)))
+noZero-more ok s i j h e v =
+    let n : i + (j + 2) ≡ i + j + 2 = omega arith in
+    e ∙ rw (v, n, and-eager, noZero-step s (i + j) h) (sym (and-assoc ok (not (eqb (le16 s (i + j)) 0)) (noZero (units (drop (i + j + 2) s)))))
+
+pub noZero-end : (s : Bytes) (i : ℕ) → length s < i + 2 → noZero (units (drop i s)) ≡ true
+unfolding units noZero
+noZero-end s i h = go (drop i s) (omega (arith, length-drop i s))
+  where
+    go : (t : Bytes) → length t < 2 → noZero (units t) ≡ true
+    go [] k = refl
+    go (a ∷ []) k = refl
+    go (a ∷ b ∷ t) k = absurd (omega arith)
+
 -- one turn of a loop over the units
-pub noZero-step : (us : List ℕ) (k : ℕ) → k < length us → noZero (drop k us) ≡ (not (eqb (getD us k 0) 0) and noZero (drop (k + 1) us))
-unfolding noZero
-noZero-step us k h = rw (add-one, drop-cons us k 0)
-
-pub noZero-end : (us : List ℕ) (k : ℕ) → length us ≤ k → noZero (drop k us) ≡ true
-unfolding noZero
-noZero-end us k h = rw drop-of-length-le
-
-pub noZero-hit : (us : List ℕ) (k : ℕ) → k < length us → getD us k 0 ≡ 0 → noZero (drop k us) ≡ false
-unfolding _and_
-noZero-hit us k h e = noZero-step us k h ∙ rw (eq-eqb (getD us k 0) 0 e)
-
-pub noZero-miss : (us : List ℕ) (k : ℕ) → k < length us → (getD us k 0 ≡ 0 → ⊥) → noZero (drop k us) ≡ noZero (drop (k + 1) us)
-unfolding _and_
-noZero-miss us k h e = noZero-step us k h ∙ rw (ne-eqb (getD us k 0) 0 e)
-
 pub wildcards-step : (us : List ℕ) (k : ℕ) → k < length us → wildcards (drop k us) ≡ oneIf (eqb (getD us k 0) numberSign) + wildcards (drop (k + 1) us)
 unfolding wildcards
 wildcards-step us k h = rw (add-one, drop-cons us k 0)

@@ -1,6 +1,8 @@
 // Names of variables, entries and triggers: bytes of 16-bit little-endian units.
 ghost use mathlib.Core.Path.{_≡_};
-ghost use lib.ListN.{length, getD};
+ghost use Prim.Native.Nat.{_+_, _≤_};
+ghost use lib.ListN.{length, getD, drop};
+ghost use Rattle.slices.specs.Test.{_and_};
 ghost use Rattle.names.specs.Name.{units, noZero, isName, isTerminated, isHexDigit, unitMatches, matches, wildcards};
 
 // The number of whole units.
@@ -23,17 +25,36 @@ pub fn unit_at(s: &[u8], k: usize) -> u16
     }
 }
 
+// Whether none of the eight units from byte i on is zero. No exit before the end: it is compiled to one wide compare.
+fn eight_not_zero(s: &[u8], i: usize) -> bool
+    requires { ⌜ i + 16 ≤ length (now s) ⌝ }
+    ensures { λ r. ⌜ noZero (units (drop i (now (s .entry)))) ≡ (r and noZero (units (drop (i + 16) (now (s .entry))))) ⌝ }
+{
+    let mut ok = true;
+    let mut j = 0;
+    while j < 16 {
+        ok = ok & (slices::get16(s, i + j) != 0);
+        j += 2;
+    }
+    ok
+}
+
 // Whether no unit is zero.
 fn no_zero(s: &[u8]) -> bool
     ensures { λ r. ⌜ r ≡ noZero (units (now (s .entry))) ⌝ }
 {
-    let n = unit_count(s);
-    let mut k = 0;
-    while k < n {
-        if unit_at(s, k) == 0 {
+    let mut i = 0;
+    while 16 <= s.len() - i {
+        if !eight_not_zero(s, i) {
             return false;
         }
-        k += 1;
+        i += 16;
+    }
+    while 2 <= s.len() - i {
+        if slices::get16(s, i) == 0 {
+            return false;
+        }
+        i += 2;
     }
     true
 }

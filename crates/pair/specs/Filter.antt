@@ -2,10 +2,11 @@
 -- Assumes nothing: these are definitions.
 use Prim.Native.Nat.{ℕ, _+_, _*_, _/_, _%_}
 use mathlib.Core.Path.{_≡_}
-use mathlib.Core.List.{List, [], _∷_, _++_}
+use mathlib.Core.List.{List, _++_}
 use mathlib.Core.Bool.{Bool, cond}
 use lib.ListN.{length, getD}
 use Rattle.slices.specs.Bytes.{Bytes}
+use Rattle.slices.specs.Hash.{hashFrom}
 use Rattle.slices.specs.Chunks.{distinct}
 use Rattle.slices.specs.ChunksLaws.{All}
 use Rattle.names.specs.Name.{Variable}
@@ -14,12 +15,7 @@ use Rattle.store.specs.Store.{recordsOf, endOf}
 use Rattle.pair.specs.declared.Scanned.{Scanned}
 use Rattle.pair.specs.declared.Scanned.the-variants.{End, Repeated}
 
--- a hash of the units of a list, behind h
-unfoldable pub hashFrom : ℕ → Bytes → ℕ
-hashFrom h [] = h
-hashFrom h (a ∷ []) = h
-hashFrom h (a ∷ b ∷ l) = hashFrom (h % 4294967296 * 2654435761 + (a + 256 * b)) l
-
+-- the hash of a variable
 unfoldable pub hashOf : Variable → ℕ
 hashOf v = hashFrom (hashFrom 0 (v .namespace)) (v .name) % 4294967296 * 2654435761
 

@@ -11,7 +11,7 @@ ghost use Rattle.store.specs.Record.{variableOf, isOf, sameVariable};
 ghost use Rattle.store.specs.Store.{recordsOf, endOf};
 ghost use Rattle.store.specs.Parts.{variable, HeaderFits};
 ghost use Rattle.pair.specs.Pair.{soundAlone, pairCheck};
-ghost use Rattle.pair.specs.Filter.{hashFrom, hashOf, slotOf, fingerprintOf, Filter, scanned};
+ghost use Rattle.pair.specs.Filter.{hashOf, slotOf, fingerprintOf, Filter, scanned};
 
 // What the check of the two stores finds: where the records of each end; or that they are unsound.
 pub enum PairCheck {
@@ -26,26 +26,13 @@ pub enum Scanned {
     Repeated,
 }
 
-// A hash of h and the units of s.
-fn hash_units(h0: usize, s: &[u8]) -> usize
-    ensures { λ r. ⌜ r ≡ hashFrom h0 (now (s .entry)) ⌝ }
-{
-    let mut h = h0;
-    let mut i = 0;
-    while 2 <= s.len() - i {
-        h = h % 4294967296 * 2654435761 + slices::get16(s, i);
-        i += 2;
-    }
-    h
-}
-
 // A hash of the namespace and the name of a record.
 fn hash(r: &[u8]) -> usize
     requires { ⌜ HeaderFits (now r) ⌝ }
     ensures { λ x. ⌜ x ≡ hashOf (variableOf (now (r .entry))) ⌝ }
 {
     let n = slices::get32(r, 8);
-    let h = hash_units(hash_units(0, &r[16..32]), &r[32..30 + n]);
+    let h = slices::hash(slices::hash(0, &r[16..32]), &r[32..30 + n]);
     h % 4294967296 * 2654435761
 }
 

@@ -11,9 +11,10 @@ use borrow.Author.Tests.{eq-eqb, ne-eqb, le-leb, lt-leb, eqb-true, eqb-false}
 use Rattle.limits.specs.Limits.{maxEntries, policyBytes}
 use Rattle.slices.specs.Test.{_and_}
 use Rattle.slices.specs.TestLaws.{and-no, and-yes, forced-off}
-use Rattle.slices.specs.Bytes.{Bytes, le16, le32, part, allAre}
-use Rattle.slices.specs.PartLaws.{drop-step, part-of}
+use Rattle.slices.specs.Bytes.{Bytes, le32, part, allAre}
+use Rattle.slices.specs.PartLaws.{part-of}
 use Rattle.slices.specs.NumberLaws.{le32-take, le32-drop}
+use Rattle.slices.specs.Hash.{hashFrom}
 use Rattle.slices.specs.Chunks.{contains, distinct}
 use Rattle.slices.specs.ChunksLaws.{All, nil, more}
 use Rattle.slices.specs.ItemsLaws.{or-off, or-right-off, all-append, all-map, contains-append, contains-one, distinct-apart, distinct-left, distinct-append}
@@ -21,34 +22,19 @@ use Rattle.entry.specs.Entry.{namespaceOf, nameOf, sameTarget}
 use Rattle.entry.specs.EntryLaws.{sameTarget-same, sameTarget-sym, sameTarget-alike}
 use Rattle.policy.specs.declared.PolicyCheck.the-variants.{Valid, Invalid}
 use Rattle.policy.specs.Policy.{entryLength, entriesOf, sizesSum, policyValid, policyCheck}
-use Rattle.policy.specs.Filter.{hashFrom, slotOf, Marks}
+use Rattle.policy.specs.Filter.{slots, slotAt, slotOf, Marks}
 use Rattle.policy.proofs.Walk.{At, at-start, at-next, all-met, sum-met, count-met, more-left, whole, grown}
 
--- ---- the hash
-pub hash-step : (h : ℕ) (l : Bytes) (i : ℕ) → i + 1 < length l → hashFrom h (drop i l) ≡ hashFrom (h % 4294967296 * 2654435761 + le16 l i) (drop (i + 2) l)
-unfolding hashFrom le16
-hash-step h l i k =
-    let e : i + 1 + 1 ≡ i + 2 = omega arith in
-    rw (drop-step l i (omega arith), drop-step l (i + 1) k, e)
-
-short : (h : ℕ) (l : Bytes) → length l < 2 → hashFrom h l ≡ h
-unfolding hashFrom
-short h [] k = refl
-short h (a ∷ []) k = refl
-short h (a ∷ b ∷ l) k = absurd (omega arith)
-
-pub hash-end : (h : ℕ) (l : Bytes) (i : ℕ) → length (drop i l) < 2 → hashFrom h (drop i l) ≡ h
-hash-end h l i k = short h (drop i l) k
-
+-- ---- the slot
 -- the namespace's first bytes in the entry
 namespace-start : (e : Bytes) → le32 (namespaceOf e) 0 ≡ le32 e 8
 namespace-start e = le32-take 16 (drop 8 e) 0 (omega arith) ∙ le32-drop 8 e 0
 
-pub slot-is : {h n : ℕ} {m : Bytes} (e : Bytes) → n ≡ le32 e 8 → m ≡ nameOf e → h ≡ hashFrom n m → h % 4294967296 * 2654435761 / 1048576 % 4096 ≡ slotOf e
+pub slot-is : {h n : ℕ} {m : Bytes} (e : Bytes) → n ≡ le32 e 8 → m ≡ nameOf e → h ≡ hashFrom n m → slotAt h ≡ slotOf e
 unfolding slotOf
 slot-is e a b c = rw (c, a, b, namespace-start e)
 
-pub slot-bound : (h : ℕ) → h % 4096 < 4096
+pub slot-bound : (h : ℕ) → h % slots < slots
 slot-bound h = omega arith
 
 -- ---- the filter
@@ -56,7 +42,7 @@ slot-same : (e f : Bytes) → sameTarget e f ≡ true → slotOf f ≡ slotOf e
 unfolding slotOf
 slot-same e f h =
     let s = sameTarget-same e f h in
-    ap₂ (λ n m. hashFrom (le32 n 0) m % 4294967296 * 2654435761 / 1048576 % 4096) (sym (s .namespace)) (sym (s .name))
+    ap₂ (λ n m. slotAt (hashFrom (le32 n 0) m)) (sym (s .namespace)) (sym (s .name))
 
 -- a slot that is not 1: no entry with the same namespace and name was met
 unmarked : (t : List ℕ) (e : Bytes) (es : List Bytes) → All (λ f. getD t (slotOf f) 0 ≡ 1) es → getD t (slotOf e) 0 ≡ 0
@@ -70,7 +56,7 @@ unmarked t e (f ∷ es) (more m ms) z = or-off (sameTarget e f) (contains (sameT
 
 -- what the code finds at a slot
 module _ (e : Bytes) {k : ℕ} (s : k ≡ slotOf e) where
-  pub slot-below : k < 4096 → slotOf e < 4096
+  pub slot-below : k < slots → slotOf e < slots
   slot-below h = rw s at h
 
   pub slot-set : (t : List ℕ) → set t k 1 ≡ set t (slotOf e) 1
@@ -79,7 +65,7 @@ module _ (e : Bytes) {k : ℕ} (s : k ≡ slotOf e) where
   pub slot-free : (t : List ℕ) (es : List Bytes) → Marks t es → getD t k 0 ≡ 0 → false ≡ contains (sameTarget e) es
   slot-free t es m z = sym (unmarked t e es (m .marks) (rw s at z))
 
-pub marks-none : (t : List ℕ) → length t ≡ 4096 → Marks t []
+pub marks-none : (t : List ℕ) → length t ≡ slots → Marks t []
 marks-none t e = record { room = e; marks = nil }
 
 kept : (t : List ℕ) (i j : ℕ) → i < length t → getD t j 0 ≡ 1 → getD (set t i 1) j 0 ≡ 1
@@ -89,7 +75,7 @@ kept t i j h e = go (eqb j i) refl
     go true q = ap (λ (k : ℕ). getD (set t i 1) k 0) (eqb-true j i q) ∙ getD-set-same t i 1 0 h
     go false q = getD-set-other t i j 1 0 (eqb-false j i q) ∙ e
 
-pub marks-more : (t : List ℕ) (es : List Bytes) (e : Bytes) → Marks t es → slotOf e < 4096 → Marks (set t (slotOf e) 1) (es ++ (e ∷ []))
+pub marks-more : (t : List ℕ) (es : List Bytes) (e : Bytes) → Marks t es → slotOf e < slots → Marks (set t (slotOf e) 1) (es ++ (e ∷ []))
 marks-more t es e m h =
     let k : slotOf e < length t = rw (m .room) h in
     record {
@@ -153,12 +139,12 @@ module _ (p : Bytes) (t : List ℕ) (i at n : ℕ) (w : Checked p t i at) (e : e
         (ap (distinct sameTarget) (whole p i at (w .walk) n e h)
         ∙ repeated (take i (entriesOf p)) (take n (drop at p)) (entriesOf (drop (at + n) p)) (sym met ∙ z)))
 
-    pub checked-more : {t′ : List ℕ} → 0 < n → (i ≡ maxEntries → ⊥) → r ≡ false → t′ ≡ set t (slotOf (part at (at + n) p)) 1 → slotOf (part at (at + n) p) < 4096
+    pub checked-more : {t′ : List ℕ} → 0 < n → (i ≡ maxEntries → ⊥) → r ≡ false → t′ ≡ set t (slotOf (part at (at + n) p)) 1 → slotOf (part at (at + n) p) < slots
         → Checked p t′ (i + 1) (at + n)
     checked-more {t′ = t′} h l z u b =
         let g = grown p i at (w .walk) n e h in
         let u′ : t′ ≡ set t (slotOf (take n (drop at p))) 1 = rw part-of at u in
-        let b′ : slotOf (take n (drop at p)) < 4096 = rw part-of at b in
+        let b′ : slotOf (take n (drop at p)) < slots = rw part-of at b in
         record {
           walk = at-next p i at (w .walk) n e h;
           few = omega (arith, w .few);

@@ -11,6 +11,7 @@ use Rattle.slices.specs.Bytes.{Bytes, le16}
 use Rattle.slices.specs.NumberLaws.{le16-drop}
 use Rattle.slices.specs.Chunks.{flat, contains}
 use Rattle.slices.specs.ChunksLaws.{flat-append, flat-one}
+use Rattle.entry.specs.Entry.{wellFormed}
 use Rattle.policy.specs.Policy.{entryLength, entriesOf, sizesSum}
 use Rattle.policy.specs.PolicyLaws.{Begins, entryLength-begins, entriesOf-stop, entriesOf-step, sizesSum-flat}
 
@@ -42,6 +43,9 @@ module _ (p : Bytes) (i at : ℕ) (w : At p i at) where
   module _ (n : ℕ) (e : entryLength (drop at p) ≡ n) (h : 0 < n) where
     pub begins : Begins (drop at p) n
     begins = entryLength-begins n (drop at p) e h
+
+    pub formed : wellFormed (take n (drop at p)) ≡ true
+    formed = begins .formed
 
     pub size-here : le16 p (at + 4) ≡ n
     size-here = sym (le16-drop at p 4) ∙ begins .field

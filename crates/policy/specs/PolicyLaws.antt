@@ -69,6 +69,14 @@ entryLength-within p = go (entryLength p) refl
     go zero e = omega arith
     go (suc n) e = entryLength-begins (suc n) p e (omega arith) .within
 
+-- no entry is shorter than 44 bytes
+pub entryLength-short : (p : Bytes) → length p < 44 → entryLength p ≡ 0
+entryLength-short p h = go (entryLength p) refl
+  where
+    go : (n : ℕ) → entryLength p ≡ n → n ≡ 0
+    go zero e = refl
+    go (suc n) e = let b = entryLength-begins (suc n) p e (omega arith) in absurd (omega (arith, b .least, b .within))
+
 -- a well-formed entry before any other bytes
 pub entryLength-entry : (e m : Bytes) → wellFormed e ≡ true → entryLength (e ++ m) ≡ length e
 unfolding entryLength _and_

@@ -10,7 +10,7 @@ ghost use Rattle.slices.specs.Chunks.{flat, contains};
 ghost use Rattle.names.specs.Name.{units, matches};
 ghost use Rattle.entry.specs.Entry.{wellFormed, nameIsEmpty, nameOf, rank, sameTarget};
 ghost use Rattle.policy.specs.Policy.{entryLength, entriesOf, sizesSum, packPolicy, emptyPolicy, policyValid, policyCheck};
-ghost use Rattle.policy.specs.Filter.{hashFrom, slotOf, Marks};
+ghost use Rattle.policy.specs.Filter.{slots, slotOf, Marks};
 ghost use Rattle.policy.specs.Choice.{choiceOf};
 ghost use Rattle.policy.specs.Best.{asChoice};
 
@@ -34,7 +34,10 @@ pub enum Choice {
 pub fn entry_length(p: &[u8]) -> usize
     ensures { λ r. ⌜ r ≡ entryLength (now (p .entry)) ⌝ }
 {
-    let n = slices::le16(p, 4) as usize;
+    if p.len() < 44 {
+        return 0;
+    }
+    let n = slices::get16(p, 4);
     if p.len() < n {
         return 0;
     }
@@ -46,7 +49,7 @@ pub fn entry_length(p: &[u8]) -> usize
 
 // Whether one of the first count entries has the namespace and the name of e.
 fn is_among(policy: &[u8], count: usize, e: &[u8]) -> bool
-    requires { ⌜ count ≤ length (entriesOf (now policy)) ⌝ }
+    requires { ⌜ (count ≤ length (entriesOf (now policy))) × (wellFormed (now e) ≡ true) ⌝ }
     ensures { λ r. ⌜ r ≡ contains (sameTarget (now (e .entry))) (take count (entriesOf (now (policy .entry)))) ⌝ }
 {
     let mut at = 0;
@@ -62,34 +65,23 @@ fn is_among(policy: &[u8], count: usize, e: &[u8]) -> bool
     false
 }
 
-// A hash of h0 and the units of s.
-fn hash(h0: usize, s: &[u8]) -> usize
-    ensures { λ r. ⌜ r ≡ hashFrom h0 (now (s .entry)) ⌝ }
-{
-    let mut h = h0;
-    let mut i = 0;
-    while 2 <= s.len() - i {
-        h = h % 4294967296 * 2654435761 + slices::get16(s, i);
-        i += 2;
-    }
-    h
-}
-
 // The slot of an entry in the filter.
 fn slot(e: &[u8]) -> usize
+    requires { ⌜ wellFormed (now e) ≡ true ⌝ }
     ensures is { λ r. ⌜ r ≡ slotOf (now (e .entry)) ⌝ }
-    ensures bound { λ r. ⌜ r < 4096 ⌝ }
+    ensures bound { λ r. ⌜ r < slots ⌝ }
 {
-    let h = hash(slices::le32(e, 8) as usize, entry::name_bytes(e));
-    h % 4294967296 * 2654435761 / 1048576 % 4096
+    let h = slices::hash(slices::get32(e, 8), entry::name_bytes(e));
+    let product = h % 4294967296 * 2654435761;
+    (product % 4294967296 + product / 4294967296) / 4194304 % 1024
 }
 
 // Whether one of the first count entries, which the filter has, has the namespace and the name of e; the filter then has e too.
-fn is_repeated(policy: &[u8], count: usize, e: &[u8], marks: &mut [u8; 4096]) -> bool
-    requires { ⌜ (count ≤ length (entriesOf (now policy))) × Marks (now marks) (take count (entriesOf (now policy))) ⌝ }
+fn is_repeated(policy: &[u8], count: usize, e: &[u8], marks: &mut [u8; 1024]) -> bool
+    requires { ⌜ (count ≤ length (entriesOf (now policy))) × (wellFormed (now e) ≡ true) × Marks (now marks) (take count (entriesOf (now policy))) ⌝ }
     ensures answer { λ r. ⌜ r ≡ contains (sameTarget (now (e .entry))) (take count (entriesOf (now (policy .entry)))) ⌝ }
     ensures marked { λ _. ⌜ now (marks .exit) ≡ set (now (marks .entry)) (slotOf (now (e .entry))) 1 ⌝ }
-    ensures bound { λ _. ⌜ slotOf (now (e .entry)) < 4096 ⌝ }
+    ensures bound { λ _. ⌜ slotOf (now (e .entry)) < slots ⌝ }
 {
     let k = slot(e);
     let seen = marks[k];
@@ -101,7 +93,7 @@ fn is_repeated(policy: &[u8], count: usize, e: &[u8], marks: &mut [u8; 4096]) ->
 }
 
 // The check of a record of the right length, with a filter that has no entry.
-fn scan(policy: &[u8], marks: &mut [u8; 4096]) -> PolicyCheck
+fn scan(policy: &[u8], marks: &mut [u8; 1024]) -> PolicyCheck
     requires { ⌜ (length (now policy) ≡ policyBytes) × Marks (now marks) [] ⌝ }
     ensures { λ r. ⌜ r ≡ policyCheck (now (policy .entry)) ⌝ }
 {
@@ -127,10 +119,10 @@ fn scan(policy: &[u8], marks: &mut [u8; 4096]) -> PolicyCheck
 }
 
 // A filter that has no entry.
-fn no_marks() -> [u8; 4096]
-    ensures { λ r. ⌜ length r ≡ 4096 ⌝ }
+fn no_marks() -> [u8; 1024]
+    ensures { λ r. ⌜ length r ≡ slots ⌝ }
 {
-    [0u8; 4096]
+    [0u8; 1024]
 }
 
 // The check of a lent policy record: the right length, distinct well-formed entries within the limits, then zeros.
@@ -146,7 +138,7 @@ pub fn check(policy: &[u8]) -> PolicyCheck
 
 // Whether an entry of the record has the namespace and the name of e: what registration answers 20 to.
 pub fn contains(policy: &[u8], count: usize, e: &[u8]) -> bool
-    requires { ⌜ count ≡ length (entriesOf (now policy)) ⌝ }
+    requires { ⌜ (count ≡ length (entriesOf (now policy))) × (wellFormed (now e) ≡ true) ⌝ }
     ensures { λ r. ⌜ r ≡ contains (sameTarget (now (e .entry))) (entriesOf (now (policy .entry))) ⌝ }
 {
     is_among(policy, count, e)
@@ -183,12 +175,10 @@ fn rank_for(e: &[u8], name: &[u8]) -> usize
     ensures { λ r.
         ⌜ r ≡ cond (nameIsEmpty (now (e .entry)) || matches (units (nameOf (now (e .entry)))) (units (now (name .entry)))) (rank (now (e .entry))) 66 ⌝ }
 {
-    let start = slices::get16(e, 6);
-    let end = e.len();
-    if start == end {
+    let own = entry::name_bytes(e);
+    if own.len() == 0 {
         return 65;
     }
-    let own = &e[start..end - 2];
     if names::matches(own, name) {
         return names::wildcards(own);
     }

@@ -1,5 +1,5 @@
 -- Laws of tests on lists of bytes. Assumes nothing.
-use Prim.Native.Nat.{ℕ, zero, suc, _+_, _≤_, _<_}
+use Prim.Native.Nat.{ℕ, zero, suc, _+_, _-_, _≤_, _<_}
 use mathlib.Core.Path.{_≡_, refl, sym, ap, ap₂, _∙_}
 use mathlib.Core.List.{[], _∷_, _++_}
 use mathlib.Core.Bool.{Bool, true, false, _&&_, false≢true}
@@ -7,11 +7,11 @@ use native.Mathlib.Omega.{arith}
 use native.Mathlib.Nat.{add-zero}
 use native.Mathlib.Numerals.{add-one}
 use lib.ListN.{length, getD, drop, replicate, drop-of-length-le}
-use lib.Seq.{drop-cons}
+use lib.Seq.{drop-cons, drop-drop}
 use lib.Dec.{eqb}
 use borrow.Author.Tests.{eq-eqb, ne-eqb, eqb-true, eqb-false}
 use Rattle.slices.specs.Test.{_and_}
-use Rattle.slices.specs.TestLaws.{and-left, and-right, and-intro, and-no, and-assoc, and-eager}
+use Rattle.slices.specs.TestLaws.{and-left, and-right, and-intro, and-no, and-assoc, and-eager, forced-off}
 use Rattle.slices.specs.Bytes.{Bytes, pairwise, same, allAre}
 
 module _ (f : ℕ → ℕ → Bool) where
@@ -59,6 +59,23 @@ same-refl = pairwise-refl eqb (λ u. eq-eqb u u refl)
 
 pub same-of : (l m : Bytes) → l ≡ m → pairwise eqb l m ≡ true
 same-of l m e = rw e (same-refl m)
+
+-- what is the same from a place on is the same from each later one on
+pub same-later : (l m : Bytes) (i j : ℕ) → i ≤ j → same (drop i l) (drop i m) ≡ true → same (drop j l) (drop j m) ≡ true
+same-later l m i j h e =
+    let k : i + (j - i) ≡ j = omega arith in
+    same-of (drop j l) (drop j m) (rw k at (sym (drop-drop (j - i) i l) ∙ ap (drop (j - i)) (same-eq (drop i l) (drop i m) e) ∙ drop-drop (j - i) i m))
+
+-- eight bytes from i on that are not all the same
+pub same-not : {r : Bool} (l m : Bytes) (i : ℕ) → same (drop i l) (drop i m) ≡ (r and same (drop (i + 8) l) (drop (i + 8) m)) → r ≡ false → same l m ≡ false
+unfolding _and_
+same-not l m i e z = forced-off (same l m) (λ t. sym (e ∙ rw z) ∙ same-later l m 0 i (omega arith) t)
+
+-- the last eight bytes, from i on, are all the same
+pub same-last : {r : Bool} (l m : Bytes) (i j : ℕ) → same (drop i l) (drop i m) ≡ (r and same (drop (i + 8) l) (drop (i + 8) m)) → r ≡ true
+    → length l ≤ i + 8 → length m ≤ i + 8 → i ≤ j → same (drop j l) (drop j m) ≡ true
+unfolding _and_
+same-last l m i j e z a b h = same-later l m i j h (e ∙ rw z (pairwise-end eqb l m (i + 8) a b))
 
 eqb-sym : (x y : ℕ) → eqb x y ≡ eqb y x
 eqb-sym x y = go (eqb x y) refl

@@ -4,6 +4,7 @@ pub mod Bytes
 pub mod BytesLaws
 pub mod PartLaws
 pub mod NumberLaws
+pub mod Hash
 pub mod OverwriteLaws
 pub mod Chunks
 pub mod ChunksLaws

@@ -1,9 +1,10 @@
-// Byte primitives: numbers of two and four bytes, parts, tests of bytes, and writes and moves in place.
+// Byte primitives: numbers of two and four bytes, parts, tests of bytes, a hash, and writes and moves in place.
 ghost use mathlib.Core.Path.{_≡_};
 ghost use Prim.Native.Nat.{_+_, _≤_, _<_};
 ghost use lib.ListN.{length, getD, take, drop, replicate};
 ghost use Rattle.slices.specs.Test.{_and_};
 ghost use Rattle.slices.specs.Bytes.{le16, le32, part, allAre, same, overwrite};
+ghost use Rattle.slices.specs.Hash.{hashFrom};
 
 // The byte at a place, and 0 past the end.
 pub fn byte(s: &[u8], at: usize) -> u8
@@ -117,20 +118,12 @@ fn eight(a: &[u8], b: &[u8], i: usize) -> bool
     ok
 }
 
-// Whether two slices hold the same bytes.
-pub fn equal(a: &[u8], b: &[u8]) -> bool
+// The same, left at the first byte that differs: for a few bytes.
+fn few_equal(a: &[u8], b: &[u8]) -> bool
+    requires { ⌜ length (now a) ≡ length (now b) ⌝ }
     ensures { λ r. ⌜ r ≡ same (now (a .entry)) (now (b .entry)) ⌝ }
 {
-    if a.len() != b.len() {
-        return false;
-    }
     let mut i = 0;
-    while 8 <= a.len() - i {
-        if !eight(a, b, i) {
-            return false;
-        }
-        i += 8;
-    }
     while i < a.len() {
         if a[i] != b[i] {
             return false;
@@ -138,6 +131,46 @@ pub fn equal(a: &[u8], b: &[u8]) -> bool
         i += 1;
     }
     true
+}
+
+// Whether two slices hold the same bytes. The last eight are compared first, since names differ there most often.
+pub fn equal(a: &[u8], b: &[u8]) -> bool
+    ensures { λ r. ⌜ r ≡ same (now (a .entry)) (now (b .entry)) ⌝ }
+{
+    if a.len() != b.len() {
+        return false;
+    }
+    if a.len() < 8 {
+        return few_equal(a, b);
+    }
+    let last = a.len() - 8;
+    if !eight(a, b, last) {
+        return false;
+    }
+    let mut i = 0;
+    while i < last {
+        if !eight(a, b, i) {
+            return false;
+        }
+        i += 8;
+    }
+    true
+}
+
+// A hash of h0 and the bytes of s, four at a time.
+pub fn hash(h0: usize, s: &[u8]) -> usize
+    ensures { λ r. ⌜ r ≡ hashFrom h0 (now (s .entry)) ⌝ }
+{
+    let mut h = h0;
+    let mut i = 0;
+    while 4 <= s.len() - i {
+        h = h % 4294967296 * 2654435761 + get32(s, i);
+        i += 4;
+    }
+    if 2 <= s.len() - i {
+        h = h % 4294967296 * 2654435761 + get16(s, i);
+    }
+    h
 }
 
 // Sets the n bytes from index at on to v.

@@ -62,7 +62,7 @@ returns-3 c =
 contains-requires : tie.Need-contains-requires
 contains-requires c κs =
     let k = check-valid _ _ _ (sym (c .before .before .before .before .before .before .before .before .check .ensures) ∙ c .before .before .before .before .before .before .checked .given .1) in
-    k .counted
+    (k .counted, parse-formed _ _ (sym (c .before .before .before .parse .ensures) ∙ c .before .enum-told2 .given .1))
 
 same-length-4 : tie.Need-same-length-4
 same-length-4 c = search needs

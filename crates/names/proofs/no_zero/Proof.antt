@@ -1,51 +1,84 @@
--- `names::no_zero` meets its contract. The invariant: whether no unit is zero is whether none from k on is.
--- The measure is the number of units from k on. Assumes nothing.
-use Rattle.names.specs.NameLaws.{noZero-hit, noZero-miss, noZero-end}
-use Rattle.names.specs.Name.{units, noZero}
-use lib.ListN.{drop}
-use native.Mathlib.Omega.{arith}
+-- `names::no_zero` meets its contract. The invariant of both loops: the answer from byte i on is the answer. The measure is what is left of the bytes.
+-- Assumes nothing.
 use mathlib.Core.Path.{_≡_, refl, sym, _∙_}
 use Prim.Native.Nat.{_≤_, _-_}
-use borrow.Author.Needs.{needs}
+use native.Mathlib.Omega.{arith}
+use lib.ListN.{length, drop}
+use borrow.Author.Tests.{not-true, not-false}
+use Rattle.slices.specs.Test.{_and_}
+use Rattle.names.specs.Name.{units, noZero}
+use Rattle.names.specs.NameLaws.{noZero-hit, noZero-miss, noZero-end}
 use Rattle.names.proofs.no_zero.Statement.{statement}
 use Rattle.names.proofs.no_zero.Tie as tie
 
 abbrev Inv-loop : tie.InvT-loop
-Inv-loop s n k₀ k = (k ≤ n) × (noZero (units s) ≡ noZero (drop k (units s)))
+Inv-loop s i₀ i = (i ≤ length s) × (noZero (units s) ≡ noZero (units (drop i s)))
 
 abbrev μ-loop : tie.MeasureT-loop
-μ-loop s n k₀ k = n - k
+μ-loop s i₀ i = length s - i
 
-unit-count-requires : tie.Need-unit-count-requires Inv-loop μ-loop
-unit-count-requires c κs = search needs
+abbrev Inv-loop2 : tie.InvT-loop2
+Inv-loop2 s i₀ i = (i ≤ length s) × (noZero (units s) ≡ noZero (units (drop i s)))
 
-loop-holds : tie.Need-loop-holds Inv-loop μ-loop
-loop-holds c = (search needs, refl)
+abbrev μ-loop2 : tie.MeasureT-loop2
+μ-loop2 s i₀ i = length s - i
 
-unit-at-requires : tie.Need-unit-at-requires Inv-loop μ-loop
-unit-at-requires c κs = search needs
+loop-holds : tie.Need-loop-holds Inv-loop μ-loop Inv-loop2 μ-loop2
+loop-holds c = (omega arith, refl)
 
-returns : tie.Need-returns Inv-loop μ-loop
+sub-loop : tie.Need-sub-loop Inv-loop μ-loop Inv-loop2 μ-loop2
+sub-loop c = omega arith
+
+eight-not-zero-requires : tie.Need-eight-not-zero-requires Inv-loop μ-loop Inv-loop2 μ-loop2
+eight-not-zero-requires c κs = omega arith
+
+returns : tie.Need-returns Inv-loop μ-loop Inv-loop2 μ-loop2
+unfolding _and_
 returns c =
-    let us = units (c .before .before .before .before .before .before .args .s .now) in
-    let k = c .before .before .before .loop .k in
-    sym (c .before .before .before .loop .inv .1 ∙ noZero-hit us k (omega arith) (sym (c .before .unit-at .ensures) ∙ c .if1 .taken))
+    let e = c .before in
+    let l = e .before .before in
+    sym (l .loop .inv .1 ∙ e .eight-not-zero .ensures ∙ rw (not-true (e .eight-not-zero .result) (c .if1 .taken)))
 
-add-k : tie.Need-add-k Inv-loop μ-loop
-add-k c = search needs
+add-i : tie.Need-add-i Inv-loop μ-loop Inv-loop2 μ-loop2
+add-i c = omega arith
 
-loop-less : tie.Need-loop-less Inv-loop μ-loop
-loop-less c = search needs
+loop-less : tie.Need-loop-less Inv-loop μ-loop Inv-loop2 μ-loop2
+loop-less c = omega arith
 
-loop-again : tie.Need-loop-again Inv-loop μ-loop
+loop-again : tie.Need-loop-again Inv-loop μ-loop Inv-loop2 μ-loop2
+unfolding _and_
 loop-again c =
-    let us = units (c .before .before .before .before .before .before .args .s .now) in
-    let k = c .before .before .before .loop .k in
-    (search needs, c .before .before .before .loop .inv .1 ∙ noZero-miss us k (omega arith) (λ e. c .if1 .left (c .before .unit-at .ensures ∙ e)))
+    let e = c .before in
+    let l = e .before .before in
+    (omega arith, l .loop .inv .1 ∙ e .eight-not-zero .ensures ∙ rw (not-false (e .eight-not-zero .result) (c .if1 .left)))
 
-returns-2 : tie.Need-returns-2 Inv-loop μ-loop
+loop2-holds : tie.Need-loop2-holds Inv-loop μ-loop Inv-loop2 μ-loop2
+loop2-holds c = c .before .loop .inv
+
+sub-loop2 : tie.Need-sub-loop2 Inv-loop μ-loop Inv-loop2 μ-loop2
+sub-loop2 c = omega arith
+
+get16-requires : tie.Need-get16-requires Inv-loop μ-loop Inv-loop2 μ-loop2
+get16-requires c κs = omega arith
+
+returns-2 : tie.Need-returns-2 Inv-loop μ-loop Inv-loop2 μ-loop2
 returns-2 c =
-    sym (c .before .loop .inv .1 ∙ noZero-end (units (c .before .before .before .before .args .s .now)) (c .before .loop .k) (omega arith))
+    let l = c .before .before .before in
+    sym (l .loop2 .inv .1 ∙ noZero-hit _ (l .loop2 .i) (omega arith) (sym (c .before .get16 .ensures .0) ∙ c .if2 .taken))
+
+add-i-2 : tie.Need-add-i-2 Inv-loop μ-loop Inv-loop2 μ-loop2
+add-i-2 c = omega arith
+
+loop2-less : tie.Need-loop2-less Inv-loop μ-loop Inv-loop2 μ-loop2
+loop2-less c = omega arith
+
+loop2-again : tie.Need-loop2-again Inv-loop μ-loop Inv-loop2 μ-loop2
+loop2-again c =
+    let l = c .before .before .before in
+    (omega arith, l .loop2 .inv .1 ∙ noZero-miss _ (l .loop2 .i) (omega arith) (λ z. c .if2 .left (c .before .get16 .ensures .0 ∙ z)))
+
+returns-3 : tie.Need-returns-3 Inv-loop μ-loop Inv-loop2 μ-loop2
+returns-3 c = sym (c .before .loop2 .inv .1 ∙ noZero-end _ (c .before .loop2 .i) (omega arith))
 
 pub no-zero-spec : {M : Type 1} → statement M
 no-zero-spec =
@@ -53,11 +86,20 @@ no-zero-spec =
     (tie.spec
     Inv-loop
     μ-loop
-    unit-count-requires
+    Inv-loop2
+    μ-loop2
     loop-holds
-    unit-at-requires
+    sub-loop
+    eight-not-zero-requires
     returns
-    add-k
+    add-i
     loop-less
     loop-again
-    returns-2)
+    loop2-holds
+    sub-loop2
+    get16-requires
+    returns-2
+    add-i-2
+    loop2-less
+    loop2-again
+    returns-3)

@@ -11,7 +11,7 @@ use Rattle.slices.specs.PartLaws.{part-of}
 use Rattle.slices.specs.Chunks.{contains}
 use Rattle.entry.specs.Entry.{sameTarget}
 use Rattle.policy.specs.Policy.{entryLength, entriesOf}
-use Rattle.policy.proofs.Walk.{At, at-start, at-next, stated, stated-least, stated-fits, among-hit, among-miss, among-end}
+use Rattle.policy.proofs.Walk.{At, at-start, at-next, formed, stated, stated-least, stated-fits, among-hit, among-miss, among-end}
 use Rattle.policy.proofs.is_among.Statement.{statement}
 use Rattle.policy.proofs.is_among.Tie as tie
 
@@ -29,7 +29,7 @@ P c = c .before .before .before .before .args .policy .now
 
 -- some entry is left
 left : (c : tie.In-loop Inv-loop μ-loop) → c .before .loop .index < length (entriesOf (P c))
-left c = omega (arith, c .before .before .before .before .pre, c .loop-test .taken)
+left c = omega (arith, c .before .before .before .before .pre .0, c .loop-test .taken)
 
 fits : (c : tie.In-loop Inv-loop μ-loop) → c .before .loop .at + le16 (P c) (c .before .loop .at + 4) ≤ length (P c)
 fits c = stated-fits (P c) (c .before .loop .index) (c .before .loop .at) (c .before .loop .inv .1) (left c)
@@ -72,7 +72,11 @@ part-same-target-end : tie.Need-part-same-target-end Inv-loop μ-loop
 part-same-target-end c = omega (arith, fits (c .before), c .get16 .ensures .0)
 
 same-target-requires : tie.Need-same-target-requires Inv-loop μ-loop
-same-target-requires c κs = search needs
+same-target-requires c κs =
+    let g = c .before in
+    let l = g .before .before .loop in
+    let P′ = P (g .before) in
+    (g .before .before .before .before .before .pre .1, rw part-of (formed P′ (l .index) (l .at) (l .inv .1) (g .get16 .result) (here g) (some g)))
 
 returns : tie.Need-returns Inv-loop μ-loop
 returns c =

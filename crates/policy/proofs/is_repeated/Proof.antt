@@ -19,7 +19,7 @@ returns : tie.Need-returns
 returns c =
     let x = c .before .before .before .before .before in
     let k = c .before .before .slot .ensures in (
-      slot-free (x .args .e .now) (k .0) (x .args .marks .now) (take (x .args .count) (entriesOf (x .args .policy .now))) (x .pre .1) (c .if1 .taken),
+      slot-free (x .args .e .now) (k .0) (x .args .marks .now) (take (x .args .count) (entriesOf (x .args .policy .now))) (x .pre .2) (c .if1 .taken),
       (slot-set (x .args .e .now) (k .0) (x .args .marks .now), slot-below (x .args .e .now) (k .0) (k .1)),
     )
 

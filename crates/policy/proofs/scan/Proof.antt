@@ -9,10 +9,10 @@ use borrow.Author.Needs.{needs}
 use lib.ListN.{length, drop}
 use Rattle.limits.specs.Limits.{maxEntries}
 use Rattle.slices.specs.Bytes.{Bytes, allAre}
-use Rattle.slices.specs.PartLaws.{part-rest}
+use Rattle.slices.specs.PartLaws.{part-of, part-rest}
 use Rattle.policy.specs.declared.PolicyCheck.the-variants.{Valid, Invalid}
 use Rattle.policy.specs.Policy.{entryLength, policyCheck}
-use Rattle.policy.proofs.Walk.{fits}
+use Rattle.policy.proofs.Walk.{fits, formed}
 use Rattle.policy.proofs.Marked.{Checked, checked-start, too-many, met-before, checked-more, checked-end}
 use Rattle.policy.proofs.scan.Statement.{statement}
 use Rattle.policy.proofs.scan.Tie as tie
@@ -68,8 +68,9 @@ part-is-repeated-end c = within (c .before)
 
 is-repeated-requires : tie.Need-is-repeated-requires Inv-loop μ-loop
 is-repeated-requires c κs =
-    let l = c .before .before .before .before .loop in
-    (l .inv .0 .walk .met, l .inv .0 .filter)
+    let g = c .before .before .before in
+    let l = g .before .loop in
+    (l .inv .0 .walk .met, rw part-of (formed (P (g .before)) (l .count) (l .used) (l .inv .0 .walk) (l .next) (l .inv .1) (g .loop-test .taken)), l .inv .0 .filter)
 
 returns-2 : tie.Need-returns-2 Inv-loop μ-loop
 returns-2 c =

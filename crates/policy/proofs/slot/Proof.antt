@@ -1,14 +1,15 @@
 -- `policy::slot` meets its contract. Assumes nothing.
+use native.Mathlib.Omega.{arith}
+use Rattle.entry.specs.EntryLaws.{sized}
 use Rattle.policy.proofs.Marked.{slot-is, slot-bound}
 use borrow.Author.Needs.{needs}
 use Rattle.policy.proofs.slot.Statement.{statement}
 use Rattle.policy.proofs.slot.Tie as tie
 
-le32-requires : tie.Need-le32-requires
-le32-requires c κs = search needs
-
-cast-hash : tie.Need-cast-hash
-cast-hash c = search needs
+get32-requires : tie.Need-get32-requires
+get32-requires c κs =
+    let x = c .before in
+    omega (arith, sized (x .args .e .now) (x .pre) .least)
 
 name-bytes-requires : tie.Need-name-bytes-requires
 name-bytes-requires c κs = search needs
@@ -16,13 +17,16 @@ name-bytes-requires c κs = search needs
 hash-requires : tie.Need-hash-requires
 hash-requires c κs = search needs
 
-mul-result : tie.Need-mul-result
-mul-result c = search needs
+mul-product : tie.Need-mul-product
+mul-product c = search needs
+
+add-result : tie.Need-add-result
+add-result c = search needs
 
 returns : tie.Need-returns
-returns c = (slot-is (c .before .before .before .before .args .e .now) (c .before .before .le32 .ensures) (c .before .name-bytes .ensures) (c .hash .ensures), slot-bound _)
+returns c = (slot-is (c .before .before .before .before .args .e .now) (c .before .before .get32 .ensures .0) (c .before .name-bytes .ensures) (c .hash .ensures), slot-bound _)
 
 pub slot-spec : {M : Type 1} → statement M
 slot-spec =
     tie.close
-    (tie.spec le32-requires cast-hash name-bytes-requires hash-requires mul-result returns)
+    (tie.spec get32-requires name-bytes-requires hash-requires mul-product add-result returns)
