@@ -86,7 +86,7 @@ pub fn check_request(namespace: &[u8], name: &[u8], attributes: u32, payload: &[
           payload = now (payload .entry);
         }) ⌝ }
 {
-    if namespace.len() != 16 {
+    if namespace.len() != limits::NAMESPACE_BYTES {
         return Status::InvalidParameter;
     }
     if !names::is_name(name) {
@@ -173,7 +173,7 @@ fn trigger_holds<'a>(
         })) (trigger .value) ⌝ }
 {
     let from = trigger.namespace;
-    let namespace = slices::part(e, from, from + 16);
+    let namespace = slices::part(e, from, from + limits::NAMESPACE_BYTES);
     let name = slices::part(e, trigger.name, trigger.name_end);
     let place = variables::locate(nv, nv_end, vol, vol_end, namespace, name);
     is_value(variables::payload_at(nv, vol, place), trigger.value)

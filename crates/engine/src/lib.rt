@@ -235,7 +235,7 @@ pub fn look_up(nv: &[u8], vol: &[u8], namespace: &[u8], name: &[u8]) -> Reading
     let PairCheck::Sound { nv_end, vol_end } = checked else {
         return Reading::Refused(Status::VolumeCorrupted);
     };
-    if namespace.len() != 16 {
+    if namespace.len() != limits::NAMESPACE_BYTES {
         return Reading::Refused(Status::InvalidParameter);
     }
     if !names::is_name(name) {

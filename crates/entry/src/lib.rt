@@ -43,7 +43,7 @@ pub enum Parsed {
 fn header_ok(e: &[u8]) -> bool
     ensures { λ r. ⌜ r ≡ headerOk (now (e .entry)) ⌝ }
 {
-    if e.len() < 44 {
+    if e.len() < limits::ENTRY_HEADER {
         return false;
     }
     if slices::le32(e, 0) != 0x10000 {
@@ -68,18 +68,18 @@ fn lock_ok(e: &[u8]) -> bool
     let kind = slices::byte(e, 40);
     let offset = slices::le16(e, 6) as usize;
     if kind <= 2 {
-        return offset == 44;
+        return offset == limits::ENTRY_HEADER;
     }
     if kind != 3 {
         return false;
     }
-    if offset < 62 {
+    if offset < limits::TRIGGER_HEADER {
         return false;
     }
     if e.len() < offset {
         return false;
     }
-    names::is_terminated(&e[62..offset])
+    names::is_terminated(&e[limits::TRIGGER_HEADER..offset])
 }
 
 // The entry's own name: empty, or a name with its zero unit.
@@ -126,8 +126,8 @@ fn lock_of(e: &[u8]) -> LockRule
     }
     LockRule::LockOnVarState(Trigger {
         value: slices::byte(e, 60),
-        namespace: 44,
-        name: 62,
+        namespace: limits::ENTRY_HEADER,
+        name: limits::TRIGGER_HEADER,
         name_end: slices::le16(e, 6) as usize - 2,
     })
 }
@@ -179,7 +179,7 @@ pub fn same_namespace(a: &[u8], b: &[u8]) -> bool
 {
     let mut ok = true;
     let mut i = 0;
-    while i < 16 {
+    while i < limits::NAMESPACE_BYTES {
         ok = ok & (a[i] == b[i]);
         i += 1;
     }

@@ -3,6 +3,19 @@
 // The most bytes of a name without its closing zero unit: 64 units.
 pub const MAX_NAME_BYTES: usize = 128;
 
+// NameSize of a record counts the closing zero unit: 4 to 130.
+pub const MAX_NAME_SIZE: usize = 130;
+
+// The rank of an entry for a whole namespace: behind that of 64 '#'.
+pub const WHOLE_NAMESPACE_RANK: usize = 65;
+
+// The bytes of a namespace.
+pub const NAMESPACE_BYTES: usize = 16;
+
+// The bytes of an entry before what its lock type and its name add, and before the trigger's name.
+pub const ENTRY_HEADER: usize = 44;
+pub const TRIGGER_HEADER: usize = 62;
+
 // The most entries that an engine holds.
 pub const MAX_ENTRIES: usize = 64;
 

@@ -34,7 +34,7 @@ pub enum Choice {
 pub fn entry_length(p: &[u8]) -> usize
     ensures { λ r. ⌜ r ≡ entryLength (now (p .entry)) ⌝ }
 {
-    if p.len() < 44 {
+    if p.len() < limits::ENTRY_HEADER {
         return 0;
     }
     let n = slices::get16(p, 4);
@@ -177,7 +177,7 @@ fn rank_for(e: &[u8], name: &[u8]) -> usize
 {
     let own = entry::name_bytes(e);
     if own.len() == 0 {
-        return 65;
+        return limits::WHOLE_NAMESPACE_RANK;
     }
     if names::matches(own, name) {
         return names::wildcards(own);
@@ -202,7 +202,7 @@ pub fn choose(policy: &[u8], count: usize, namespace: &[u8], name: &[u8]) -> Cho
     ensures { λ r.
         ⌜ r ≡ choiceOf (entriesOf (now (policy .entry))) (record { namespace = now (namespace .entry); name = now (name .entry) }) ⌝ }
 {
-    if namespace.len() != 16 {
+    if namespace.len() != limits::NAMESPACE_BYTES {
         return Choice::Nothing;
     }
     let mut best = 66;
