@@ -14,6 +14,7 @@ pub const NAMESPACE_BYTES: usize = 16;
 
 // The bytes of an entry before what its lock type and its name add, and before the trigger's name.
 pub const ENTRY_HEADER: usize = 44;
+
 pub const TRIGGER_HEADER: usize = 62;
 
 // The most entries that an engine holds.

@@ -1,15 +1,15 @@
--- A write of many bytes, byte by byte from either end: d with w from index at on. Assumes nothing.
-use mathlib.Core.Path.{_≡_, ap, _∙_}
-use mathlib.Core.List.{_++_, append-assoc}
-use Prim.Native.Nat.{ℕ, suc, _+_, _-_, _≤_, _<_}
-use native.Mathlib.Nat.{add-suc, add-zero}
+-- Writes of many bytes: one byte at a time, and moves a block at a time. Assumes nothing.
+use mathlib.Core.Path.{_≡_, sym, ap, _∙_}
+use Prim.Native.Nat.{ℕ, _+_, _-_, _≤_, _<_}
 use native.Mathlib.Numerals.{add-one}
 use native.Mathlib.Omega.{arith}
-use lib.ListN.{length, getD, set, take, drop, List·getD-append, take-append-drop}
-use lib.Seq.{drop-cons, take-suc, take-length, drop-length, paste, paste-zero, paste-suc, length-paste-head, set-at, getD-append-add, getD-drop, getD-take, length-take-le, append-snoc}
-use Rattle.slices.specs.Bytes.{Bytes, overwrite}
+use lib.ListN.{length, getD, set, take, drop}
+use lib.Seq.{length-take-le, take-length, take-add, drop-drop, paste, paste-zero, paste-suc}
+use Rattle.slices.specs.Bytes.{Bytes, part, overwrite}
+use Rattle.slices.specs.PartLaws.{part-of, length-middle}
+use Rattle.slices.specs.OverwriteLaws.{take-front, middle-overwrite, drop-overwrite, overwrite-front, overwrite-next}
 
--- upwards: the first i elements of w are in place
+-- d with the first i elements of w in place from index at on
 unfoldable pub upto : Bytes → ℕ → Bytes → ℕ → Bytes
 upto d at w i = paste d at w i
 
@@ -26,43 +26,39 @@ pub upto-done : {s : Bytes} (d : Bytes) (at : ℕ) (w : Bytes) (i : ℕ) → s �
 unfolding overwrite upto
 upto-done d at w i g e = rw (g, ← e, take-length)
 
--- what stands behind the copy
-pub upto-behind : {s : Bytes} (d : Bytes) (at : ℕ) (w : Bytes) (i j : ℕ) → s ≡ upto d at w i → at + i ≤ length d → i ≤ length w → at + i ≤ j → getD s j 0 ≡ getD d j 0
-unfolding upto
-upto-behind d at w i j q h k g =
-    let e : length (take at d ++ take i w) ≡ at + i = length-paste-head d at w i (omega arith) k in
-    let f : j ≡ length (take at d ++ take i w) + (j - (at + i)) = rw e (omega arith) in
-    let f′ : at + i + (j - (at + i)) ≡ j = omega arith in
-    ap (λ (l : Bytes). getD l j 0) q
-    ∙ ap (λ (n : ℕ). getD (paste d at w i) n 0) f ∙ getD-append-add (take at d ++ take i w) (drop (at + i) d) (j - (at + i)) 0
-    ∙ getD-drop (at + i) d (j - (at + i)) 0 ∙ ap (λ (n : ℕ). getD d n 0) f′
+-- a copy of n bytes that are put at the front of z and written from there
+pub copy-through : {b t : Bytes} (z s : Bytes) (at : ℕ) (v : Bytes) (n : ℕ) → length v ≡ n → b ≡ overwrite z 0 v → t ≡ overwrite s at (take n b) → t ≡ overwrite s at v
+copy-through z s at v n h e f = rw (f, e, take-front z v n h)
 
--- downwards: the elements of w from i on are in place
-unfoldable pub downto : Bytes → ℕ → Bytes → ℕ → Bytes
-downto d at w i = take (at + i) d ++ (drop i w ++ drop (at + length w) d)
+-- the same within one list
+pub move-through : {b t : Bytes} (z s : Bytes) (from to n : ℕ) → from + n ≤ length s → b ≡ overwrite z 0 (part from (from + n) s) → t ≡ overwrite s to (take n b)
+    → t ≡ overwrite s to (take n (drop from s))
+move-through z s from to n h e f = copy-through z s to (take n (drop from s)) n (length-middle s from n h) (rw part-of at e) f
 
-pub downto-start : (d : Bytes) (at : ℕ) (w : Bytes) (n : ℕ) → length w ≡ n → d ≡ downto d at w n
-unfolding downto
-downto-start d at w n e = rw (← e, drop-length, take-append-drop)
+-- a copy of the first n bytes of v, of which the first k are in place in t, and of which the others are copied then
+pub copy-next : {t u : Bytes} (s : Bytes) (at : ℕ) (v : Bytes) (k n : ℕ) → at ≤ length s → k ≤ n → n ≤ length v
+    → t ≡ overwrite s at (take k v) → u ≡ overwrite t (at + k) (part k n v) → u ≡ overwrite s at (take n v)
+copy-next s at v k n h g l e f =
+    let j : k + (n - k) ≡ n = omega arith in
+    let m : length (take k v) ≡ k = length-take-le k v (omega arith) in
+    f ∙ overwrite-next s at (at + k) (take k v) (part k n v) e (rw m) h ∙ ap (overwrite s at) (sym (take-add k (n - k) v) ∙ ap (λ (i : ℕ). take i v) j)
 
-pub downto-step : {s : Bytes} (d : Bytes) (at : ℕ) (w : Bytes) (i : ℕ) {x : ℕ} → s ≡ downto d at w (suc i) → at + i < length d → i < length w → x ≡ getD w i 0
-    → set s (at + i) x ≡ downto d at w i
-unfolding downto
-downto-step {s} d at w i {x} q h k e =
-    let z : Bytes = drop (suc i) w ++ drop (at + length w) d in
-    ap (λ (l : Bytes). set l (at + i) x) q
-    ∙ ap (λ (l : Bytes). set (l ++ z) (at + i) x) (ap (λ (n : ℕ). take n d) (add-suc at i) ∙ take-suc d (at + i) 0 h)
-    ∙ ap (λ (l : Bytes). set l (at + i) x) (append-snoc (take (at + i) d) (getD d (at + i) 0) z)
-    ∙ set-at (take (at + i) d) (getD d (at + i) 0) z x (at + i) (length-take-le (at + i) d (omega arith))
-    ∙ rw (e, drop-cons w i 0)
+-- a move down of n bytes, of which the first k are in place in t, and of which m are moved then
+pub move-down-next : {t u : Bytes} (s : Bytes) (from to k m n : ℕ) → to ≤ from → from + k ≤ length s → k + m ≡ n
+    → t ≡ overwrite s to (take k (drop from s)) → u ≡ overwrite t (to + k) (take m (drop (from + k) t)) → u ≡ overwrite s to (take n (drop from s))
+move-down-next {t} s from to k m n g h j e f =
+    let v : Bytes = take k (drop from s) in
+    let l : length v ≡ k = length-middle s from k h in
+    let b : drop (from + k) t ≡ drop k (drop from s) = rw (e, drop-drop) (drop-overwrite s to (from + k) v (omega arith) (rw l (omega arith))) in
+    rw (f, b, ← j, take-add k m (drop from s)) (overwrite-next s to (to + k) v (take m (drop k (drop from s))) e (rw l) (omega arith))
 
-pub downto-done : {s : Bytes} (d : Bytes) (at : ℕ) (w : Bytes) → s ≡ downto d at w 0 → s ≡ overwrite d at w
-unfolding overwrite downto
-downto-done d at w q = rw (q, add-zero, append-assoc)
-
-pub downto-before : {s : Bytes} (d : Bytes) (at : ℕ) (w : Bytes) (i j : ℕ) → s ≡ downto d at w i → at + i ≤ length d → j < at + i → getD s j 0 ≡ getD d j 0
-unfolding downto
-downto-before d at w i j q h g =
-    ap (λ (l : Bytes). getD l j 0) q
-    ∙ List·getD-append (take (at + i) d) (drop i w ++ drop (at + length w) d) 0 j (rw (length-take-le (at + i) d h) g)
-    ∙ getD-take (at + i) d j 0 g
+-- a move up of n bytes to r, of which the last m are in place in t: what is left is a move of the first k
+pub move-up-next : {t r : Bytes} (s : Bytes) (from to k m n : ℕ) → from ≤ to → to + k ≤ length s → k + m ≡ n
+    → overwrite s to (take n (drop from s)) ≡ r → t ≡ overwrite s (to + k) (take m (drop (from + k) s)) → overwrite t to (take k (drop from t)) ≡ r
+move-up-next {t} s from to k m n g h j q e =
+    let v : Bytes = take k (drop from s) in
+    let w : Bytes = take m (drop (from + k) s) in
+    let l : length v ≡ k = length-middle s from k (omega arith) in
+    let b : take k (drop from t) ≡ v = rw e (middle-overwrite s from k (to + k) w (omega arith) h) in
+    let f : t ≡ overwrite s (to + length v) w = rw l e in
+    rw (b, f, ← q, ← j, take-add k m (drop from s), drop-drop) (overwrite-front s to v w (rw l h))

@@ -1,15 +1,25 @@
 -- Laws of writes into a list of bytes, one after the other. Assumes nothing.
-use mathlib.Core.Path.{_≡_, ap, _∙_}
-use mathlib.Core.List.{_++_, append-assoc}
-use Prim.Native.Nat.{ℕ, _+_, _≤_}
+use mathlib.Core.Path.{_≡_, refl, sym, ap, _∙_}
+use mathlib.Core.List.{[], _++_, append-assoc}
+use Prim.Native.Nat.{ℕ, _+_, _-_, _≤_}
 use native.Mathlib.Omega.{arith}
 use lib.ListN.{length, take, drop, length-append, length-take, length-drop}
-use lib.Seq.{length-take-le, take-at, drop-at, take-append-le, take-take, drop-drop, drop-append-add}
+use lib.Seq.{length-take-le, take-at, drop-at, take-append-le, take-take, drop-drop, drop-append-add, paste-zero}
 use Rattle.slices.specs.Bytes.{Bytes, overwrite}
+use Rattle.slices.specs.PartLaws.{drop-take}
 
 pub length-overwrite : (d : Bytes) (at : ℕ) (w : Bytes) → at + length w ≤ length d → length (overwrite d at w) ≡ length d
 unfolding overwrite
 length-overwrite d at w h = simp (length-append, length-take, length-drop) (omega arith)
+
+-- nothing written
+pub overwrite-none : (s : Bytes) (at : ℕ) → s ≡ overwrite s at []
+unfolding overwrite
+overwrite-none s at = paste-zero s at []
+
+-- up to where a write ends
+length-head : (s : Bytes) (at : ℕ) (v : Bytes) → at ≤ length s → length (take at s ++ v) ≡ at + length v
+length-head s at v h = simp (length-append, length-take) (omega arith)
 
 -- a write at a seam
 pub overwrite-seam : (x y w : Bytes) (at : ℕ) → length x ≡ at → overwrite (x ++ y) at w ≡ x ++ (w ++ drop (length w) y)
@@ -38,18 +48,45 @@ pub overwrite-after : (s : Bytes) (at : ℕ) (v w : Bytes) → at ≤ length s �
 unfolding overwrite
 overwrite-after s at v w h =
     let x : Bytes = take at s ++ v in
-    let e : length x ≡ at + length v = length-append (take at s) v ∙ ap (λ (n : ℕ). n + length v) (length-take-le at s h) in
     let k : at + length v + length w ≡ at + (length v + length w) = omega arith in
-    overwrite-seam x (drop (at + length v) s) w (at + length v) e
+    overwrite-seam x (drop (at + length v) s) w (at + length v) (length-head s at v h)
     ∙ rw (drop-drop, length-append v w, k, ← append-assoc x w (drop (at + (length v + length w)) s), append-assoc (take at s) v w)
+
+-- the same two writes, the second first
+pub overwrite-front : (s : Bytes) (at : ℕ) (v w : Bytes) → at + length v ≤ length s → overwrite (overwrite s (at + length v) w) at v ≡ overwrite s at (v ++ w)
+unfolding overwrite
+overwrite-front s at v w h =
+    let k : at + length v + length w ≡ at + (length v + length w) = omega arith in
+    overwrite-before s at (at + length v) v w refl h
+    ∙ rw (k, length-append v w, append-assoc (take at s) (v ++ w) (drop (at + (length v + length w)) s), append-assoc v w (drop (at + (length v + length w)) s))
+
+-- what stands before a write, and behind it
+pub middle-overwrite : (s : Bytes) (a n at : ℕ) (v : Bytes) → a + n ≤ at → at ≤ length s → take n (drop a (overwrite s at v)) ≡ take n (drop a s)
+unfolding overwrite
+middle-overwrite s a n at v g h =
+    let front : (l : Bytes) → take n (drop a (take at l)) ≡ take n (drop a l) = λ l. rw drop-take (take-take n (at - a) (drop a l) (omega arith)) in
+    sym (front (overwrite s at v))
+    ∙ ap (λ (l : Bytes). take n (drop a l)) (rw (append-assoc (take at s) v (drop (at + length v) s)) (take-at (take at s) (v ++ drop (at + length v) s) at (length-take-le at s h)))
+    ∙ front s
+
+pub drop-overwrite : (s : Bytes) (at j : ℕ) (v : Bytes) → at ≤ length s → at + length v ≤ j → drop j (overwrite s at v) ≡ drop j s
+unfolding overwrite
+drop-overwrite s at j v h g =
+    let m : ℕ = j - (at + length v) in
+    let f : j ≡ length (take at s ++ v) + m = rw (length-head s at v h) (omega arith) in
+    let k : at + length v + m ≡ j = omega arith in
+    ap (λ (n : ℕ). drop n (overwrite s at v)) f ∙ drop-append-add (take at s ++ v) (drop (at + length v) s) m ∙ drop-drop m (at + length v) s ∙ ap (λ (n : ℕ). drop n s) k
 
 -- one more write, which begins at index i where those before, of v, ended
 pub overwrite-next : {t : Bytes} (s : Bytes) (at i : ℕ) (v w : Bytes) → t ≡ overwrite s at v → i ≡ at + length v → at ≤ length s → overwrite t i w ≡ overwrite s at (v ++ w)
 overwrite-next s at i v w e f h = rw (e, f) (overwrite-after s at v w h)
 
--- two lists put one behind the other at the front of z
-pub joined : {b₁ b₂ : Bytes} (z v w : Bytes) → b₁ ≡ overwrite z 0 v → b₂ ≡ overwrite b₁ (length v) w → take (length v + length w) b₂ ≡ v ++ w
+-- what was put at the front of z, and two lists put there one behind the other
+pub take-front : (z v : Bytes) (n : ℕ) → length v ≡ n → take n (overwrite z 0 v) ≡ v
 unfolding overwrite
+take-front z v n e = take-at v (drop (0 + length v) z) n e
+
+pub joined : {b₁ b₂ : Bytes} (z v w : Bytes) → b₁ ≡ overwrite z 0 v → b₂ ≡ overwrite b₁ (length v) w → take (length v + length w) b₂ ≡ v ++ w
 joined z v w e f =
     let k = f ∙ overwrite-next z 0 (length v) v w e (omega arith) (omega arith) in
-    rw k (take-at (v ++ w) (drop (0 + length (v ++ w)) z) (length v + length w) (length-append v w))
+    rw k (take-front z (v ++ w) (length v + length w) (length-append v w))

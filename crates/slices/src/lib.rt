@@ -185,8 +185,8 @@ pub fn fill(s: &mut [u8], at: usize, n: usize, v: u8)
     }
 }
 
-// Copies all of src into s from index at on.
-pub fn copy_in(s: &mut [u8], at: usize, src: &[u8])
+// Copies all of src into s from index at on, byte by byte.
+fn copy_few(s: &mut [u8], at: usize, src: &[u8])
     requires { ⌜ at + length (now src) ≤ length (now s) ⌝ }
     ensures { λ _. ⌜ now (s .exit) ≡ overwrite (now (s .entry)) at (now (src .entry)) ⌝ }
 {
@@ -197,26 +197,63 @@ pub fn copy_in(s: &mut [u8], at: usize, src: &[u8])
     }
 }
 
-// Moves n bytes from index from down to index to.
+// Copies at most 128 bytes: all are read before one is written. A copy of 128 is compiled to eight wide loads and stores.
+fn copy_block(s: &mut [u8], at: usize, src: &[u8])
+    requires { ⌜ (length (now src) ≤ 128) × (at + length (now src) ≤ length (now s)) ⌝ }
+    ensures { λ _. ⌜ now (s .exit) ≡ overwrite (now (s .entry)) at (now (src .entry)) ⌝ }
+{
+    let n = src.len();
+    let mut block = [0u8; 128];
+    copy_few(&mut block, 0, src);
+    copy_few(s, at, &block[..n]);
+}
+
+// Copies all of src into s from index at on.
+pub fn copy_in(s: &mut [u8], at: usize, src: &[u8])
+    requires { ⌜ at + length (now src) ≤ length (now s) ⌝ }
+    ensures { λ _. ⌜ now (s .exit) ≡ overwrite (now (s .entry)) at (now (src .entry)) ⌝ }
+{
+    let mut i = 0;
+    while 128 <= src.len() - i {
+        copy_block(s, at + i, &src[i..i + 128]);
+        i += 128;
+    }
+    copy_block(s, at + i, &src[i..]);
+}
+
+// Moves n bytes, at most 128, from index from to index to, whatever the overlap: all are read before one is written.
+// A move of 128 is compiled to eight wide loads and stores.
+fn move_block(s: &mut [u8], from: usize, to: usize, n: usize)
+    requires { ⌜ (n ≤ 128) × (from + n ≤ length (now s)) × (to + n ≤ length (now s)) ⌝ }
+    ensures { λ _. ⌜ now (s .exit) ≡ overwrite (now (s .entry)) to (take n (drop from (now (s .entry)))) ⌝ }
+{
+    let mut block = [0u8; 128];
+    copy_few(&mut block, 0, &s[from..from + n]);
+    copy_few(s, to, &block[..n]);
+}
+
+// Moves n bytes from index from down to index to, the first ones first.
 pub fn move_down(s: &mut [u8], from: usize, to: usize, n: usize)
     requires { ⌜ (to ≤ from) × (from + n ≤ length (now s)) ⌝ }
     ensures { λ _. ⌜ now (s .exit) ≡ overwrite (now (s .entry)) to (take n (drop from (now (s .entry)))) ⌝ }
 {
     let mut i = 0;
-    while i < n {
-        s[to + i] = s[from + i];
-        i += 1;
+    while 128 <= n - i {
+        move_block(s, from + i, to + i, 128);
+        i += 128;
     }
+    move_block(s, from + i, to + i, n - i);
 }
 
-// Moves n bytes from index from up to index to.
+// Moves n bytes from index from up to index to, the last ones first.
 pub fn move_up(s: &mut [u8], from: usize, to: usize, n: usize)
     requires { ⌜ (from ≤ to) × (to + n ≤ length (now s)) ⌝ }
     ensures { λ _. ⌜ now (s .exit) ≡ overwrite (now (s .entry)) to (take n (drop from (now (s .entry)))) ⌝ }
 {
     let mut i = n;
-    while 0 < i {
-        i -= 1;
-        s[to + i] = s[from + i];
+    while 128 <= i {
+        i -= 128;
+        move_block(s, from + i, to + i, 128);
     }
+    move_block(s, from, to, i);
 }

@@ -5,8 +5,8 @@ use mathlib.Core.List.{[], _∷_, _++_, append-assoc}
 use Prim.Native.Nat.{ℕ, _+_, _-_, _≤_, _<_}
 use native.Mathlib.Omega.{arith}
 use native.Mathlib.Nat.{zero-add, add-sub-cancel-left}
-use lib.ListN.{length, drop, replicate, length-append, length-replicate}
-use lib.Seq.{take-append-seam, drop-append-seam, drop-append-add}
+use lib.ListN.{length, take, drop, replicate, length-append}
+use lib.Seq.{length-take-le, take-append-seam, take-append-add, drop-append-seam, drop-append-add}
 use lib.Dec.{leb}
 use borrow.Author.Tests.{le-leb, lt-leb, leb-true, leb-false}
 use Rattle.slices.specs.Bytes.{Bytes, allAre, overwrite, padded}
@@ -38,10 +38,10 @@ leb-same a b c d f g = go (leb a b) refl
 
 -- room in place of x, in a list that is taken apart
 resized-parts : {s : Bytes} {i n u : ℕ} (a x b z : Bytes) (new : ℕ) → s ≡ a ++ (x ++ (b ++ z)) → i ≡ length a → n ≡ length x → u ≡ length a + length x + length b
-    → resized s i n new u ≡ padded (length s) 255 (a ++ (replicate new 255 ++ b))
+    → resized s i n new u ≡ padded (length s) 255 (a ++ (take new (x ++ (b ++ z)) ++ b))
 unfolding resized
 resized-parts a x b z new e f g h =
-    rw (e, f, g, h, take-append-seam, drop-append-add, drop-append-seam, add-sub-cancel-left, take-append-seam)
+    rw (e, f, g, h, take-append-add, drop-append-add, drop-append-seam, add-sub-cancel-left, take-append-seam, append-assoc)
 
 -- a write over the second part of three
 overwrite-padded : (n : ℕ) (a x b q : Bytes) (i : ℕ) → i ≡ length a → length x ≡ length q → overwrite (padded n 255 (a ++ (x ++ b))) i q ≡ padded n 255 (a ++ (q ++ b))
@@ -62,8 +62,12 @@ module _ (nonVolatile : Bool) (s : Bytes) (v : Variable) where
     start : at ≡ length (flat (w .before))
     start = w .start ∙ zero-add (length (flat (w .before)))
 
+    -- all from there on
+    abbrev rest : Bytes
+    rest = w .here ++ (flat (w .behind) ++ drop (endOf nonVolatile s) s)
+
     -- room in its place
-    resized-record : (new : ℕ) → resized s at len new (endOf nonVolatile s) ≡ padded (length s) 255 (flat (w .before) ++ (replicate new 255 ++ flat (w .behind)))
+    resized-record : (new : ℕ) → resized s at len new (endOf nonVolatile s) ≡ padded (length s) 255 (flat (w .before) ++ (take new rest ++ flat (w .behind)))
     resized-record new =
         resized-parts (flat (w .before)) (w .here) (flat (w .behind)) (drop (endOf nonVolatile s) s) new (parts-at nonVolatile s v at len f) start (w .size)
         (end-at nonVolatile s v at len f ∙ ap (λ (n : ℕ). n + length (flat (w .behind))) (sums at len start (w .size)))
@@ -80,15 +84,6 @@ module _ (nonVolatile : Bool) (s : Bytes) (v : Variable) where
     pub with-at : (q : Bytes) → recordsWith nonVolatile s v q ≡ w .before ++ (q ∷ w .behind)
     unfolding replaceOrAppend
     with-at q = rw (w .held) (w .into q)
-
-    pub rewritten : {t₁ t₂ : Bytes} {n end : ℕ} (q : Bytes) → end ≡ endOf nonVolatile s → n ≡ length q → t₁ ≡ resized s at len n end → t₂ ≡ overwrite t₁ at q
-        → t₂ ≡ withRecord nonVolatile s v q
-    unfolding withRecord packed flat
-    rewritten {t₁} {t₂} {n} {end} q h k g e =
-        let j : t₁ ≡ padded (length s) 255 (flat (w .before) ++ (replicate (length q) 255 ++ flat (w .behind))) = g ∙ rw (h, k) (resized-record (length q)) in
-        e ∙ ap (λ (l : Bytes). overwrite l at q) j
-        ∙ overwrite-padded (length s) (flat (w .before)) (replicate (length q) 255) (flat (w .behind)) q at start (length-replicate (length q) 255)
-        ∙ rw (with-at q, flat-append)
 
     -- how long the records are then
     length-rewritten : (q : Bytes) → length (flat (recordsWith nonVolatile s v q)) + len ≡ endOf nonVolatile s + length q
@@ -109,6 +104,21 @@ module _ (nonVolatile : Bool) (s : Bytes) (v : Variable) where
 
     pub fits-at-place : {n end : ℕ} (q : Bytes) → end ≡ endOf nonVolatile s → n ≡ length q → hasRoom nonVolatile s v q ≡ true → end + n ≤ length s + len
     fits-at-place q h k r = omega (arith, length-rewritten q, with-fits nonVolatile s v q r)
+
+    -- the room for it, whatever stands there
+    length-room : (q : Bytes) → hasRoom nonVolatile s v q ≡ true → length (take (length q) rest) ≡ length q
+    length-room q r =
+        let k : length s ≡ length (flat (w .before)) + length rest = ap length (parts-at nonVolatile s v at len f) ∙ length-append (flat (w .before)) rest in
+        length-take-le (length q) rest (omega (arith, start, end-at nonVolatile s v at len f, fits-at-place q refl refl r))
+
+    pub rewritten : {t₁ t₂ : Bytes} {n end : ℕ} (q : Bytes) → end ≡ endOf nonVolatile s → n ≡ length q → hasRoom nonVolatile s v q ≡ true → t₁ ≡ resized s at len n end → t₂ ≡ overwrite t₁ at q
+        → t₂ ≡ withRecord nonVolatile s v q
+    unfolding withRecord packed flat
+    rewritten {t₁} {t₂} {n} {end} q h k r g e =
+        let j : t₁ ≡ padded (length s) 255 (flat (w .before) ++ (take (length q) rest ++ flat (w .behind))) = g ∙ rw (h, k) (resized-record (length q)) in
+        e ∙ ap (λ (l : Bytes). overwrite l at q) j
+        ∙ overwrite-padded (length s) (flat (w .before)) (take (length q) rest) (flat (w .behind)) q at start (length-room q r)
+        ∙ rw (with-at q, flat-append)
 
   -- ---- where there is none
   module _ (f : placeOf nonVolatile s v ≡ Absent) where

@@ -4,13 +4,13 @@ use mathlib.Core.Bool.{true}
 use mathlib.Core.List.{[], _∷_, _++_, append-assoc}
 use Prim.Native.Nat.{ℕ, _+_, _-_, _/_, _%_, _≤_, _<_}
 use native.Mathlib.Omega.{arith}
-use lib.ListN.{length, take, drop, replicate, length-append, length-drop, length-replicate, replicate-append-replicate}
-use lib.Seq.{length-take-le, drop-drop}
+use lib.ListN.{length, take, drop, replicate, length-append, length-drop, length-replicate, replicate-append-replicate, take-append-drop}
+use lib.Seq.{length-take-le, drop-drop, take-add}
 use Rattle.limits.specs.Limits.{namespaceBytes}
 use Rattle.slices.specs.Bytes.{Bytes, le32Bytes, allAre, overwrite, padded}
 use Rattle.slices.specs.BytesLaws.{allAre-is}
 use Rattle.slices.specs.PartLaws.{length-middle, drop-replicate}
-use Rattle.slices.specs.OverwriteLaws.{overwrite-seam, overwrite-before, overwrite-next}
+use Rattle.slices.specs.OverwriteLaws.{overwrite-seam, overwrite-next}
 use Rattle.names.specs.Name.{Variable}
 use Rattle.store.specs.Record.{recordSize, recordMark, encodeRecord}
 use Rattle.store.specs.Parts.{resized}
@@ -34,25 +34,34 @@ module _ (s : Bytes) (at old new end : ℕ) (h₁ : at + old ≤ end) (h₂ : en
   stop = at + new + (end - (at + old))
 
   abbrev front : Bytes
-  front = take at s ++ (replicate new 255 ++ tail)
+  front = take (at + new) s ++ tail
 
   tail-length : length tail ≡ end - (at + old)
   tail-length = length-middle s (at + old) (end - (at + old)) (omega arith)
 
   front-length : length front ≡ stop
   front-length =
-      let k : length (take at s) ≡ at = length-take-le at s (omega arith) in
-      simp (length-append, length-replicate, tail-length, k) (omega arith)
+      let k : length (take (at + new) s) ≡ at + new = length-take-le (at + new) s (omega arith) in
+      simp (length-append, tail-length, k)
 
-  moved : overwrite (overwrite s (at + new) tail) at (replicate new 255) ≡ front ++ drop stop s
-  moved = overwrite-before s at (at + new) (replicate new 255) tail (rw length-replicate) (omega arith)
-      ∙ rw tail-length (simp append-assoc)
+  moved : overwrite s (at + new) tail ≡ front ++ drop stop s
+  unfolding overwrite
+  moved = rw tail-length
 
-  pub resized-up : old < new → overwrite (overwrite s (at + new) tail) at (replicate new 255) ≡ resized s at old new end
+  grown : old ≤ new → front ++ drop stop s ≡ resized s at old new end
   unfolding resized padded
-  resized-up h = moved ∙ rw (front-length, free-behind s end stop free (omega arith))
+  grown h = rw (front-length, free-behind s end stop free (omega arith))
 
-  pub resized-down : new ≤ old → overwrite (overwrite (overwrite s (at + new) tail) at (replicate new 255)) stop (replicate (old - new) 255) ≡ resized s at old new end
+  -- room for as many bytes: nothing moves
+  pub resized-same : new ≡ old → s ≡ resized s at old new end
+  resized-same h =
+      sym (rw (h, ← take-add (at + old) (end - (at + old)) s) (take-append-drop (at + old + (end - (at + old))) s))
+      ∙ grown (omega arith)
+
+  pub resized-up : old < new → overwrite s (at + new) tail ≡ resized s at old new end
+  resized-up h = moved ∙ grown (omega arith)
+
+  pub resized-down : new < old → overwrite (overwrite s (at + new) tail) stop (replicate (old - new) 255) ≡ resized s at old new end
   unfolding resized padded
   resized-down h =
       let e : length s - stop ≡ old - new + (length s - (stop + (old - new))) = omega arith in

@@ -1,21 +1,23 @@
 -- A walk over what is known to be records, and the search along it. Assumes nothing.
 use Prim.Native.Nat.{ℕ, zero, suc, _+_, _-_, _≤_, _<_}
-use mathlib.Core.Path.{_≡_, refl, sym, _∙_}
+use mathlib.Core.Path.{_≡_, refl, sym, ap, _∙_}
+use mathlib.Core.List.{[], _∷_, _++_}
 use mathlib.Core.Bool.{Bool, true, false, cond}
 use native.Mathlib.Omega.{arith}
 use native.Mathlib.Nat.{le-refl}
 use lib.ListN.{length, take, drop, length-take, length-drop}
-use lib.Seq.{length-take-le, drop-drop}
+use lib.Seq.{length-take-le, take-take, drop-drop}
 use Rattle.limits.specs.Limits.{maxPayload}
-use Rattle.slices.specs.TestLaws.{and-no}
-use Rattle.slices.specs.Bytes.{Bytes, part, same}
-use Rattle.slices.specs.BytesLaws.{pairwise-lengths}
+use Rattle.slices.specs.TestLaws.{and-left, forced-off}
+use Rattle.slices.specs.Bytes.{Bytes, le16, le32, part}
+use Rattle.slices.specs.NumberLaws.{le32-take, le32-drop}
 use Rattle.slices.specs.PartLaws.{part-rest, length-part}
 use Rattle.slices.specs.ChunksLaws.{chunks-stop, chunks-step, used-stop, used-step, used-again, at-within}
-use lib.Dec.{eqb}
-use Rattle.names.specs.Name.{Variable}
-use Rattle.store.specs.Record.{nameSize, dataSize, recordSize, recordLength, namespaceOf, nameOf, isOf}
-use Rattle.store.specs.RecordLaws.{recordLength-within, begins, begins-fits, header-sizes, nameSize-take}
+use Rattle.names.specs.Name.{Variable, isTerminated}
+use Rattle.names.specs.NameLaws.{isName-length, isTerminated-name, isTerminated-zeros}
+use Rattle.store.specs.Record.{nameSize, dataSize, recordSize, bodyOk, recordLength, nameOf, isOf}
+use Rattle.store.specs.RecordLaws.{recordLength-within, begins, begins-fits, header-sizes}
+use Rattle.store.specs.VariableLaws.{isOf-name}
 use Rattle.store.specs.Parts.{HeaderFits}
 use Rattle.store.specs.Store.{recordsOf, endOf, placeFrom}
 use Rattle.store.specs.declared.Found.{Found}
@@ -25,13 +27,14 @@ use Rattle.store.specs.declared.Found.the-variants.{At, Absent}
 pub record Here (nonVolatile : Bool) (at m : ℕ) (s : Bytes) : Type 0 where
   pub is : recordLength nonVolatile (drop at s) ≡ m
   pub some : 0 < m
-  pub long : 32 ≤ length s - at
+  pub long : 36 ≤ length s - at
   pub next : at + m ≤ length s
   pub step : endOf nonVolatile s ≡ at + m + endOf nonVolatile (drop (at + m) s)
   pub name : nameSize (drop at s) ≤ 130
   pub most : dataSize (drop at s) ≤ maxPayload
   pub whole : recordSize (nameSize (drop at s)) (dataSize (drop at s)) ≡ m
   pub fits : HeaderFits (take m (drop at s))
+  pub body : bodyOk (take m (drop at s)) ≡ true
 
 module _ (nonVolatile : Bool) where
   pub here : (at : ℕ) (s : Bytes) → at ≤ length s → endOf nonVolatile s ≡ at + endOf nonVolatile (drop at s) → at < endOf nonVolatile s
@@ -55,6 +58,7 @@ module _ (nonVolatile : Bool) where
             most = z .most;
             whole = i;
             fits = begins-fits nonVolatile (suc m) (drop at s) b;
+            body = b .body;
           })
 
   -- at the end no record begins
@@ -84,18 +88,38 @@ module _ (nonVolatile : Bool) where
     pub place-again : p (take n (drop at s)) ≡ false → f ≡ placeFrom p (at + n) (recordsOf nonVolatile (drop (at + n) s))
     place-again t = q ∙ place-step n p at (drop at s) (w .is) (w .some) ∙ rw (t, drop-drop)
 
--- a name of another length
-other-length : (v : Variable) (r : Bytes) → HeaderFits r → (nameSize r ≡ length (v .name) + 2 → ⊥) → isOf v r ≡ false
-unfolding isOf nameOf
-other-length v r f h =
-    let l : length (part 32 (30 + nameSize r) r) ≡ 30 + nameSize r - 32 = length-part 32 (30 + nameSize r) r (omega (arith, f .low, f .fits)) in
-    rw (pairwise-lengths eqb (part 32 (30 + nameSize r) r) (v .name) (λ e. h (omega (arith, f .low, l, e)))) (and-no (same (namespaceOf r) (v .namespace)))
+-- ---- the first four bytes of a name tell it from most others
+-- a zero unit behind them reads as what is past the end
+four-closed : (u : Bytes) → 2 ≤ length u → le32 (u ++ (0 ∷ 0 ∷ [])) 0 ≡ le32 u 0
+unfolding le32 le16
+four-closed [] h = absurd (omega arith)
+four-closed (a ∷ []) h = absurd (omega arith)
+four-closed (a ∷ b ∷ []) h = refl
+four-closed (a ∷ b ∷ c ∷ []) h = refl
+four-closed (a ∷ b ∷ c ∷ d ∷ u) h = refl
 
-pub other-here : (nonVolatile : Bool) (at m : ℕ) (s : Bytes) (v : Variable) → Here nonVolatile at m s → (nameSize (drop at s) ≡ length (v .name) + 2 → ⊥)
+four-terminated : (t : Bytes) → isTerminated t ≡ true → le32 t 0 ≡ le32 (take (length t - 2) t) 0
+four-terminated t e =
+    ap (λ (u : Bytes). le32 u 0) (isTerminated-zeros t e) ∙ four-closed (take (length t - 2) t) (isName-length (take (length t - 2) t) (isTerminated-name t e) .0)
+
+four-name : (r : Bytes) → HeaderFits r → bodyOk r ≡ true → le32 r 32 ≡ le32 (nameOf r) 0
+unfolding bodyOk nameOf
+four-name r f b =
+    let t : Bytes = part 32 (32 + nameSize r) r in
+    let l : length t ≡ 32 + nameSize r - 32 = length-part 32 (32 + nameSize r) r (omega (arith, f .fits)) in
+    let k : length t - 2 ≡ 30 + nameSize r - 32 = omega arith in
+    sym (le32-drop 32 r 0) ∙ sym (le32-take (32 + nameSize r - 32) (drop 32 r) 0 (omega (arith, f .low)))
+    ∙ four-terminated t (and-left _ _ b)
+    ∙ ap (λ (n : ℕ). le32 (take n t) 0) k ∙ ap (λ (u : Bytes). le32 u 0) (take-take (30 + nameSize r - 32) (32 + nameSize r - 32) (drop 32 r) (omega arith))
+
+other-first : (v : Variable) (r : Bytes) → HeaderFits r → bodyOk r ≡ true → (le32 r 32 ≡ le32 (v .name) 0 → ⊥) → isOf v r ≡ false
+other-first v r f b h = forced-off (isOf v r) (λ t. absurd (h (four-name r f b ∙ ap (λ (u : Bytes). le32 u 0) (isOf-name v r t))))
+
+pub other-here : (nonVolatile : Bool) (at m : ℕ) (s : Bytes) (v : Variable) → Here nonVolatile at m s → (le32 (drop at s) 32 ≡ le32 (v .name) 0 → ⊥)
     → isOf v (take m (drop at s)) ≡ false
 other-here nonVolatile at m s v w h =
-    let k : 32 ≤ m = omega (arith, w .fits .head, length-take m (drop at s)) in
-    other-length v (take m (drop at s)) (w .fits) (λ e. h (sym (nameSize-take m (drop at s) (omega arith)) ∙ e))
+    let k : 36 ≤ m = omega (arith, w .fits .low, w .fits .fits, length-take m (drop at s)) in
+    other-first v (take m (drop at s)) (w .fits) (w .body) (λ e. h (sym (le32-take m (drop at s) 32 (omega arith)) ∙ e))
 
 -- ---- as the code has it
 pub resized : {z m : ℕ} (nonVolatile : Bool) (at : ℕ) (s : Bytes) → z ≡ m → Here nonVolatile at m s → Here nonVolatile at z s

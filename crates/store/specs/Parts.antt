@@ -5,7 +5,7 @@ use mathlib.Core.Path.{_≡_}
 use mathlib.Core.List.{[], _++_}
 use mathlib.Core.Bool.{Bool, true}
 use mathlib.Core.Option.{Option, none, some}
-use lib.ListN.{length, take, drop, replicate}
+use lib.ListN.{length, take, drop}
 use Rattle.limits.specs.Limits.{maxPayload}
 use Rattle.slices.specs.Bytes.{Bytes, padded}
 use Rattle.slices.specs.Chunks.{find}
@@ -43,6 +43,7 @@ payloadIn (some r) = payloadOf r
 abbrev pub joined : Bool → Bytes → Variable → Bytes → Bytes
 joined nonVolatile s v payload = payloadIn (find (isOf v) (recordsOf nonVolatile s)) ++ payload
 
--- s with 0xFF, new times, for the old bytes from index at on; what is behind them, up to end, stands behind the new ones, and the rest is 0xFF
+-- s with room for new bytes in place of the old ones from index at on: the room holds what stood there, what was behind the old
+-- ones, up to end, stands behind the room, and the rest is 0xFF
 unfoldable pub resized : Bytes → ℕ → ℕ → ℕ → ℕ → Bytes
-resized s at old new end = padded (length s) 255 (take at s ++ (replicate new 255 ++ take (end - (at + old)) (drop (at + old) s)))
+resized s at old new end = padded (length s) 255 (take (at + new) s ++ take (end - (at + old)) (drop (at + old) s))

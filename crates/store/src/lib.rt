@@ -95,17 +95,17 @@ fn is_of(r: &[u8], namespace: &[u8], name: &[u8]) -> bool
 }
 
 // Where the variable's record stands in a store whose records end at `end`. What is known to be a record is not tested again.
+// The first four bytes of its name rule most records out: a name of one unit has its closing zero unit there.
 pub fn find_within(s: &[u8], nonvolatile: bool, end: usize, namespace: &[u8], name: &[u8]) -> Found
     requires { ⌜ end ≡ endOf nonvolatile (now s) ⌝ }
     ensures { λ r. ⌜ r ≡ placeOf nonvolatile (now (s .entry)) (variable (now (namespace .entry)) (now (name .entry))) ⌝ }
 {
-    let name_size = name.len() + 2;
+    let first = slices::le32(name, 0) as usize;
     let mut at = 0;
     while at < end {
         let r = &s[at..];
-        let n = slices::get32(r, 8);
-        let size = record_size(n, slices::get32(r, 12));
-        if n == name_size {
+        let size = record_size(slices::get32(r, 8), slices::get32(r, 12));
+        if slices::get32(r, 32) == first {
             if is_of(&r[..size], namespace, name) {
                 return Found::At { at: at, len: size };
             }
@@ -149,20 +149,22 @@ pub fn payload_found<'a>(
 }
 
 // Makes room of `new` bytes in place of the `old` ones at `at`, in a store whose records end at `end`.
+// What the room holds is the caller's to write.
 fn resize_record(s: &mut [u8], at: usize, old: usize, new: usize, end: usize)
     requires { ⌜ (at + old ≤ end) × (end ≤ length (now s)) × (end + new ≤ length (now s) + old) × (allAre 255 (drop end (now s)) ≡ true) ⌝ }
     ensures { λ _. ⌜ now (s .exit) ≡ resized (now (s .entry)) at old new end ⌝ }
 {
+    if new == old {
+        return;
+    }
     let from = at + old;
     let to = at + new;
     let n = end - from;
-    if new <= old {
+    if new < old {
         slices::move_down(s, from, to, n);
-        slices::fill(s, at, new, 255);
         slices::fill(s, to + n, old - new, 255);
     } else {
         slices::move_up(s, from, to, n);
-        slices::fill(s, at, new, 255);
     }
 }
 

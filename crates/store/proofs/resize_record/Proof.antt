@@ -1,8 +1,14 @@
-use Rattle.store.proofs.Resize.{resized-up, resized-down}
+use Rattle.store.proofs.Resize.{resized-same, resized-up, resized-down}
 use native.Mathlib.Omega.{arith}
 use borrow.Author.Needs.{needs}
 use Rattle.store.proofs.resize_record.Statement.{statement}
 use Rattle.store.proofs.resize_record.Tie as tie
+
+returns : tie.Need-returns
+returns c =
+    let g = c .before .before in
+    let a = g .args in
+    resized-same (a .s .now) (a .at) (a .old) (a .new) (a .end) (g .pre .0) (g .pre .1) (g .pre .2) (g .pre .3) (omega arith)
 
 add-from : tie.Need-add-from
 add-from c = search needs
@@ -16,36 +22,33 @@ sub-n c = search needs
 move-down-requires : tie.Need-move-down-requires
 move-down-requires c κs = search needs
 
-fill-requires : tie.Need-fill-requires
-fill-requires c κs = search needs
-
 add-fill : tie.Need-add-fill
 add-fill c = search needs
 
-fill-requires-2 : tie.Need-fill-requires-2
-fill-requires-2 c κs = search needs
+sub-fill : tie.Need-sub-fill
+sub-fill c = search needs
+
+fill-requires : tie.Need-fill-requires
+fill-requires c κs = search needs
 
 move-up-requires : tie.Need-move-up-requires
 move-up-requires c κs = search needs
 
-fill-requires-3 : tie.Need-fill-requires-3
-fill-requires-3 c κs = search needs
-
 same-length : tie.Need-same-length
 same-length c = search needs
 
-returns : tie.Need-returns
-returns c =
-    let g = c .before .before .before .before .before .before .before .before .before .before .before .before .before .before in
+returns-2 : tie.Need-returns-2
+returns-2 c =
+    let g = c .before .before .before .before .before .before .before .before .before .before .before in
     let a = g .args in
     cc (resized-down (a .s .now) (a .at) (a .old) (a .new) (a .end) (g .pre .0) (g .pre .1) (g .pre .2) (g .pre .3) (omega arith))
 
 same-length-2 : tie.Need-same-length-2
 same-length-2 c = search needs
 
-returns-2 : tie.Need-returns-2
-returns-2 c =
-    let g = c .before .before .before .before .before .before .before .before .before .before in
+returns-3 : tie.Need-returns-3
+returns-3 c =
+    let g = c .before .before .before .before .before .before .before in
     let a = g .args in
     cc (resized-up (a .s .now) (a .at) (a .old) (a .new) (a .end) (g .pre .0) (g .pre .1) (g .pre .2) (g .pre .3) (omega arith))
 
@@ -53,16 +56,16 @@ pub resize-record-spec : {M : Type 1} → statement M
 resize-record-spec =
     tie.close
     (tie.spec
+    returns
     add-from
     add-to
     sub-n
     move-down-requires
-    fill-requires
     add-fill
-    fill-requires-2
+    sub-fill
+    fill-requires
     move-up-requires
-    fill-requires-3
     same-length
-    returns
+    returns-2
     same-length-2
-    returns-2)
+    returns-3)

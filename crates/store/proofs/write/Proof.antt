@@ -89,7 +89,7 @@ returns c =
     let r = p .before .before .before .before in
     let f = r .before .before .before .before in
     let g = Go f in
-    rewritten _ _ _ _ _ (at-is f) (Rec g) (g .pre .1) (r .before .record-size .ensures ∙ size-is g) (r .resize-record .ensures) (p .put-record .ensures)
+    rewritten _ _ _ _ _ (at-is f) (Rec g) (g .pre .1) (r .before .record-size .ensures ∙ size-is g) (g .pre .4) (r .resize-record .ensures) (p .put-record .ensures)
 
 same-length-2 : tie.Need-same-length-2
 same-length-2 c = search needs
