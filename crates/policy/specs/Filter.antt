@@ -10,11 +10,11 @@ use Rattle.slices.specs.ChunksLaws.{All}
 use Rattle.entry.specs.Entry.{namespaceOf, nameOf}
 
 abbrev pub slots : ℕ
-slots = 1024
+slots = 2048
 
 -- the slot of a hash: both halves of a product count
 abbrev pub slotAt : ℕ → ℕ
-slotAt h = (h % 4294967296 * 2654435761 % 4294967296 + h % 4294967296 * 2654435761 / 4294967296) / 4194304 % slots
+slotAt h = (h % 4294967296 * 2654435761 % 4294967296 + h % 4294967296 * 2654435761 / 4294967296) / 2097152 % slots
 
 -- the slot of an entry, by the first four bytes of its namespace and by its name
 unfoldable pub slotOf : Bytes → ℕ

@@ -73,11 +73,11 @@ fn slot(e: &[u8]) -> usize
 {
     let h = slices::hash(slices::get32(e, 8), entry::name_bytes(e));
     let product = h % 4294967296 * 2654435761;
-    (product % 4294967296 + product / 4294967296) / 4194304 % 1024
+    (product % 4294967296 + product / 4294967296) / 2097152 % 2048
 }
 
 // Whether one of the first count entries, which the filter has, has the namespace and the name of e; the filter then has e too.
-fn is_repeated(policy: &[u8], count: usize, e: &[u8], marks: &mut [u8; 1024]) -> bool
+fn is_repeated(policy: &[u8], count: usize, e: &[u8], marks: &mut [u8; 2048]) -> bool
     requires { ⌜ (count ≤ length (entriesOf (now policy))) × (wellFormed (now e) ≡ true) × Marks (now marks) (take count (entriesOf (now policy))) ⌝ }
     ensures answer { λ r. ⌜ r ≡ contains (sameTarget (now (e .entry))) (take count (entriesOf (now (policy .entry)))) ⌝ }
     ensures marked { λ _. ⌜ now (marks .exit) ≡ set (now (marks .entry)) (slotOf (now (e .entry))) 1 ⌝ }
@@ -93,7 +93,7 @@ fn is_repeated(policy: &[u8], count: usize, e: &[u8], marks: &mut [u8; 1024]) ->
 }
 
 // The check of a record of the right length, with a filter that has no entry.
-fn scan(policy: &[u8], marks: &mut [u8; 1024]) -> PolicyCheck
+fn scan(policy: &[u8], marks: &mut [u8; 2048]) -> PolicyCheck
     requires { ⌜ (length (now policy) ≡ policyBytes) × Marks (now marks) [] ⌝ }
     ensures { λ r. ⌜ r ≡ policyCheck (now (policy .entry)) ⌝ }
 {
@@ -119,10 +119,10 @@ fn scan(policy: &[u8], marks: &mut [u8; 1024]) -> PolicyCheck
 }
 
 // A filter that has no entry.
-fn no_marks() -> [u8; 1024]
+fn no_marks() -> [u8; 2048]
     ensures { λ r. ⌜ length r ≡ slots ⌝ }
 {
-    [0u8; 1024]
+    [0u8; 2048]
 }
 
 // The check of a lent policy record: the right length, distinct well-formed entries within the limits, then zeros.
