@@ -13,6 +13,7 @@ use lib.Seq.{drop-drop, drop-at, take-at, take-nil, drop-append-seam, getD-drop}
 use lib.Dec.{leb}
 use lib.Bits.{bitAnd}
 use borrow.Author.Tests.{eq-eqb, le-leb, lt-leb, eqb-true, leb-true}
+use Rattle.limits.specs.Limits.{maxEntryBytes}
 use Rattle.slices.specs.TestLaws.{and-left, and-right, and-intro}
 use Rattle.slices.specs.Bytes.{Bytes, le16, le32, le16Bytes, le32Bytes, part}
 use Rattle.slices.specs.PartLaws.{drop-step, drop-take, part-take, part-rest, part-none, length-part}
@@ -219,7 +220,7 @@ module _ (f : Fields) (r : InRange f) where
   unfolding offsetFor
   offset-most = omega (arith, lock-least (f .lock) (r .lock))
 
-  size-most : sizeFor f ≤ 322
+  size-most : sizeFor f ≤ maxEntryBytes
   unfolding sizeFor
   size-most = omega (arith, offset-most, name-most (f .name) (r .name))
 

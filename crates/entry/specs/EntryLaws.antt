@@ -10,7 +10,7 @@ use lib.ListN.{length, take, drop, length-drop}
 use lib.Seq.{take-take}
 use lib.Dec.{eqb, leb}
 use borrow.Author.Tests.{eq-eqb, ne-eqb, leb-true, eqb-true}
-use Rattle.limits.specs.Limits.{maxNameBytes, namespaceBytes}
+use Rattle.limits.specs.Limits.{maxEntryBytes, maxNameBytes, namespaceBytes}
 use Rattle.slices.specs.Test.{_and_}
 use Rattle.slices.specs.TestLaws.{and-left, and-right, and-intro}
 use Rattle.slices.specs.Bytes.{Bytes, part, same}
@@ -23,7 +23,7 @@ use Rattle.entry.specs.Entry.{headerOk, lockOk, nameOk, wellFormed, size
 -- ---- lengths and places
 pub record Sized (e : Bytes) : Type 0 where
   pub least : 44 ≤ length e
-  pub most : length e ≤ 322
+  pub most : length e ≤ maxEntryBytes
   pub stated : sizeField e ≡ length e
   pub offset-least : 44 ≤ offsetToName e
   pub offset-most : offsetToName e ≤ length e

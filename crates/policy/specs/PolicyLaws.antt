@@ -9,7 +9,7 @@ use lib.ListN.{length, getD, take, drop, replicate, length-append}
 use lib.Seq.{take-at, length-take-le}
 use lib.Dec.{leb}
 use borrow.Author.Tests.{eq-eqb, le-leb, eqb-true, leb-true}
-use Rattle.limits.specs.Limits.{maxEntries, policyBytes}
+use Rattle.limits.specs.Limits.{maxEntries, maxEntryBytes, policyBytes}
 use Rattle.slices.specs.Test.{_and_}
 use Rattle.slices.specs.TestLaws.{and-left, and-right, and-intro}
 use Rattle.slices.specs.Bytes.{Bytes, le16}
@@ -45,7 +45,7 @@ pub record Begins (p : Bytes) (n : ℕ) : Type 0 where
   pub within : n ≤ length p
   pub formed : wellFormed (take n p) ≡ true
   pub least : 44 ≤ n
-  pub most : n ≤ 322
+  pub most : n ≤ maxEntryBytes
 
 begins-of : (p : Bytes) → sizeField p ≤ length p → wellFormed (take (sizeField p) p) ≡ true → Begins p (sizeField p)
 begins-of p h w =

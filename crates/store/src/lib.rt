@@ -40,7 +40,7 @@ fn header_ok(r: &[u8], nonvolatile: bool) -> bool
         & (r[3] == 0)
         & attributes_ok(slices::get32(r, 4), nonvolatile)
         & (4 <= n)
-        & (n <= 130)
+        & (n <= limits::MAX_NAME_SIZE)
         & (1 <= d)
         & (d <= limits::MAX_PAYLOAD)
 }
