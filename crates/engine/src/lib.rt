@@ -1,5 +1,6 @@
 // The calls of the engine. The promise of each is one equation with the rules' `step`: from the state before, with the parts
-// that the call is not lent as they may be, to the answer and the state afterwards, for every input.
+// that the call is not lent as they may be, to the answer and the state afterwards, for every input. The read pair is one call
+// of the rules; each of its two calls promises its part of the answer.
 ghost use mathlib.Core.Path.{_≡_};
 ghost use mathlib.Core.Bool.{cond};
 ghost use Rattle.slices.specs.Bytes.{Bytes};

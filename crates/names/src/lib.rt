@@ -39,6 +39,20 @@ fn eight_not_zero(s: &[u8], i: usize) -> bool
     ok
 }
 
+// Whether no unit is zero: for a few units.
+fn few_not_zero(s: &[u8]) -> bool
+    ensures { λ r. ⌜ r ≡ noZero (units (now (s .entry))) ⌝ }
+{
+    let mut i = 0;
+    while 2 <= s.len() - i {
+        if slices::get16(s, i) == 0 {
+            return false;
+        }
+        i += 2;
+    }
+    true
+}
+
 // Whether no unit is zero.
 fn no_zero(s: &[u8]) -> bool
     ensures { λ r. ⌜ r ≡ noZero (units (now (s .entry))) ⌝ }
@@ -50,13 +64,7 @@ fn no_zero(s: &[u8]) -> bool
         }
         i += 16;
     }
-    while 2 <= s.len() - i {
-        if slices::get16(s, i) == 0 {
-            return false;
-        }
-        i += 2;
-    }
-    true
+    few_not_zero(&s[i..])
 }
 
 // The one checker: whether the bytes are a name without its closing zero unit, 1 to 64 whole units, none zero.
