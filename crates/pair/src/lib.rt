@@ -27,7 +27,7 @@ pub enum Scanned {
 }
 
 // A hash of the namespace and the name of a record.
-fn hash(r: &[u8]) -> usize
+pub fn hash(r: &[u8]) -> usize
     requires { ⌜ HeaderFits (now r) ⌝ }
     ensures { λ x. ⌜ x ≡ hashOf (variableOf (now (r .entry))) ⌝ }
 {
@@ -36,7 +36,7 @@ fn hash(r: &[u8]) -> usize
     h % 4294967296 * 2654435761
 }
 
-fn slot(h: usize) -> usize
+pub fn slot(h: usize) -> usize
     ensures { λ r. ⌜ r ≡ slotOf h ⌝ }
     ensures { λ r. ⌜ r < 8192 ⌝ }
 {

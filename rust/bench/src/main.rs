@@ -1,96 +1,132 @@
-//! `bench [time|instructions]`: measures the proved library beside ordinary Rust over the same bytes.
+//! `bench [time|instructions|bars]`: measures the proved library beside ordinary Rust over the same bytes.
 //!
-//! Every case is one call with the same lent bytes for all: the library, ordinary Rust with the
-//! standard library's hash table, and ordinary Rust with a small table of its own (see `plain.rs`).
-//! First all three must give the same answer and leave the same bytes. Then
+//! Every case is a call, or a part of one, with the same lent bytes for all: the library, and one or two versions in
+//! ordinary Rust (see `plain`). First all of them must give the same answers and leave the same bytes. Then
 //!
-//! * time: the three run in turn, in rounds; the least time of a call over all rounds is kept;
-//! * instructions: the program runs itself once for each case and implementation under
-//!   `valgrind --tool=callgrind`, which counts the instructions of one call, after one that is not
-//!   counted.
+//! * time: they run in turn, in rounds; the least time of a call over all rounds is kept;
+//! * instructions: the program runs itself once for each case and version under `valgrind --tool=callgrind`, which
+//!   counts the instructions of one call, after one that is not counted;
+//! * bars: the same, and the program fails if the library breaks a bar.
 //!
 //! The ratio is library to ordinary Rust. Buffers are made before and are not cleared in between.
 
-mod cases;
+mod calls;
+mod inputs;
+mod libparts;
+mod measure;
+mod parts;
 #[allow(missing_docs)]
 mod plain;
+mod table;
 
-use cases::{Case, Who};
-use std::process::{Command, ExitCode};
-use std::time::Instant;
+use std::process::ExitCode;
+use table::{Group, Verdict};
 
 const ABOUT: &str = "\
-library: libvarpolicy.a. standard and small: ordinary Rust over the same bytes, with the standard library's hash
-table or a small one on the stack. Every call checks all it is lent: two stores of 32,768 bytes with records of 40,
-or, where there are 64 entries, one of 256 bytes. (callgrind counts a cleared byte of a long memset as one.)
+library: libvarpolicy.a. part: the same function in libparts.a, compiled by itself. The others are ordinary Rust over
+the same bytes. standard, small: with the standard library's hash table, or a small one on the stack. pairwise: every key
+compared with all before it. whole, by unit: a walk over the records that compares a name at once, or its first unit
+first. Every call checks all it is lent: two stores of 32,768 bytes with records of 40 bytes or, where there are 64
+entries, one of 256 bytes. Names of one slot share a slot of the filter in the library's check.
+A choice or a search trusts the check before it, so it is the difference of two calls of one function, with and without
+it: a set with the engine enabled and disabled, or a name and an empty one. Both run the same machine code, whatever the
+compiler inlined; the count of a function by its name would depend on that. The checks are calls that stop behind them.
+The bars are for instructions. A number: at most so many times the best ordinary version of the row. under: less than
+pairwise. (memset and memmove are then told to use vector instructions: of `rep stosb` every byte would be counted.)
 ";
+
+/// The groups of cases. Each is made by itself, so that a run under valgrind makes only its own.
+const GROUPS: [fn(&[u32]) -> Group; 7] = [
+    |_| calls::whole(),
+    |_| calls::choice_in_set(),
+    |_| parts::choice(),
+    |_| parts::policy_check(),
+    parts::pair_check,
+    |_| parts::search(),
+    |_| parts::moves(),
+];
 
 fn main() -> ExitCode {
     let arguments: Vec<String> = std::env::args().skip(1).collect();
     let arguments: Vec<&str> = arguments.iter().map(String::as_str).collect();
-    let cases = cases::all();
     match arguments.as_slice() {
-        ["one", case, who] => {
-            let (case, who) = (case.parse::<usize>(), who.parse::<usize>());
-            let (Ok(case), Ok(who)) = (case, who) else {
-                return ExitCode::from(2);
-            };
-            cases[case].one_call(Who::ALL[who]);
-            return ExitCode::SUCCESS;
+        ["one", column, with, group, case, one_slot] => {
+            match one_call([column, group, case], *with == "with", one_slot) {
+                Some(()) => ExitCode::SUCCESS,
+                None => ExitCode::from(2),
+            }
         }
-        [] | ["time"] | ["instructions"] => {}
+        [] => bench(true, true, false),
+        ["time"] => bench(true, false, false),
+        ["instructions"] => bench(false, true, false),
+        ["bars"] => bench(false, true, true),
         _ => {
-            eprintln!("usage: bench [time|instructions]");
-            return ExitCode::from(2);
+            eprintln!("usage: bench [time|instructions|bars]");
+            ExitCode::from(2)
         }
     }
-    for case in &cases {
-        if let Err(difference) = case.check() {
-            eprintln!("{}: {difference}", case.name);
-            return ExitCode::FAILURE;
-        }
+}
+
+fn bench(time: bool, instructions: bool, must_hold: bool) -> ExitCode {
+    let one_slot = inputs::of_one_slot(2 * 819);
+    let groups = GROUPS.map(|group| group(&one_slot));
+    if let Err(difference) = check(&groups) {
+        eprintln!("{difference}");
+        return ExitCode::FAILURE;
     }
     println!("{ABOUT}");
-    if arguments != ["instructions"] {
-        table("nanoseconds of a call, the least of 60 rounds run in turn", &cases, |case, _| {
-            Some(case.time(Instant::now))
+    if time {
+        println!("NANOSECONDS of a call, the least in 60 rounds run in turn\n");
+        for group in &groups {
+            table::print(group, None, |case, _| Some(case.time(group.columns.len())));
+        }
+    }
+    if !instructions {
+        return ExitCode::SUCCESS;
+    }
+    println!("INSTRUCTIONS of a call, by valgrind --tool=callgrind\n");
+    let mut verdict = Verdict::default();
+    let one_slot = one_slot.iter().map(u32::to_string).collect::<Vec<_>>().join(",");
+    for (place, group) in groups.iter().enumerate() {
+        let counted = table::print(group, Some(&mut verdict), |case, place_of_case| {
+            case.instructions(group.columns.len(), &[place.to_string(), place_of_case.to_string(), one_slot.clone()])
         });
-    }
-    if arguments != ["time"] {
-        table("instructions of a call, by valgrind --tool=callgrind", &cases, |_, number| instructions(number));
-    }
-    ExitCode::SUCCESS
-}
-
-/// Prints a row for each case: the three figures, and the library's ratio to each ordinary version.
-fn table(title: &str, cases: &[Case], mut measure: impl FnMut(&Case, usize) -> Option<[f64; 3]>) {
-    println!("{title}");
-    println!("{:<51} {:>9} {:>9} {:>9} {:>8} {:>8}", "case", "library", "standard", "small", "to std.", "to small");
-    for (number, case) in cases.iter().enumerate() {
-        let Some([library, standard, small]) = measure(case, number) else {
+        if !counted {
             println!("valgrind could not be run: no instruction counts");
-            return;
-        };
-        let (to_standard, to_small) = (library / standard, library / small);
-        println!("{:<51} {library:>9.0} {standard:>9.0} {small:>9.0} {to_standard:>8.2} {to_small:>8.2}", case.name);
+            return if must_hold { ExitCode::FAILURE } else { ExitCode::SUCCESS };
+        }
     }
-    println!();
+    println!("{} bars hold, {} are broken", verdict.hold, verdict.broken);
+    if must_hold && verdict.broken > 0 { ExitCode::FAILURE } else { ExitCode::SUCCESS }
 }
 
-/// The instructions of one call by each implementation.
-fn instructions(case: usize) -> Option<[f64; 3]> {
-    let program = std::env::current_exe().ok()?;
-    let mut counts = [0.0; 3];
-    for (who, count) in counts.iter_mut().enumerate() {
-        let output = Command::new("valgrind")
-            .args(["--tool=callgrind", "--callgrind-out-file=/dev/null", "--toggle-collect=measured_call"])
-            .arg(&program)
-            .args(["one", &case.to_string(), &who.to_string()])
-            .output()
-            .ok()?;
-        let messages = String::from_utf8_lossy(&output.stderr);
-        let collected = messages.split("Collected :").nth(1)?.split_whitespace().next()?;
-        *count = collected.parse().ok()?;
+/// Whether all versions of all cases agree.
+fn check(groups: &[Group]) -> Result<(), String> {
+    for group in groups {
+        for case in &group.cases {
+            case.check(group.columns.len()).map_err(|difference| format!("{}: {difference}", case.name))?;
+        }
     }
-    Some(counts)
+    Ok(())
+}
+
+/// What valgrind runs: one call of one version. Nothing if a word is not a number, or too large.
+fn one_call(places: [&str; 3], with: bool, one_slot: &str) -> Option<()> {
+    let one_slot = one_slot.split(',').map(str::parse).collect::<Result<Vec<u32>, _>>().ok()?;
+    let [column, group, case] = places.map(|place| place.parse::<usize>().ok());
+    let group = GROUPS.get(group?)?(&one_slot);
+    group.columns.get(column?)?;
+    group.cases.get(case?)?.one_call(column?, with);
+    Some(())
+}
+
+#[cfg(test)]
+mod tests {
+    use super::*;
+
+    #[test]
+    fn all_versions_agree() {
+        let one_slot = inputs::of_one_slot(2 * 819);
+        assert_eq!(check(&GROUPS.map(|group| group(&one_slot))), Ok(()));
+    }
 }

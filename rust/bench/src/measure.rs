@@ -1,0 +1,168 @@
+//! How a case is measured: by time, all versions in turn, or by the instructions that valgrind counts.
+
+use crate::calls::Call;
+use crate::inputs::Lent;
+use crate::parts::Part;
+use crate::plain::calls::VOLUME_CORRUPTED;
+use crate::table::Bar;
+use std::hint::black_box;
+use std::process::Command;
+use std::time::{Duration, Instant};
+
+/// An answer as numbers, so that all versions can be compared.
+pub type Answer = [usize; 4];
+
+/// What is measured: a whole call, or a part of one.
+pub enum Work {
+    /// A whole call.
+    Call(Call),
+    /// A part.
+    Part(Part),
+}
+
+impl Work {
+    /// Whether an answer tells that what is lent is not sound or not valid.
+    fn is_refused(&self, answer: &Answer) -> bool {
+        match self {
+            Work::Call(_) => answer[0] == VOLUME_CORRUPTED as usize,
+            Work::Part(Part::CheckPolicy | Part::CheckStores) => answer[0] == 0,
+            Work::Part(_) => false,
+        }
+    }
+}
+
+/// A case: its name, what is measured and what is lent.
+pub struct Case {
+    /// The name in the table.
+    pub name: String,
+    /// What is measured.
+    pub work: Work,
+    /// What is subtracted: the same without the part that is measured.
+    pub without: Option<Work>,
+    /// What is lent.
+    pub lent: Lent,
+    /// What the library is held to.
+    pub bar: Option<Bar>,
+}
+
+impl Case {
+    /// A case whose work is measured whole.
+    pub fn new(name: String, work: Work, lent: Lent) -> Case {
+        Case { name, work, without: None, lent, bar: None }
+    }
+
+    /// The work and, if there is one, what is subtracted.
+    fn works(&self) -> impl Iterator<Item = &Work> {
+        std::iter::once(&self.work).chain(&self.without)
+    }
+
+    /// Whether the versions of all columns give the same answers and leave the same bytes, over four calls, and none
+    /// refuses what it is lent.
+    pub fn check(&self, columns: usize) -> Result<(), &'static str> {
+        for work in self.works() {
+            let library = self.four_calls(work, 0);
+            for column in 1..columns {
+                let ordinary = self.four_calls(work, column);
+                if ordinary.0 != library.0 {
+                    return Err("the answers differ");
+                }
+                if ordinary.1 != library.1 {
+                    return Err("the bytes differ");
+                }
+            }
+            if library.0.iter().any(|answer| work.is_refused(answer)) {
+                return Err("what is lent is refused");
+            }
+        }
+        Ok(())
+    }
+
+    /// The answers of four calls, and what they leave.
+    fn four_calls(&self, work: &Work, column: usize) -> ([Answer; 4], Lent) {
+        let mut lent = self.lent.clone();
+        ([(); 4].map(|()| run(work, column, &mut lent)), lent)
+    }
+
+    /// Least nanoseconds of a call in each column.
+    pub fn time(&self, columns: usize) -> Vec<f64> {
+        const ROUNDS: usize = 60;
+        let mut runs: Vec<(usize, &Work, Lent)> =
+            (0..columns).flat_map(|column| self.works().map(move |work| (column, work, self.lent.clone()))).collect();
+        let mut least = vec![f64::INFINITY; runs.len()];
+        for _ in 0..ROUNDS {
+            for ((column, work, lent), least) in runs.iter_mut().zip(&mut least) {
+                *least = least.min(time_of_call(work, *column, lent));
+            }
+        }
+        least.chunks(runs.len() / columns).map(|with| with[0] - with.get(1).unwrap_or(&0.0)).collect()
+    }
+
+    /// One call that is not counted, and one that is.
+    pub fn one_call(&self, column: usize, with: bool) {
+        let Some(work) = self.works().nth(usize::from(!with)) else { return };
+        let mut lent = self.lent.clone();
+        black_box(run(work, column, &mut lent));
+        black_box(measured_call(work, column, &mut lent));
+    }
+
+    /// The instructions of a call in each column. The program runs itself under valgrind, once for each count;
+    /// `place` are the words by which it then finds the case.
+    pub fn instructions(&self, columns: usize, place: &[String]) -> Option<Vec<f64>> {
+        let figure = |column: usize| {
+            let without = if self.without.is_some() { count_call("without", column, place)? } else { 0.0 };
+            Some(count_call("with", column, place)? - without)
+        };
+        (0..columns).map(figure).collect()
+    }
+}
+
+/// Least nanoseconds of a call over a short time, after one call that is not counted.
+fn time_of_call(work: &Work, column: usize, lent: &mut Lent) -> f64 {
+    const ROUND: Duration = Duration::from_micros(400);
+    let first = Instant::now();
+    black_box(run(work, column, lent));
+    // A short call is made several times for each look at the clock.
+    let batch = if first.elapsed() < ROUND / 8 { 8 } else { 1 };
+    let mut least = f64::INFINITY;
+    let round = Instant::now();
+    while round.elapsed() < ROUND {
+        let start = Instant::now();
+        for _ in 0..batch {
+            black_box(run(black_box(work), column, lent));
+        }
+        least = least.min(start.elapsed().as_nanos() as f64 / f64::from(batch));
+    }
+    least
+}
+
+/// The instructions of one call.
+fn count_call(with: &str, column: usize, place: &[String]) -> Option<f64> {
+    let output = Command::new("valgrind")
+        .args(["--tool=callgrind", "--callgrind-out-file=/dev/null", "--toggle-collect=measured_call"])
+        .arg(std::env::current_exe().ok()?)
+        .args(["one", &column.to_string(), with])
+        .args(place)
+        // Vector instructions in memset and memmove: of `rep stosb` and `rep movsb` each byte would be counted.
+        .env("GLIBC_TUNABLES", "glibc.cpu.x86_rep_stosb_threshold=1000000:glibc.cpu.x86_rep_movsb_threshold=1000000")
+        .output()
+        .ok()?;
+    let messages = String::from_utf8_lossy(&output.stderr);
+    messages.split("Collected :").nth(1)?.split_whitespace().next()?.parse().ok()
+}
+
+/// The call whose instructions are counted: its name is what valgrind looks for. It is no tail call and is not
+/// merged with `run`, or calls that are not to be counted would be.
+#[unsafe(no_mangle)]
+#[inline(never)]
+fn measured_call(work: &Work, column: usize, lent: &mut Lent) -> Answer {
+    black_box(run(work, column, black_box(lent)))
+}
+
+#[inline(never)]
+fn run(work: &Work, column: usize, lent: &mut Lent) -> Answer {
+    lent.calls += 1;
+    match work {
+        Work::Call(call) => call.run(column, lent),
+        Work::Part(part) => part.run(column, lent),
+    }
+}

@@ -1,0 +1,262 @@
+//! The calls.
+
+use super::index::{Index, Place, Small, Standard};
+use super::policy::{Entries, is_entry};
+use super::stores::{Key, Stores, record_len};
+use super::{APPEND, BS, HEADER, MAX_ENTRIES, MAX_PAYLOAD, NV, POLICY, RT, is_name, le16, le32};
+
+pub const SUCCESS: u32 = 0;
+pub const INVALID_PARAMETER: u32 = 2;
+pub const UNSUPPORTED: u32 = 3;
+pub const BUFFER_TOO_SMALL: u32 = 5;
+pub const WRITE_PROTECTED: u32 = 8;
+pub const OUT_OF_RESOURCES: u32 = 9;
+pub const VOLUME_CORRUPTED: u32 = 10;
+pub const NOT_FOUND: u32 = 14;
+pub const ALREADY_STARTED: u32 = 20;
+
+#[derive(Clone, Copy, PartialEq, Eq, Debug)]
+pub struct Switches {
+    pub enabled: bool,
+    pub locked: bool,
+    pub disabling_allowed: bool,
+}
+
+pub fn register(policy: &mut [u8], switches: Switches, entry: &[u8]) -> u32 {
+    let Some(entries) = Entries::check(policy) else {
+        return VOLUME_CORRUPTED;
+    };
+    if switches.locked {
+        return WRITE_PROTECTED;
+    }
+    if !is_entry(entry) {
+        return INVALID_PARAMETER;
+    }
+    if entries.contains(entry) {
+        return ALREADY_STARTED;
+    }
+    let end = entries.end();
+    if entries.count == MAX_ENTRIES || end + entry.len() > POLICY {
+        return OUT_OF_RESOURCES;
+    }
+    policy[end..end + entry.len()].copy_from_slice(entry);
+    SUCCESS
+}
+
+pub fn dump(policy: &[u8], buffer: &mut [u8]) -> (u32, usize) {
+    let Some(entries) = Entries::check(policy) else {
+        return (VOLUME_CORRUPTED, 0);
+    };
+    let end = entries.end();
+    if buffer.len() < end {
+        return (BUFFER_TOO_SMALL, end);
+    }
+    buffer[..end].copy_from_slice(&policy[..end]);
+    (SUCCESS, end)
+}
+
+/// What a read answers: where the payload stands, in the store that `non_volatile` tells.
+#[derive(Clone, Copy, PartialEq, Eq, Debug, Default)]
+pub struct Found {
+    pub status: u32,
+    pub attributes: u32,
+    pub non_volatile: bool,
+    pub offset: usize,
+    pub length: usize,
+}
+
+pub fn read<'a, I: Index<'a>>(nv: &'a [u8], volatile: &'a [u8], namespace: &[u8; 16], name: &[u8]) -> Found {
+    let Some(stores) = Stores::<I>::check(nv, volatile) else {
+        return Found { status: VOLUME_CORRUPTED, ..Found::default() };
+    };
+    if !is_name(name) {
+        return Found { status: INVALID_PARAMETER, ..Found::default() };
+    }
+    let Some(place) = stores.find(Key::new(namespace, name).bytes()) else {
+        return Found { status: NOT_FOUND, ..Found::default() };
+    };
+    let record = stores.record(place);
+    Found {
+        status: SUCCESS,
+        attributes: le32(record, 4),
+        non_volatile: place.non_volatile,
+        offset: usize::from(place.at) + HEADER + le32(record, 8) as usize,
+        length: le32(record, 12) as usize,
+    }
+}
+
+/// A request to set a variable.
+#[derive(Clone, Copy)]
+pub struct Request<'a> {
+    pub namespace: &'a [u8; 16],
+    pub name: &'a [u8],
+    pub attributes: u32,
+    pub payload: &'a [u8],
+}
+
+/// What a set is to do with a store.
+enum Edit {
+    Nothing,
+    Delete(Place),
+    Create { end: usize },
+    Rewrite { place: Place, end: usize, kept: usize },
+}
+
+pub fn set<I>(nv: &mut [u8], volatile: &mut [u8], policy: &[u8], switches: Switches, request: Request) -> u32
+where
+    I: for<'a> IndexOf<'a>,
+{
+    match decide::<<I as IndexOf>::Index>(nv, volatile, policy, switches, &request) {
+        Err(status) => return status,
+        Ok((Edit::Nothing, _)) => {}
+        Ok((Edit::Delete(place), end)) => {
+            let store = if place.non_volatile { nv } else { volatile };
+            delete(store, place.at.into(), end);
+        }
+        Ok((Edit::Create { end }, _)) => {
+            let store = if request.attributes & NV != 0 { nv } else { volatile };
+            create(&mut store[end..], &request);
+        }
+        Ok((Edit::Rewrite { place, end, kept }, _)) => {
+            let store = if place.non_volatile { nv } else { volatile };
+            rewrite(store, place.at.into(), end, kept, request.payload);
+        }
+    }
+    SUCCESS
+}
+
+/// Names a table for every lifetime, so that `set` can let go of it before it writes.
+pub trait IndexOf<'a> {
+    type Index: Index<'a>;
+}
+
+/// The standard library's table.
+pub struct UseStandard;
+
+impl<'a> IndexOf<'a> for UseStandard {
+    type Index = Standard<'a>;
+}
+
+/// The small table.
+pub struct UseSmall;
+
+impl IndexOf<'_> for UseSmall {
+    type Index = Small;
+}
+
+/// Everything but the writing: what to do, and where the records of a deletion's store end.
+fn decide<'a, I: Index<'a>>(
+    nv: &'a [u8],
+    volatile: &'a [u8],
+    policy: &[u8],
+    switches: Switches,
+    request: &Request,
+) -> Result<(Edit, usize), u32> {
+    let stores = Stores::<I>::check(nv, volatile).ok_or(VOLUME_CORRUPTED)?;
+    let entries = Entries::check(policy).ok_or(VOLUME_CORRUPTED)?;
+    let Request { namespace, name, attributes, payload } = *request;
+    if !is_name(name) || payload.len() > MAX_PAYLOAD {
+        return Err(INVALID_PARAMETER);
+    }
+    if attributes & !(NV | BS | RT | APPEND) != 0 {
+        return Err(UNSUPPORTED);
+    }
+    if attributes & (RT | APPEND) != 0 && attributes & BS == 0 {
+        return Err(INVALID_PARAMETER);
+    }
+    let append = attributes & APPEND != 0;
+    let deletion = !append && (payload.is_empty() || attributes & (BS | RT) == 0);
+    let found = stores.find(Key::new(namespace, name).bytes());
+    if switches.enabled
+        && let Some(entry) = entries.choose(namespace, name)
+    {
+        enforce(entry, &stores, request, deletion, found.is_some())?;
+    }
+    if deletion {
+        let place = found.ok_or(NOT_FOUND)?;
+        return Ok((Edit::Delete(place), stores.ends[usize::from(place.non_volatile)]));
+    }
+    if let Some(place) = found
+        && le32(stores.record(place), 4) != attributes & !APPEND
+    {
+        return Err(INVALID_PARAMETER);
+    }
+    if append && payload.is_empty() {
+        return Ok((Edit::Nothing, 0));
+    }
+    let non_volatile = usize::from(attributes & NV != 0);
+    let (end, room) = (stores.ends[non_volatile], stores.bytes[non_volatile].len());
+    let Some(place) = found else {
+        let fits = end + record_len(name.len() + 2, payload.len()) <= room;
+        return if fits { Ok((Edit::Create { end }, 0)) } else { Err(OUT_OF_RESOURCES) };
+    };
+    let old = stores.payload(place).len();
+    let kept = if append { old } else { 0 };
+    let new = kept + payload.len();
+    let len = |data| record_len(name.len() + 2, data);
+    if new > MAX_PAYLOAD || end - len(old) + len(new) > room {
+        return Err(OUT_OF_RESOURCES);
+    }
+    Ok((Edit::Rewrite { place, end, kept }, 0))
+}
+
+/// Step 4: what the chosen entry says.
+fn enforce<'a, I: Index<'a>>(
+    entry: &[u8],
+    stores: &Stores<'a, I>,
+    request: &Request,
+    deletion: bool,
+    exists: bool,
+) -> Result<(), u32> {
+    let (attributes, length) = (request.attributes, request.payload.len() as u32);
+    if !deletion {
+        let (must, cant) = (le32(entry, 32), le32(entry, 36));
+        if length < le32(entry, 24) || length > le32(entry, 28) || attributes & must != must || attributes & cant != 0 {
+            return Err(INVALID_PARAMETER);
+        }
+    }
+    let locked = match entry[40] {
+        0 => false,
+        1 => true,
+        2 => exists,
+        _ => {
+            let trigger = Key::new(&entry[44..60], &entry[62..usize::from(le16(entry, 6)) - 2]);
+            stores.find(trigger.bytes()).is_some_and(|place| *stores.payload(place) == [entry[60]])
+        }
+    };
+    if locked { Err(WRITE_PROTECTED) } else { Ok(()) }
+}
+
+fn delete(store: &mut [u8], at: usize, end: usize) {
+    let len = record_len(le32(store, at + 8) as usize, le32(store, at + 12) as usize);
+    store.copy_within(at + len..end, at);
+    store[end - len..end].fill(0xFF);
+}
+
+fn create(free: &mut [u8], request: &Request) {
+    let (name_size, data_size) = (request.name.len() + 2, request.payload.len());
+    free[..4].copy_from_slice(&[0xAA, 0x55, 0x3F, 0]);
+    free[4..8].copy_from_slice(&(request.attributes & !APPEND).to_le_bytes());
+    free[8..12].copy_from_slice(&(name_size as u32).to_le_bytes());
+    free[12..16].copy_from_slice(&(data_size as u32).to_le_bytes());
+    free[16..32].copy_from_slice(request.namespace);
+    free[32..32 + request.name.len()].copy_from_slice(request.name);
+    free[30 + name_size..32 + name_size].fill(0);
+    free[32 + name_size..32 + name_size + data_size].copy_from_slice(request.payload);
+}
+
+/// Gives the record at `at` a payload of its first `kept` old bytes and then `payload`.
+fn rewrite(store: &mut [u8], at: usize, end: usize, kept: usize, payload: &[u8]) {
+    let (name_size, old_size) = (le32(store, at + 8) as usize, le32(store, at + 12) as usize);
+    let new_size = kept + payload.len();
+    let old_end = at + record_len(name_size, old_size);
+    let new_end = at + record_len(name_size, new_size);
+    store.copy_within(old_end..end, new_end);
+    if new_end < old_end {
+        store[end - (old_end - new_end)..end].fill(0xFF);
+    }
+    let start = at + HEADER + name_size + kept;
+    store[at + 12..at + 16].copy_from_slice(&(new_size as u32).to_le_bytes());
+    store[start..start + payload.len()].copy_from_slice(payload);
+    store[start + payload.len()..new_end].fill(0xFF);
+}
