@@ -8,10 +8,14 @@
   - a policy record of exactly 8,192 bytes: packed entries end to end, then zeros;
   - three switches, varpolicy_switches.
 
-  Every call checks all of what it is lent, and answers VARPOLICY_VOLUME_CORRUPTED before all else if
-  that is not so. A call that answers anything but VARPOLICY_SUCCESS has written nothing, and every
-  number beside the status is zero, but for the needed length at VARPOLICY_BUFFER_TOO_SMALL and the
-  switches of a refused start.
+  A call checks all of each store and policy record that it is lent, and answers
+  VARPOLICY_VOLUME_CORRUPTED before all else if one is not so. The exceptions: varpolicy_power_on takes
+  a volatile store with any content, and varpolicy_power_on and varpolicy_restart a policy record with
+  any content; of these they check the length. The switches are not checked.
+
+  A call that answers anything but VARPOLICY_SUCCESS leaves everything as it was, and every number
+  beside the status is zero, but for the needed length at VARPOLICY_BUFFER_TOO_SMALL and the switches of
+  a refused start.
 
   A status is the low part of an EFI_STATUS, without the high bit. The statuses of a call are listed
   in the order in which they are tested.
@@ -23,8 +27,12 @@
   Machine: x86-64 with the System V calling convention, SSE2 and the red zone (the 128 bytes below
   the stack pointer are used, so an interrupt handler must not run on the same stack unless it skips
   them). With GCC and Clang the declarations say sysv_abi, so that code built for Microsoft's
-  convention, as UEFI's is, can call them. There is no heap, no static data that is written, and no
-  libc but memcpy, memset and memmove, which the caller's program must provide.
+  convention, as UEFI's is, can call them. There is no heap and no static data that is written. Of libc
+  memcpy and memset are needed and nothing else; the caller's program must provide them, with the System
+  V convention too: those of a program built for Microsoft's take their arguments in other registers.
+
+  Stack: the deepest call, varpolicy_set, takes 9,144 bytes with its return address (measured); read,
+  restart and power-on take nearly as much. The red zone and what memcpy and memset take come on top.
 
   SPDX-License-Identifier: BSD-2-Clause-Patent
 **/
@@ -81,6 +89,10 @@ extern "C" {
 
 /**
   The switches of an engine: kept by the caller, lent to the calls.
+
+  Each byte must be 0 or 1, as a bool of C is. The compiled code relies on it, does not check it, and
+  nothing is proved of other values: write `x != 0` for a byte from elsewhere. The same holds of the
+  parameter disabling_allowed.
 **/
 typedef struct {
   bool enabled;           /* entries are enforced */
@@ -202,10 +214,10 @@ varpolicy_register (
   Writes the entries, end to end in the order registered, to the start of a buffer. Later bytes of the
   buffer stay.
 
-  @param[in]  policy      The policy record.
-  @param[in]  policy_len  Its length.
-  @param[out] buffer      The buffer.
-  @param[in]  buffer_len  Its length.
+  @param[in]     policy      The policy record.
+  @param[in]     policy_len  Its length.
+  @param[in,out] buffer      The buffer.
+  @param[in]     buffer_len  Its length.
 
   @retval VARPOLICY_VOLUME_CORRUPTED  The policy record is bad, as in varpolicy_register.
   @retval VARPOLICY_BUFFER_TOO_SMALL  The buffer is shorter than the sum of Sizes, which is the length.
@@ -268,10 +280,10 @@ varpolicy_query (
   @param[in] vol_len             Its length.
   @param[in] variable_namespace  The 16 bytes of the variable's namespace.
   @param[in] name                The bytes of the 16-bit units of its name, without a closing zero.
-  @param[in] name_len            How many bytes.
+  @param[in] name_len            How many bytes: two for each unit.
 
   @retval VARPOLICY_VOLUME_CORRUPTED   The stores are unsound.
-  @retval VARPOLICY_INVALID_PARAMETER  The name is not 1 to 64 units, none of them zero.
+  @retval VARPOLICY_INVALID_PARAMETER  The name is not 1 to 64 units, none of them zero, or name_len is odd.
   @retval VARPOLICY_NOT_FOUND          No such variable.
   @retval VARPOLICY_SUCCESS            The variable is as told.
 **/
@@ -303,15 +315,15 @@ varpolicy_read (
   @param[in]     switches            The switches.
   @param[in]     variable_namespace  The 16 bytes of the variable's namespace.
   @param[in]     name                The bytes of the 16-bit units of its name, without a closing zero.
-  @param[in]     name_len            How many bytes.
+  @param[in]     name_len            How many bytes: two for each unit.
   @param[in]     attributes          The attributes.
   @param[in]     payload             The payload.
   @param[in]     payload_len         Its length.
 
   @retval VARPOLICY_VOLUME_CORRUPTED   The stores are unsound, or the policy record is bad, as in
                                        varpolicy_register.
-  @retval VARPOLICY_INVALID_PARAMETER  The name is not 1 to 64 units, none of them zero, or the payload is
-                                       longer than VARPOLICY_MAX_PAYLOAD.
+  @retval VARPOLICY_INVALID_PARAMETER  The name is not 1 to 64 units, none of them zero, name_len is odd,
+                                       or the payload is longer than VARPOLICY_MAX_PAYLOAD.
   @retval VARPOLICY_UNSUPPORTED        An attribute bit outside 0x47.
   @retval VARPOLICY_INVALID_PARAMETER  RT or APPEND without BS.
   @retval VARPOLICY_INVALID_PARAMETER  The engine is enabled, an entry is chosen, the request is no

@@ -5,3 +5,5 @@ pub mod Started
 pub mod Readings
 pub mod Named
 pub mod Sets
+pub mod Places
+pub mod Payloads

@@ -1,15 +1,17 @@
 -- What the code's answers are to the rules' answers: every value beside the status.
 -- Assumes nothing: these are definitions.
-use Prim.Native.Nat.{ℕ}
+use Prim.Native.Nat.{ℕ, _+_}
 use mathlib.Core.Path.{_≡_}
 use mathlib.Core.List.{[]}
 use mathlib.Core.Bool.{cond}
 use mathlib.Core.Option.{Option, none}
-use Rattle.slices.specs.Bytes.{Bytes}
+use Rattle.slices.specs.Bytes.{Bytes, part}
 use Rattle.names.specs.Name.{Variable, named}
+use Rattle.store.specs.Record.{nameSize}
 use Rattle.pair.specs.Pair.{sound, lookup}
 use Rattle.status.specs.declared.Status.{Status}
 use Rattle.status.specs.declared.Status.the-variants.{InvalidParameter, VolumeCorrupted, NotFound}
+use Rattle.variables.specs.declared.Place.the-variants.{NonVolatile, Volatile, Nowhere}
 use Rattle.variables.specs.Place.{placeIn, isSomewhere}
 use Rattle.rules.specs.Engine.{State, Answer, step}
 use Rattle.rules.specs.Engine.Call.{read}
@@ -38,3 +40,14 @@ pub record ReadStep (s : State) (v : Variable) (status : Status) (attributes : �
   pub itsStatus : step s (read v) .0 .status ≡ status
   pub itsAttributes : step s (read v) .0 .number ≡ attributes
   pub itsState : step s (read v) .1 ≡ s
+
+-- where the payload of the record of len bytes at index at of a store lies: the block and the offset of the store's first byte, with the header and the name behind
+abbrev pub payloadPlace : ℕ × ℕ → Bytes → ℕ → ℕ → ℕ × ℕ
+payloadPlace p s at len = (p .0, p .1 + (at + 32 + nameSize (part at (at + len) s)))
+
+-- where the second call of the read pair points; a refusal leaves it open
+unfoldable pub PointsInto : ℕ × ℕ → ℕ × ℕ → Bytes → Bytes → ℕ × ℕ → Reading → Type 0
+PointsInto p q nv vol r (Refused n) = Unit
+PointsInto p q nv vol r (Stands (NonVolatile at len)) = r ≡ payloadPlace p nv at len
+PointsInto p q nv vol r (Stands (Volatile at len)) = r ≡ payloadPlace q vol at len
+PointsInto p q nv vol r (Stands Nowhere) = Unit

@@ -13,7 +13,13 @@ ghost use mathlib.Core.Bool.{true, false};
 ghost use Rattle.status.specs.declared.Status.the-variants.{Success, VolumeCorrupted};
 ghost use Rattle.switches.specs.Switches.{freshSwitches, refusedSwitches};
 ghost use Rattle.decision.specs.Decision.{requestOf};
-ghost use Rattle.engine.specs.Answers.{dumpAnswer, queryAnswer, readingOf, ReadStep};
+ghost use Prim.Native.Nat.{_+_, _≤_};
+ghost use denote.Ref.{ptr};
+ghost use lib.ListN.{length};
+ghost use Rattle.slices.specs.Bytes.{part};
+ghost use Rattle.store.specs.Record.{payloadOf};
+ghost use Rattle.store.specs.Parts.{HeaderFits};
+ghost use Rattle.engine.specs.Answers.{dumpAnswer, queryAnswer, readingOf, ReadStep, payloadPlace, PointsInto};
 use decision::Decision;
 use entry::Parsed;
 use pair::PairCheck;
@@ -269,17 +275,36 @@ pub fn read(nv: &[u8], vol: &[u8], namespace: [u8; 16], name: &[u8]) -> ReadAnsw
     }
 }
 
+// The payload of the record of `len` bytes at `at`, as a part of the store.
+fn payload_of(s: &[u8], at: usize, len: usize) -> &[u8]
+    requires { ⌜ (at + len ≤ length (now s)) × HeaderFits (part at (at + len) (now s)) ⌝ }
+    ensures { λ r. ⌜ now r ≡ payloadOf (part at (at + len) (now (s .entry))) ⌝ }
+    ensures { λ r. ⌜ ptr r ≡ payloadPlace (ptr (s .entry)) (now (s .entry)) at len ⌝ }
+{
+    let record = &s[at..at + len];
+    let from = at + 32 + slices::get32(record, 8);
+    let end = from + slices::get32(record, 12);
+    &s[from..end]
+}
+
 // The second call of the read pair: the payload as a part of whichever store holds the variable; refused, an empty part.
 pub fn payload<'a>(nv: &'a [u8], vol: &'a [u8], namespace: [u8; 16], name: &[u8]) -> &'a [u8]
     ensures { λ r.
         ⌜ ((policy : Bytes) (w : Switches)
         → now r ≡ step (stateOf (now (nv .entry)) (now (vol .entry)) policy w)
         (read (record { namespace = namespace; name = now (name .entry) })) .0 .bytes) ⌝ }
+    ensures { λ r.
+        ⌜ PointsInto (ptr (nv .entry)) (ptr (vol .entry)) (now (nv .entry)) (now (vol .entry)) (ptr r)
+        (readingOf (now (nv .entry)) (now (vol .entry)) (record { namespace = namespace; name = now (name .entry) })) ⌝ }
 {
     let reading = look_up(nv, vol, &namespace, name);
     match reading {
         Reading::Refused(_) => &nv[..0],
-        Reading::Stands(place) => variables::payload_at(nv, vol, place),
+        Reading::Stands(place) => match place {
+            Place::NonVolatile { at, len } => payload_of(nv, at, len),
+            Place::Volatile { at, len } => payload_of(vol, at, len),
+            Place::Nowhere => &nv[..0],
+        },
     }
 }
 

@@ -2,32 +2,32 @@
 use Prim.Native.Nat.{ℕ, _+_, _≤_}
 use mathlib.Core.Path.{_≡_, refl, sym, ap, _∙_, subst}
 use mathlib.Core.List.{[]}
-use mathlib.Core.Bool.{Bool, true, false, cond, true≢false, false≢true}
+use mathlib.Core.Bool.{Bool, true, false, cond}
 use mathlib.Core.Option.{none}
 use native.Mathlib.Omega.{arith}
 use lib.ListN.{length}
 use Rattle.slices.specs.Bytes.{Bytes, part}
-use Rattle.names.specs.Name.{Variable, named}
+use Rattle.names.specs.Name.{Variable}
 use Rattle.store.specs.Record.{attributesOf, payloadOf}
 use Rattle.store.specs.Store.{placeOf}
 use Rattle.store.specs.Parts.{HeaderFits}
 use Rattle.store.specs.declared.Found.the-variants.{At}
-use Rattle.pair.specs.Pair.{sound}
 use Rattle.status.specs.declared.Status.{Status}
-use Rattle.status.specs.declared.Status.the-variants.{Success, InvalidParameter, VolumeCorrupted, NotFound}
+use Rattle.status.specs.declared.Status.the-variants.{Success}
 use Rattle.status.specs.Status.{statusNumber}
 use Rattle.switches.specs.declared.Switches.{Switches}
-use Rattle.variables.specs.declared.Place.{Place}
-use Rattle.variables.specs.declared.Place.the-variants.{Nowhere}
-use Rattle.variables.specs.Place.{placeIn, isSomewhere, attributesAt, payloadAt}
+use Rattle.variables.specs.declared.Place.the-variants.{NonVolatile, Volatile, Nowhere}
+use Rattle.variables.specs.Place.{attributesAt, payloadAt}
 use Rattle.rules.specs.Engine.{State, Answer, stateOf, step}
 use Rattle.rules.specs.Engine.Call.{read}
+use Rattle.engine.specs.declared.Reading.{Reading}
 use Rattle.engine.specs.declared.Reading.the-variants.{Refused, Stands}
 use Rattle.engine.specs.Answers.{readingOf}
 use Rattle.engine.proofs.Readings.{stands-at, read-refused, read-stands, payload-refused, payload-stands}
 use Rattle.varpolicy.specs.declared.Found.{Found}
-use Rattle.varpolicy.specs.Exports.{numbered, foundNothing, foundAt, FoundStep}
-use Rattle.varpolicy.proofs.Places.{placeAt, place-of, record-within, record-fits, payload-within, payload-part, record-store}
+use Rattle.varpolicy.specs.Exports.{numbered, foundNothing, foundAt, foundOf, FoundStep}
+use Rattle.engine.proofs.Payloads.{not-nowhere}
+use Rattle.engine.proofs.Places.{placeAt, place-of, record-within, record-fits, payload-within, payload-part, record-store}
 
 -- an answer, once each part of it is known
 parts-numbered : {x : Answer × State} {s : State} (n : Status) (a : ℕ) (b : Bytes) → x .0 .status ≡ n → x .0 .number ≡ a → b ≡ x .0 .bytes
@@ -49,52 +49,47 @@ module _ (nv vol : Bytes) (at len : ℕ) where
   payload-placed false = refl
 
 module _ (nv vol : Bytes) (v : Variable) where
-  -- a refusal
-  pub read-nothing : {r : Found} (n : Status) → readingOf nv vol v ≡ Refused n → r ≡ foundNothing (statusNumber n) → (policy : Bytes) (w : Switches)
-      → FoundStep (stateOf nv vol policy w) v r
-  read-nothing n e k policy w =
+  -- the record that a read finds
+  module _ (nonVolatile : Bool) (at len : ℕ) (e : readingOf nv vol v ≡ Stands (placeAt nonVolatile at len)) where
+    abbrev holds : Bytes
+    holds = cond nonVolatile nv vol
+
+    placed : placeOf nonVolatile holds v ≡ At at len
+    placed = place-of nonVolatile nv vol v at len (sym (stands-at nv vol v (placeAt nonVolatile at len) e))
+
+    pub found-asks : (at + len ≤ length holds) × HeaderFits (part at (at + len) holds)
+    found-asks = (record-within nonVolatile holds v at len placed, record-fits nonVolatile holds v at len placed)
+
+    found-step : (policy : Bytes) (w : Switches) → FoundStep (stateOf nv vol policy w) v (foundAt holds nonVolatile at len)
+    found-step policy w =
+        let s = stateOf nv vol policy w in
+        let p = placeAt nonVolatile at len in
+        let a = read-stands nv vol v policy w p e (attributes-placed nv vol at len nonVolatile) in
+        let b = payload-stands nv vol v policy w p e (payload-part nonVolatile holds v at len placed ∙ payload-placed nv vol at len nonVolatile) in
+        record {
+          itsAnswer = parts-numbered Success (attributesOf (part at (at + len) holds)) _ (a .itsStatus) (a .itsAttributes) b (read-switches s v) (a .itsState);
+          itsStore = record-store nonVolatile holds v at len placed;
+          itsPlace = payload-within nonVolatile holds v at len placed;
+        }
+
+  nothing-step : (n : Status) → readingOf nv vol v ≡ Refused n → (policy : Bytes) (w : Switches) → FoundStep (stateOf nv vol policy w) v (foundNothing (statusNumber n))
+  nothing-step n e policy w =
       let s = stateOf nv vol policy w in
       let a = read-refused nv vol v policy w n e in
-      subst (FoundStep s v) (sym k) (record {
+      record {
         itsAnswer = parts-numbered n 0 [] (a .itsStatus) (a .itsAttributes) (payload-refused nv vol v policy w n e) (read-switches s v) (a .itsState);
         itsStore = refl;
         itsPlace = omega arith;
-        refused = λ _. refl;
-      })
+      }
 
-  -- a record
-  module _ (p : Place) (e : readingOf nv vol v ≡ Stands p) where
-    module _ (nonVolatile : Bool) (at len : ℕ) (f : p ≡ placeAt nonVolatile at len) where
-      abbrev holds : Bytes
-      holds = cond nonVolatile nv vol
+  module _ (policy : Bytes) (w : Switches) where
+    reading-step : (x : Reading) → readingOf nv vol v ≡ x → FoundStep (stateOf nv vol policy w) v (foundOf nv vol x)
+    reading-step (Refused n) e = nothing-step n e policy w
+    reading-step (Stands (NonVolatile at len)) e = found-step true at len e policy w
+    reading-step (Stands (Volatile at len)) e = found-step false at len e policy w
+    reading-step (Stands Nowhere) e = absurd (not-nowhere nv vol v e)
 
-      placed : placeOf nonVolatile holds v ≡ At at len
-      placed = place-of nonVolatile nv vol v at len (sym (stands-at nv vol v p e) ∙ f)
-
-      pub found-asks : (at + len ≤ length holds) × HeaderFits (part at (at + len) holds)
-      found-asks = (record-within nonVolatile holds v at len placed, record-fits nonVolatile holds v at len placed)
-
-      pub read-found : {r : Found} → r ≡ foundAt holds nonVolatile at len → (policy : Bytes) (w : Switches) → FoundStep (stateOf nv vol policy w) v r
-      read-found k policy w =
-          let s = stateOf nv vol policy w in
-          let a = read-stands nv vol v policy w p e (attributes-placed nv vol at len nonVolatile ∙ ap (attributesAt nv vol) (sym f)) in
-          let b = payload-stands nv vol v policy w p e
-          (payload-part nonVolatile holds v at len placed ∙ payload-placed nv vol at len nonVolatile ∙ ap (payloadAt nv vol) (sym f)) in
-          subst (FoundStep s v) (sym k) (record {
-            itsAnswer = parts-numbered Success (attributesOf (part at (at + len) holds)) _ (a .itsStatus) (a .itsAttributes) b (read-switches s v) (a .itsState);
-            itsStore = record-store nonVolatile holds v at len placed;
-            itsPlace = payload-within nonVolatile holds v at len placed;
-            refused = λ x. absurd (true≢false x);
-          })
-
-    -- what stands does not stand nowhere
-    pub not-nowhere : p ≡ Nowhere → ⊥
-    unfolding readingOf
-    not-nowhere f = false≢true (sym (ap isSomewhere f) ∙ go (sound nv vol) (named v) (isSomewhere (placeIn nv vol v)) refl e)
-      where
-        go : (a b c : Bool) → isSomewhere (placeIn nv vol v) ≡ c
-            → cond a (cond b (cond c (Stands (placeIn nv vol v)) (Refused NotFound)) (Refused InvalidParameter)) (Refused VolumeCorrupted) ≡ Stands p → isSomewhere p ≡ true
-        go true true true h k = let i : p ≡ placeIn nv vol v = cc in ap isSomewhere i ∙ h
-        go true true false h k = let z : _≡_ {A = ℕ} 0 1 = cc in absurd (omega arith)
-        go true false c h k = let z : _≡_ {A = ℕ} 0 1 = cc in absurd (omega arith)
-        go false b c h k = let z : _≡_ {A = ℕ} 0 1 = cc in absurd (omega arith)
+  -- both promises of a read, from what it found
+  pub read-found : {r : Found} (x : Reading) → readingOf nv vol v ≡ x → r ≡ foundOf nv vol x
+      → (r ≡ foundOf nv vol (readingOf nv vol v)) × ((policy : Bytes) (w : Switches) → FoundStep (stateOf nv vol policy w) v r)
+  read-found x e k = (k ∙ ap (foundOf nv vol) (sym e), λ policy w. subst (FoundStep (stateOf nv vol policy w) v) (sym k) (reading-step policy w x e))

@@ -3,17 +3,21 @@
 use Prim.Native.Nat.{ℕ, _+_, _≤_}
 use mathlib.Core.Path.{_≡_}
 use mathlib.Core.List.{[]}
-use mathlib.Core.Bool.{Bool, false, cond}
+use mathlib.Core.Bool.{Bool, true, false, cond}
 use mathlib.Core.Option.{Option, none, some}
 use lib.Dec.{eqb}
 use lib.ListN.{length}
 use Rattle.slices.specs.Bytes.{Bytes, part}
 use Rattle.names.specs.Name.{Variable}
 use Rattle.store.specs.Record.{hasNV, attributesOf, nameSize, dataSize}
+use Rattle.status.specs.declared.Status.the-variants.{NotFound}
 use Rattle.status.specs.Status.{statusNumber}
 use Rattle.switches.specs.declared.Switches.{Switches}
+use Rattle.variables.specs.declared.Place.the-variants.{NonVolatile, Volatile, Nowhere}
 use Rattle.rules.specs.Engine.{State, Answer, step}
 use Rattle.rules.specs.Engine.Call.{read}
+use Rattle.engine.specs.declared.Reading.{Reading}
+use Rattle.engine.specs.declared.Reading.the-variants.{Refused, Stands}
 use Rattle.varpolicy.specs.declared.Started.{Started}
 use Rattle.varpolicy.specs.declared.Dumped.{Dumped}
 use Rattle.varpolicy.specs.declared.Queried.{Queried}
@@ -75,10 +79,17 @@ foundAt s nonVolatile at len =
       length = dataSize (part at (at + len) s);
     }
 
--- what a read of the variable answers: its status, its attributes, and the payload where it stands; it changes nothing
+-- what a read answers, by what it finds: store, place and length of the payload, or the ground of the refusal (`readingOf` never gives `Stands Nowhere`)
+abbrev pub foundOf : Bytes → Bytes → Reading → Found
+foundOf nv vol (Refused n) = foundNothing (statusNumber n)
+foundOf nv vol (Stands (NonVolatile at len)) = foundAt nv true at len
+foundOf nv vol (Stands (Volatile at len)) = foundAt vol false at len
+foundOf nv vol (Stands Nowhere) = foundNothing (statusNumber NotFound)
+
+-- what holds of a read's answer
 pub record FoundStep (s : State) (v : Variable) (r : Found) : Type 0 where
+  -- it is that of the rules, with the payload as the bytes named, and nothing is changed
   pub itsAnswer : numbered (step s (read v)) ≡ (foundAnswer r s, s)
   -- the non-volatile store is named for a variable that has NV, and all of the payload lies within the store named
   pub itsStore : r .«non_volatile» ≡ hasNV (r .attributes)
   pub itsPlace : r .offset + r .length ≤ length (storeNamed r s)
-  pub refused : eqb (r .status) 0 ≡ false → r ≡ foundNothing (r .status)

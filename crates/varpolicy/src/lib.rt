@@ -10,7 +10,8 @@ ghost use Rattle.switches.specs.declared.Switches.{Switches};
 ghost use Rattle.rules.specs.Engine.{stateOf, step};
 ghost use Rattle.rules.specs.Engine.Call.{powerOn, restart, register, dump, lock, disable, query, set};
 ghost use Rattle.decision.specs.Decision.{requestOf};
-ghost use Rattle.varpolicy.specs.Exports.{numbered, statusAlone, startedAnswer, standing, dumpedAnswer, queriedAnswer, foundNothing, foundAt, FoundStep};
+ghost use Rattle.engine.specs.Answers.{readingOf};
+ghost use Rattle.varpolicy.specs.Exports.{numbered, statusAlone, startedAnswer, standing, dumpedAnswer, queriedAnswer, foundNothing, foundAt, foundOf, FoundStep};
 use engine::Reading;
 use status::Status;
 use status::number;
@@ -172,11 +173,12 @@ fn found_at(s: &[u8], non_volatile: bool, at: usize, len: usize) -> Found
     ensures { λ r. ⌜ r ≡ foundAt (now (s .entry)) «non_volatile» at len ⌝ }
 {
     let record = &s[at..at + len];
+    let payload = at + 32 + slices::get32(record, 8);
     Found {
         status: number(Status::Success),
         attributes: store::attributes(record),
         non_volatile,
-        offset: at + 32 + slices::get32(record, 8),
+        offset: payload,
         length: slices::get32(record, 12),
     }
 }
@@ -184,6 +186,9 @@ fn found_at(s: &[u8], non_volatile: bool, at: usize, len: usize) -> Found
 // Read: the variable's attributes, and where its payload stands.
 #[no_mangle]
 pub extern "C" fn varpolicy_read(nv: &[u8], vol: &[u8], namespace: &[u8; 16], name: &[u8]) -> Found
+    ensures { λ r.
+        ⌜ r ≡ foundOf (now (nv .entry)) (now (vol .entry))
+        (readingOf (now (nv .entry)) (now (vol .entry)) (record { namespace = now (namespace .entry); name = now (name .entry) })) ⌝ }
     ensures { λ r.
         ⌜ ((policy : Bytes) (w : Switches)
         → FoundStep (stateOf (now (nv .entry)) (now (vol .entry)) policy w) (record { namespace = now (namespace .entry); name = now (name .entry) }) r) ⌝ }

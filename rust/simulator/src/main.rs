@@ -8,6 +8,7 @@ mod command;
 mod describe;
 mod simulation;
 mod text;
+mod ties;
 
 use command::Parser;
 use simulation::Simulation;
@@ -28,6 +29,8 @@ Reads a history from FILE or standard input, one call to a line:
   delete NAMESPACE NAME                read NAMESPACE NAME
   dump [BUFFER-BYTES]                  lock, disable, state
   rebuild [reverse | PLACES]           restart, then the entries of a dump again, in order or as told
+                                       (another order changes dumps alone, unless two entries of equal
+                                       rank target one variable and change places: the line says so)
   poke nv|volatile|policy AT HEX       damages what is lent
   note TEXT                            prints the text
 
@@ -39,7 +42,7 @@ Reads a history from FILE or standard input, one call to a line:
   FIELDS      min=N max=N must=ATTRIBUTES cant=ATTRIBUTES lock=no|now|on-create|on-state, and with
               lock=on-state also trigger=NAMESPACE:NAME value=HH
 
-; and // begin a comment. Before the first power-on the engine is locked.
+; and // begin a comment, but not in a note. Before the first power-on the engine is locked.
 ";
 
 fn main() -> ExitCode {
@@ -84,14 +87,14 @@ fn run(history: &str, mut out: impl Write) -> io::Result<usize> {
     let mut bad_lines = 0;
     for (index, line) in history.lines().enumerate() {
         let number = index + 1;
-        let words = text::without_comment(line).trim();
+        let words = text::statement(line);
         if words.is_empty() {
             continue;
         }
         let answer = parser.parse(words).and_then(|command| simulation.run(command, parser.namespaces()));
         match answer {
             Ok(None) => {}
-            Ok(Some(answer)) if words.starts_with("note") => writeln!(out, "{answer}")?,
+            Ok(Some(answer)) if text::is_note(words) => writeln!(out, "{answer}")?,
             Ok(Some(answer)) => writeln!(out, "{number}: {words} -> {answer}")?,
             Err(expected) => {
                 bad_lines += 1;

@@ -1,7 +1,7 @@
 //! The state that a history keeps, and what each command does to it.
 
 use crate::command::{Command, Expected, Order, Part};
-use crate::describe;
+use crate::{describe, ties};
 use std::collections::BTreeMap;
 use varpolicy::calls::{self, Request, Started};
 use varpolicy::{Namespace, POLICY_BYTES, Status, Switches};
@@ -113,20 +113,20 @@ impl Simulation {
         if dumped.status != Status::Success {
             return Ok(format!("dump {}", dumped.status));
         }
-        let mut entries = describe::split(&buffer[..dumped.length]);
-        match order {
-            Order::Kept => {}
-            Order::Reversed => entries.reverse(),
-            Order::Places(places) => entries = arranged(&entries, &places)?,
-        }
+        let entries = describe::split(&buffer[..dumped.length]);
+        let places = match order {
+            Order::Kept => (0..entries.len()).collect(),
+            Order::Reversed => (0..entries.len()).rev().collect(),
+            Order::Places(places) => each_once(places, entries.len())?,
+        };
         let old = self.switches;
         let started = calls::restart(&self.nv, &self.volatile, &mut self.policy, old.disabling_allowed);
         if started.status != Status::Success {
             return Ok(format!("restart {}", started.status));
         }
         self.switches = started.switches;
-        for (place, entry) in entries.iter().enumerate() {
-            let status = calls::register(&mut self.policy, self.switches, entry);
+        for &place in &places {
+            let status = calls::register(&mut self.policy, self.switches, entries[place]);
             if status != Status::Success {
                 return Ok(format!("register of entry {place} {status}"));
             }
@@ -143,6 +143,12 @@ impl Simulation {
                 }
                 made += &format!(", {name}");
             }
+        }
+        if let Some((one, other)) = ties::changed(&entries, &places) {
+            made += &format!(
+                "; entries {one} and {other} of equal rank target one variable and changed places: \
+                 later answers may differ"
+            );
         }
         Ok(made)
     }
@@ -164,12 +170,12 @@ impl Simulation {
     }
 }
 
-/// The entries at these places, each once.
-fn arranged<'a>(entries: &[&'a [u8]], places: &[usize]) -> Result<Vec<&'a [u8]>, Expected> {
-    let mut sorted = places.to_vec();
+/// These places, if each of the `count` entries is there once.
+fn each_once(places: Vec<usize>, count: usize) -> Result<Vec<usize>, Expected> {
+    let mut sorted = places.clone();
     sorted.sort_unstable();
-    if sorted.iter().copied().ne(0..entries.len()) {
-        return Err(format!("expected each place of the {} entries once, counted from 0", entries.len()));
+    if sorted.into_iter().ne(0..count) {
+        return Err(format!("expected each place of the {count} entries once, counted from 0"));
     }
-    Ok(places.iter().map(|place| entries[*place]).collect())
+    Ok(places)
 }

@@ -2,8 +2,19 @@
 
 use varpolicy::Namespace;
 
+/// The words of a line, without the blanks around them and without a comment. A note is all of its line.
+pub fn statement(line: &str) -> &str {
+    let line = line.trim();
+    if is_note(line) { line } else { without_comment(line).trim_end() }
+}
+
+/// Whether a line's first word is `note`.
+pub fn is_note(line: &str) -> bool {
+    line.split_whitespace().next() == Some("note")
+}
+
 /// The line up to a comment that begins with `;` or `//` outside of quotes.
-pub fn without_comment(line: &str) -> &str {
+fn without_comment(line: &str) -> &str {
     let mut quoted = false;
     let mut escaped = false;
     for (place, character) in line.char_indices() {
@@ -121,6 +132,14 @@ mod tests {
     fn comments_begin_outside_of_quotes() {
         assert_eq!(without_comment(r#"read G "a;b//c" ; d"#), r#"read G "a;b//c" "#);
         assert_eq!(without_comment("lock // d"), "lock ");
+        assert_eq!((statement(" lock // d"), statement("; note d")), ("lock", ""));
+    }
+
+    #[test]
+    fn notes_have_no_comment() {
+        let note = "note see https://uefi.org; \"quoted // text";
+        assert_eq!(statement(&format!("  {note} ")), note);
+        assert_eq!((statement("note"), statement("notes ; d")), ("note", "notes"));
     }
 
     #[test]

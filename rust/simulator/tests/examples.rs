@@ -68,3 +68,44 @@ the line
 ";
     assert_eq!(String::from_utf8_lossy(&output.stdout), expected);
 }
+
+#[test]
+fn a_note_is_printed_whole() {
+    let output =
+        simulate(b"note see https://uefi.org; and \"A // B\n note\t; x\nnote\nlock // told\n; note\n// note\n");
+    assert!(output.status.success());
+    let expected = "see https://uefi.org; and \"A // B\n; x\n\n4: lock -> WRITE_PROTECTED\n";
+    assert_eq!(String::from_utf8_lossy(&output.stdout), expected);
+}
+
+#[test]
+fn a_rebuild_tells_of_a_tie_whose_order_it_changed() {
+    let history = b"namespace G 5C67D181F686DF48BD959A6E4F0925C3\npower-on\nregister G \"Boot00##\" max=1\n\
+        register G \"Key\"\nregister G \"Boot##01\" max=2\nset G \"Boot0001\" BS 01 02\nrebuild\nrebuild 1 0 2\n\
+        set G \"Boot0001\" BS 01 02\nrebuild reverse\nset G \"Boot0001\" BS 01 02\n";
+    let output = simulate(history);
+    assert!(output.status.success());
+    let expected = "\
+2: power-on -> SUCCESS enabled, unlocked, disabling not allowed
+3: register G \"Boot00##\" max=1 -> SUCCESS
+4: register G \"Key\" -> SUCCESS
+5: register G \"Boot##01\" max=2 -> SUCCESS
+6: set G \"Boot0001\" BS 01 02 -> INVALID_PARAMETER
+7: rebuild -> SUCCESS restart, 3 registered
+8: rebuild 1 0 2 -> SUCCESS restart, 3 registered
+9: set G \"Boot0001\" BS 01 02 -> INVALID_PARAMETER
+10: rebuild reverse -> SUCCESS restart, 3 registered; entries 1 and 2 of equal rank target one variable and changed \
+places: later answers may differ
+11: set G \"Boot0001\" BS 01 02 -> SUCCESS
+";
+    assert_eq!(String::from_utf8_lossy(&output.stdout), expected);
+}
+
+#[test]
+fn help_tells_when_another_order_matters() {
+    let output = Command::new(env!("CARGO_BIN_EXE_simulate")).arg("--help").output().expect("simulate runs");
+    let help = String::from_utf8_lossy(&output.stdout);
+    for words in ["equal\n", "rank target one variable and change places", "but not in a note"] {
+        assert!(help.contains(words), "{words}");
+    }
+}

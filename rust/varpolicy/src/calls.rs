@@ -1,5 +1,5 @@
 //! The calls of the library, one safe function each, on lent slices. Every answer is a value: a
-//! refusal is a [`Status`] other than [`Status::Success`], with nothing written anywhere.
+//! refusal is a [`Status`] other than [`Status::Success`], and leaves everything as it was.
 
 use crate::abi;
 use crate::{Attributes, Namespace, Status, Switches};
@@ -129,7 +129,7 @@ pub fn query(switches: Switches) -> (Status, bool) {
 /// Reads a variable. `name` is the bytes of its 16-bit units, without a closing zero.
 ///
 /// * VOLUME_CORRUPTED: the stores are unsound.
-/// * INVALID_PARAMETER: the name is not 1 to 64 units, none of them zero.
+/// * INVALID_PARAMETER: the name is not 1 to 64 units, none of them zero, or its bytes are odd in number.
 /// * NOT_FOUND: no such variable.
 pub fn read<'a>(nv: &'a [u8], volatile: &'a [u8], namespace: &Namespace, name: &[u8]) -> Found<'a> {
     // SAFETY: each pointer and length is of one live slice, and nothing is written.
@@ -170,8 +170,8 @@ pub struct Request<'a> {
 /// Sets, appends to or deletes a variable.
 ///
 /// * VOLUME_CORRUPTED: the stores are unsound, or `policy` is not a policy record.
-/// * INVALID_PARAMETER: the name is not 1 to 64 units, none of them zero, or the payload is longer
-///   than 1,024 bytes.
+/// * INVALID_PARAMETER: the name is not 1 to 64 units, none of them zero, its bytes are odd in number,
+///   or the payload is longer than 1,024 bytes.
 /// * UNSUPPORTED: an attribute bit outside 0x47.
 /// * INVALID_PARAMETER: RT or APPEND without BS.
 /// * If the engine is enabled and an entry is chosen, and unless this is a deletion,

@@ -1,8 +1,32 @@
-use crate::calls::{self, Request};
+use crate::calls::{self, Request, Started};
 use crate::{Attributes, Namespace, Status, Switches};
 
-/// An engine over three lent byte slices, with its switches. Every method is one call of [`calls`];
-/// a refusal is an `Err` and leaves everything as it was.
+/// An engine over three lent byte slices, with its switches. Every method but [`Engine::resume`] and
+/// [`Engine::switches`] is one call of [`calls`]; a refusal is an `Err` and leaves everything as it was.
+///
+/// A refused start does not end an engine that is running, which keeps its own switches:
+/// [`Engine::power_on_again`] and [`Engine::restart_again`] leave it as it was, and after a refused
+/// [`Engine::power_on`] or [`Engine::restart`] over the slices of an engine that was dropped,
+/// [`Engine::resume`] goes on with the switches that it had.
+///
+/// ```
+/// use varpolicy::{Engine, POLICY_BYTES, Status};
+///
+/// let (mut nv, mut volatile, mut policy) = ([0xFF; 256], [0xFF; 256], [0; POLICY_BYTES]);
+/// let mut engine = Engine::power_on(&mut nv, &mut volatile, &mut policy, true)?;
+/// engine.disable()?;
+/// let switches = engine.switches();
+///
+/// volatile[0] = 0; // no record begins so
+/// let refused = Engine::restart(&mut nv, &mut volatile, &mut policy, false);
+/// assert_eq!(refused.err(), Some(Status::VolumeCorrupted));
+///
+/// let mut engine = Engine::resume(&mut nv, &mut volatile, &mut policy, switches);
+/// assert!(!engine.is_enabled());
+/// engine.power_on_again(false)?; // it wipes the volatile store
+/// assert!(engine.is_enabled());
+/// # Ok::<(), Status>(())
+/// ```
 #[derive(Debug)]
 pub struct Engine<'a> {
     nv: &'a mut [u8],
@@ -52,6 +76,31 @@ impl<'a> Engine<'a> {
         let started = calls::restart(nv, volatile, policy, disabling_allowed);
         started.status.ok()?;
         Ok(Engine { nv, volatile, policy, switches: started.switches })
+    }
+
+    /// Goes on with an engine: over the slices as its last call left them, with the switches that it had
+    /// then. No call is made, and nothing is checked or changed.
+    pub fn resume(nv: &'a mut [u8], volatile: &'a mut [u8], policy: &'a mut [u8], switches: Switches) -> Engine<'a> {
+        Engine { nv, volatile, policy, switches }
+    }
+
+    /// Powers this engine on again: see [`calls::power_on`]. Refused, it keeps its own switches.
+    pub fn power_on_again(&mut self, disabling_allowed: bool) -> Result<(), Status> {
+        let started = calls::power_on(self.nv, self.volatile, self.policy, disabling_allowed);
+        self.started(started)
+    }
+
+    /// Restarts this engine over its stores: see [`calls::restart`]. Refused, it keeps its own switches.
+    pub fn restart_again(&mut self, disabling_allowed: bool) -> Result<(), Status> {
+        let started = calls::restart(self.nv, self.volatile, self.policy, disabling_allowed);
+        self.started(started)
+    }
+
+    /// Takes the switches handed back beside SUCCESS.
+    fn started(&mut self, started: Started) -> Result<(), Status> {
+        started.status.ok()?;
+        self.switches = started.switches;
+        Ok(())
     }
 
     /// The switches.

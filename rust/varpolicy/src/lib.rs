@@ -1,8 +1,10 @@
 //! Safe calls of `libvarpolicy.a`, the proved engine for UEFI variable policy.
 //!
 //! The engine keeps no memory of its own. The caller lends it two stores of variables (non-volatile
-//! and volatile, 0 to 32,768 bytes each), a policy record of 8,192 bytes, and three switches. Every
-//! call checks all of what it is lent, and a call that is refused writes nothing.
+//! and volatile, 0 to 32,768 bytes each), a policy record of 8,192 bytes, and three switches. A call
+//! checks all of each store and policy record that it is lent; but of the volatile store at power-on,
+//! and of the policy record at power-on and restart, it checks the length alone. A call that is refused
+//! leaves everything as it was.
 //!
 //! [`calls`] has one function for each call of the library. [`Engine`] keeps the lent slices and the
 //! switches together and answers with `Result`. [`Entry`] packs a policy entry.

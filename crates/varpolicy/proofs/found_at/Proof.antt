@@ -15,26 +15,26 @@ part-record-start c = search needs
 part-record-end : tie.Need-part-record-end
 part-record-end c = search needs
 
+add-payload : tie.Need-add-payload
+add-payload c = search needs
+
+get32-requires : tie.Need-get32-requires
+get32-requires c κs = search needs
+
+add-payload-2 : tie.Need-add-payload-2
+add-payload-2 c = search needs
+
 number-requires : tie.Need-number-requires
 number-requires c κs = search needs
 
 attributes-requires : tie.Need-attributes-requires
 attributes-requires c κs = search needs
 
-add-t6 : tie.Need-add-t6
-add-t6 c = search needs
-
-get32-requires : tie.Need-get32-requires
-get32-requires c κs = search needs
-
-add-t13 : tie.Need-add-t13
-add-t13 c = search needs
-
 get32-requires-2 : tie.Need-get32-requires-2
 get32-requires-2 c κs = search needs
 
 returns : tie.Need-returns
-returns c = rw (c .before .before .before .number .ensures, c .before .before .attributes .ensures, c .before .get32 .ensures .0, c .get322 .ensures .0)
+returns c = simp (c .before .before .number .ensures, c .before .attributes .ensures, c .before .before .before .get32 .ensures .0, c .get322 .ensures .0)
 
 pub found-at-spec : {M : Type 1} → statement M
 found-at-spec =
@@ -44,10 +44,10 @@ found-at-spec =
     sub-record
     part-record-start
     part-record-end
+    add-payload
+    get32-requires
+    add-payload-2
     number-requires
     attributes-requires
-    add-t6
-    get32-requires
-    add-t13
     get32-requires-2
     returns)

@@ -1,8 +1,10 @@
 -- `varpolicy::varpolicy_read` meets its contract, by where `engine::look_up` finds the variable (`Readings.antt`). Assumes nothing.
-use mathlib.Core.Path.{sym, _∙_}
+use mathlib.Core.Path.{sym, ap, _∙_}
 use mathlib.Core.Bool.{true, false}
 use borrow.Author.Needs.{needs}
-use Rattle.varpolicy.proofs.Readings.{read-nothing, found-asks, read-found, not-nowhere}
+use Rattle.variables.specs.declared.Place.the-variants.{NonVolatile, Volatile, Nowhere}
+use Rattle.engine.specs.declared.Reading.the-variants.{Refused, Stands}
+use Rattle.varpolicy.proofs.Readings.{found-asks, read-found}
 use Rattle.varpolicy.proofs.varpolicy_read.Statement.{statement}
 use Rattle.varpolicy.proofs.varpolicy_read.Tie as tie
 
@@ -22,13 +24,17 @@ enum-known-place : tie.Need-enum-known-place
 enum-known-place c = search needs
 
 found-at-requires : tie.Need-found-at-requires
-found-at-requires c κs = found-asks _ _ _ _ (sym (c .before .before .before .before .before .before .look-up .ensures) ∙ c .before .before .before .before .reading2 .given .1) true _ _ (c .before .place .given .1)
+found-at-requires c κs =
+    found-asks _ _ _ true _ _
+    (sym (c .before .before .before .before .before .before .look-up .ensures) ∙ c .before .before .before .before .reading2 .given .1 ∙ ap Stands (c .before .place .given .1))
 
 enum-known-place-2 : tie.Need-enum-known-place-2
 enum-known-place-2 c = search needs
 
 found-at-requires-2 : tie.Need-found-at-requires-2
-found-at-requires-2 c κs = found-asks _ _ _ _ (sym (c .before .before .before .before .before .before .look-up .ensures) ∙ c .before .before .before .before .reading2 .given .1) false _ _ (c .before .place2 .given .1)
+found-at-requires-2 c κs =
+    found-asks _ _ _ false _ _
+    (sym (c .before .before .before .before .before .before .look-up .ensures) ∙ c .before .before .before .before .reading2 .given .1 ∙ ap Stands (c .before .place2 .given .1))
 
 enum-told : tie.Need-enum-told
 enum-told c = search needs
@@ -37,16 +43,26 @@ found-nothing-requires-2 : tie.Need-found-nothing-requires-2
 found-nothing-requires-2 c κs = search needs
 
 returns : tie.Need-returns
-returns c = read-nothing _ _ _ _ (sym (c .before .before .before .before .look-up .ensures) ∙ c .before .before .reading .given .1) (c .found-nothing .ensures)
+returns c =
+    read-found _ _ _ (Refused _) (sym (c .before .before .before .before .look-up .ensures) ∙ c .before .before .reading .given .1) (c .found-nothing .ensures)
 
 returns-2 : tie.Need-returns-2
-returns-2 c = read-found _ _ _ _ (sym (c .before .before .before .before .before .before .before .look-up .ensures) ∙ c .before .before .before .before .before .reading2 .given .1) true _ _ (c .before .before .place .given .1) (c .found-at .ensures)
+returns-2 c =
+    read-found _ _ _ (Stands (NonVolatile _ _))
+    (sym (c .before .before .before .before .before .before .before .look-up .ensures) ∙ c .before .before .before .before .before .reading2 .given .1 ∙ ap Stands (c .before .before .place .given .1))
+    (c .found-at .ensures)
 
 returns-3 : tie.Need-returns-3
-returns-3 c = read-found _ _ _ _ (sym (c .before .before .before .before .before .before .before .look-up .ensures) ∙ c .before .before .before .before .before .reading2 .given .1) false _ _ (c .before .before .place2 .given .1) (c .found-at2 .ensures)
+returns-3 c =
+    read-found _ _ _ (Stands (Volatile _ _))
+    (sym (c .before .before .before .before .before .before .before .look-up .ensures) ∙ c .before .before .before .before .before .reading2 .given .1 ∙ ap Stands (c .before .before .place2 .given .1))
+    (c .found-at2 .ensures)
 
 returns-4 : tie.Need-returns-4
-returns-4 c = absurd (not-nowhere _ _ _ _ (sym (c .before .before .before .before .before .before .look-up .ensures) ∙ c .before .before .before .before .reading2 .given .1) (c .before .enum-told .given .1))
+returns-4 c =
+    read-found _ _ _ (Stands Nowhere)
+    (sym (c .before .before .before .before .before .before .look-up .ensures) ∙ c .before .before .before .before .reading2 .given .1 ∙ ap Stands (c .before .enum-told .given .1))
+    (c .found-nothing2 .ensures)
 
 pub varpolicy-read-spec : {M : Type 1} → statement M
 varpolicy-read-spec =

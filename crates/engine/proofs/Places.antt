@@ -1,6 +1,6 @@
 -- The payload of the record at a variable's place, as a part of its store. Assumes nothing.
 use Prim.Native.Nat.{ℕ, _+_, _≤_}
-use mathlib.Core.Path.{_≡_, sym, ap, _∙_}
+use mathlib.Core.Path.{_≡_, refl, sym, ap, ap₂, _∙_}
 use mathlib.Core.Bool.{Bool, true, false, cond}
 use native.Mathlib.Omega.{arith}
 use lib.ListN.{length, take, drop}
@@ -47,6 +47,21 @@ part-part at len from n s h =
     ap (part from (from + n)) (part-of at len s) ∙ part-take from (from + n) len (drop at s) h ∙ part-of from n (drop at s)
     ∙ ap (take n) (drop-drop from at s) ∙ sym (part-of (at + from) n s)
 
+-- the payload, taken from the store by what the header tells
+pub payload-taken : (s : Bytes) (at len name size : ℕ) → name ≡ nameSize (part at (at + len) s) → size ≡ dataSize (part at (at + len) s)
+    → at + len ≤ length s → HeaderFits (part at (at + len) s) → part (at + 32 + name) (at + 32 + name + size) s ≡ payloadOf (part at (at + len) s)
+unfolding payloadOf
+payload-taken s at len name size e f within fits =
+    let l : 32 + nameSize (part at (at + len) s) + dataSize (part at (at + len) s) ≤ len = omega (arith, fits .fits, length-part at (at + len) s within) in
+    let k : at + 32 + nameSize (part at (at + len) s) ≡ at + (32 + nameSize (part at (at + len) s)) = omega arith in
+    ap₂ (λ n d. part (at + 32 + n) (at + 32 + n + d) s) e f
+    ∙ ap (λ x. part x (x + dataSize (part at (at + len) s)) s) k
+    ∙ sym (part-part at len (32 + nameSize (part at (at + len) s)) (dataSize (part at (at + len) s)) s l)
+
+-- and where it begins, o bytes from the start of a block
+pub place-taken : (at name size o : ℕ) → name ≡ size → at + 32 + name + o ≡ o + (at + 32 + size)
+place-taken at name size o e = omega (arith, e)
+
 module _ (nonVolatile : Bool) (s : Bytes) (v : Variable) (at len : ℕ) (e : placeOf nonVolatile s v ≡ At at len) where
   abbrev stored : Bytes
   stored = part at (at + len) s
@@ -64,10 +79,7 @@ module _ (nonVolatile : Bool) (s : Bytes) (v : Variable) (at len : ℕ) (e : pla
   payload-within = omega (arith, record-within, fits)
 
   pub payload-part : part (at + 32 + nameSize stored) (at + 32 + nameSize stored + dataSize stored) s ≡ payloadOf stored
-  unfolding payloadOf
-  payload-part =
-      let k : at + 32 + nameSize stored ≡ at + (32 + nameSize stored) = omega arith in
-      ap (λ x. part x (x + dataSize stored) s) k ∙ sym (part-part at len (32 + nameSize stored) (dataSize stored) s fits)
+  payload-part = payload-taken s at len (nameSize stored) (dataSize stored) refl refl record-within record-fits
 
   pub record-store : nonVolatile ≡ hasNV (attributesOf stored)
   record-store = sym (record-nv nonVolatile stored (ok-at nonVolatile s v at len e))
