@@ -28,11 +28,13 @@
   the stack pointer are used, so an interrupt handler must not run on the same stack unless it skips
   them). With GCC and Clang the declarations say sysv_abi, so that code built for Microsoft's
   convention, as UEFI's is, can call them. There is no heap and no static data that is written. Of libc
-  memcpy and memset are needed and nothing else; the caller's program must provide them, with the System
-  V convention too: those of a program built for Microsoft's take their arguments in other registers.
+  memcpy, memmove and memset are needed and nothing else; the caller's program must provide them, with
+  the System V convention too: those of a program built for Microsoft's take their arguments in other
+  registers.
 
-  Stack: the deepest call, varpolicy_set, takes 9,144 bytes with its return address (measured); read,
-  restart and power-on take nearly as much. The red zone and what memcpy and memset take come on top.
+  Stack: the deepest call, varpolicy_set, takes 9,288 bytes with its return address (read off the
+  machine code); read, restart and power-on take nearly as much. The red zone and what memcpy, memmove
+  and memset take come on top.
 
   SPDX-License-Identifier: BSD-2-Clause-Patent
 **/
