@@ -1,9 +1,10 @@
 -- Laws of names, which proofs cite instead of the definitions' text. Assumes nothing.
 use Prim.Native.Nat.{ℕ, zero, suc, _+_, _-_, _*_, _/_, _%_, _≤_, _<_}
-use mathlib.Core.Path.{_≡_, refl, sym, ap, _∙_}
+use mathlib.Core.Path.{_≡_, refl, sym, ap, ap₂, _∙_}
 use mathlib.Core.List.{List, [], _∷_, _++_}
 use mathlib.Core.Bool.{Bool, true, false, not, _&&_}
 use native.Mathlib.Omega.{arith}
+use native.Mathlib.Nat.{add-zero}
 use native.Mathlib.Numerals.{add-one}
 use lib.ListN.{length, getD, take, drop, drop-of-length-le, length-append, length-drop, length-take, take-append-drop}
 use lib.Seq.{drop-cons, getD-append-add, getD-append-seam, take-append-seam}
@@ -13,8 +14,8 @@ use Rattle.limits.specs.Limits.{maxNameBytes, namespaceBytes}
 use Rattle.slices.specs.Test.{_and_}
 use Rattle.slices.specs.TestLaws.{and-left, and-right, and-intro, and-assoc, and-eager}
 use Rattle.slices.specs.Bytes.{Bytes, le16, pairwise}
-use Rattle.slices.specs.BytesLaws.{pairwise-refl}
-use Rattle.slices.specs.PartLaws.{drop-step}
+use Rattle.slices.specs.BytesLaws.{pairwise-refl, pairwise-hit, same-eq}
+use Rattle.slices.specs.PartLaws.{drop-step, getD-middle}
 use Rattle.names.specs.Name.{units, noZero, isName, isTerminated, Variable, named, unitMatches, wildcards, numberSign, oneIf}
 
 pub units-length : (s : Bytes) → length (units s) ≡ length s / 2
@@ -116,10 +117,6 @@ isName-length s e =
     let e₁ = and-right _ _ e in
     (leb-true 2 (length s) (and-left _ _ e₁), leb-true (length s) maxNameBytes (and-left _ _ (and-right _ _ e₁)))
 
-pub isName-even : (s : Bytes) → isName s ≡ true → length s % 2 ≡ 0
-unfolding isName
-isName-even s e = eqb-true (length s % 2) 0 (and-left _ _ e)
-
 -- a terminated name is a name and two bytes more
 pub isTerminated-name : (s : Bytes) → isTerminated s ≡ true → isName (take (length s - 2) s) ≡ true
 unfolding isTerminated
@@ -165,6 +162,32 @@ unfolding named
 named-name v e = and-right _ _ e
 
 -- every name matches itself, '#' or not
+unitMatches-same : (u w : ℕ) → u ≡ w → unitMatches u w ≡ true
+unfolding unitMatches
+unitMatches-same u w e = rw (eq-eqb u w e)
+
 pub matches-refl : (us : List ℕ) → pairwise unitMatches us us ≡ true
 unfolding unitMatches
-matches-refl = pairwise-refl unitMatches (λ u. rw (eq-eqb u u refl))
+matches-refl = pairwise-refl unitMatches (λ u. unitMatches-same u u refl)
+
+-- r is the comparison of the eight bytes of the four units from k on: equal units match
+module _ {r : Bool} (p v : Bytes) (k : ℕ) (h : k + 4 ≤ length (units p)) (g : k + 4 ≤ length (units v)) (e : r ≡ pairwise eqb (take 8 (drop (2 * k) p)) (take 8 (drop (2 * k) v)))
+    (t : r ≡ true) where
+  same-unit : (j : ℕ) → j < 4 → getD (units p) (k + j) 0 ≡ getD (units v) (k + j) 0
+  same-unit j n =
+      let low : 2 * k + 2 * j ≡ 2 * (k + j) = omega arith in
+      let high : 2 * k + (2 * j + 1) ≡ 2 * (k + j) + 1 = omega arith in
+      let at : (i : ℕ) → i < 8 → getD p (2 * k + i) 0 ≡ getD v (2 * k + i) 0 = λ i m.
+      sym (getD-middle p (2 * k) 8 i m) ∙ ap (λ (l : Bytes). getD l i 0) (same-eq _ _ (sym e ∙ t)) ∙ getD-middle v (2 * k) 8 i m in
+      units-at p (k + j) (omega (arith, units-length p))
+      ∙ ap₂ (λ (a b : ℕ). a + 256 * b) (rw low at (at (2 * j) (omega arith))) (rw high at (at (2 * j + 1) (omega arith)))
+      ∙ sym (units-at v (k + j) (omega (arith, units-length v)))
+
+  same-units : (j : ℕ) → j ≤ 4 → pairwise unitMatches (drop k (units p)) (drop k (units v)) ≡ pairwise unitMatches (drop (k + j) (units p)) (drop (k + j) (units v))
+  same-units zero n = rw add-zero
+  same-units (suc j) n =
+      let m : k + suc j ≡ k + j + 1 = omega arith in
+      same-units j (omega arith) ∙ rw m (pairwise-hit unitMatches (units p) (units v) (k + j) (omega arith) (omega arith) (unitMatches-same _ _ (same-unit j (omega arith))))
+
+  pub matches-eight : pairwise unitMatches (drop k (units p)) (drop k (units v)) ≡ pairwise unitMatches (drop (k + 4) (units p)) (drop (k + 4) (units v))
+  matches-eight = same-units 4 (omega arith)

@@ -136,6 +136,34 @@ pub fn unit_matches(p: u16, u: u16) -> bool
     false
 }
 
+// Whether the units from one index up to another match.
+fn units_match(p: &[u8], v: &[u8], from: usize, to: usize) -> bool
+    requires { ⌜ (from ≤ to) × (to ≤ length (units (now p))) × (to ≤ length (units (now v))) ⌝ }
+    ensures { λ r. ⌜ matches (drop from (units (now (p .entry)))) (drop from (units (now (v .entry))))
+        ≡ (r and matches (drop to (units (now (p .entry)))) (drop to (units (now (v .entry))))) ⌝ }
+{
+    let mut k = from;
+    while k < to {
+        if !unit_matches(unit_at(p, k), unit_at(v, k)) {
+            return false;
+        }
+        k += 1;
+    }
+    true
+}
+
+// Whether the four units from index k on match: equal ones are found by one compare of words.
+fn four_match(p: &[u8], v: &[u8], k: usize) -> bool
+    requires { ⌜ (k + 4 ≤ length (units (now p))) × (k + 4 ≤ length (units (now v))) ⌝ }
+    ensures { λ r. ⌜ matches (drop k (units (now (p .entry)))) (drop k (units (now (v .entry))))
+        ≡ (r and matches (drop (k + 4) (units (now (p .entry)))) (drop (k + 4) (units (now (v .entry))))) ⌝ }
+{
+    if slices::eight(p, v, 2 * k) {
+        return true;
+    }
+    units_match(p, v, k, k + 4)
+}
+
 // The one comparer: an entry's name against a variable's, as many units, each matching.
 pub fn matches(p: &[u8], v: &[u8]) -> bool
     ensures { λ r. ⌜ r ≡ matches (units (now (p .entry))) (units (now (v .entry))) ⌝ }
@@ -145,14 +173,13 @@ pub fn matches(p: &[u8], v: &[u8]) -> bool
         return false;
     }
     let mut k = 0;
-    while k < n {
-        if unit_matches(unit_at(p, k), unit_at(v, k)) {
-            k += 1;
-        } else {
+    while 4 <= n - k {
+        if !four_match(p, v, k) {
             return false;
         }
+        k += 4;
     }
-    true
+    units_match(p, v, k, n)
 }
 
 // The number of '#' among the units.

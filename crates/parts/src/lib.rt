@@ -3,6 +3,7 @@
 ghost use mathlib.Core.Path.{_≡_};
 ghost use Prim.Native.Nat.{_+_};
 ghost use lib.Dec.{leb};
+ghost use Rattle.names.specs.Name.{units, matches};
 ghost use Rattle.store.specs.Parts.{variable};
 ghost use Rattle.policy.specs.Policy.{policyCheck};
 ghost use Rattle.pair.specs.Pair.{pairCheck};
@@ -122,6 +123,14 @@ fn fits(len: usize, at: usize, n: usize) -> bool
         return false;
     }
     true
+}
+
+// Whether an entry's name matches a variable's.
+#[no_mangle]
+pub extern "C" fn parts_match(p: &[u8], v: &[u8]) -> bool
+    ensures { λ r. ⌜ r ≡ matches (units (now (p .entry))) (units (now (v .entry))) ⌝ }
+{
+    names::matches(p, v)
 }
 
 // Sets n bytes from index at on to v. Where they do not lie within the bytes, this and the next two change nothing.

@@ -4,15 +4,15 @@ use mathlib.Core.Path.{_≡_, refl, sym, ap, ap₂, _∙_}
 use mathlib.Core.List.{[], _∷_, _++_}
 use mathlib.Core.Bool.{Bool, true, false, _&&_, false≢true}
 use native.Mathlib.Omega.{arith}
-use native.Mathlib.Nat.{add-zero}
 use native.Mathlib.Numerals.{add-one}
-use lib.ListN.{length, getD, drop, replicate, drop-of-length-le}
+use lib.ListN.{length, getD, take, drop, replicate, drop-of-length-le, length-take}
 use lib.Seq.{drop-cons, drop-drop}
 use lib.Dec.{eqb}
 use borrow.Author.Tests.{eq-eqb, ne-eqb, eqb-true, eqb-false}
 use Rattle.slices.specs.Test.{_and_}
-use Rattle.slices.specs.TestLaws.{and-left, and-right, and-intro, and-no, and-assoc, and-eager, forced-off}
+use Rattle.slices.specs.TestLaws.{and-left, and-right, and-intro, and-no, and-yes, and-assoc, and-eager, forced-off}
 use Rattle.slices.specs.Bytes.{Bytes, pairwise, same, allAre}
+use Rattle.slices.specs.PartLaws.{length-middle, getD-middle}
 
 module _ (f : ℕ → ℕ → Bool) where
   pub pairwise-lengths : (ps us : Bytes) → (length ps ≡ length us → ⊥) → pairwise f ps us ≡ false
@@ -66,16 +66,28 @@ same-later l m i j h e =
     let k : i + (j - i) ≡ j = omega arith in
     same-of (drop j l) (drop j m) (rw k at (sym (drop-drop (j - i) i l) ∙ ap (drop (j - i)) (same-eq (drop i l) (drop i m) e) ∙ drop-drop (j - i) i m))
 
--- eight bytes from i on that are not all the same
-pub same-not : {r : Bool} (l m : Bytes) (i : ℕ) → same (drop i l) (drop i m) ≡ (r and same (drop (i + 8) l) (drop (i + 8) m)) → r ≡ false → same l m ≡ false
-unfolding _and_
-same-not l m i e z = forced-off (same l m) (λ t. sym (e ∙ rw z) ∙ same-later l m 0 i (omega arith) t)
+-- a comparison of the first n bytes, and then of the rest
+same-split : (n : ℕ) (l m : Bytes) → same l m ≡ (same (take n l) (take n m) and same (drop n l) (drop n m))
+unfolding pairwise _and_
+same-split zero l m = refl
+same-split (suc n) [] [] = refl
+same-split (suc n) [] (b ∷ m) = refl
+same-split (suc n) (a ∷ l) [] = refl
+same-split (suc n) (a ∷ l) (b ∷ m) = ap (eqb a b and_) (same-split n l m) ∙ sym (and-assoc (eqb a b) (same (take n l) (take n m)) (same (drop n l) (drop n m)))
 
--- the last eight bytes, from i on, are all the same
-pub same-last : {r : Bool} (l m : Bytes) (i j : ℕ) → same (drop i l) (drop i m) ≡ (r and same (drop (i + 8) l) (drop (i + 8) m)) → r ≡ true
-    → length l ≤ i + 8 → length m ≤ i + 8 → i ≤ j → same (drop j l) (drop j m) ≡ true
-unfolding _and_
-same-last l m i j e z a b h = same-later l m i j h (e ∙ rw z (pairwise-end eqb l m (i + 8) a b))
+-- r is the comparison of the eight bytes from i on
+module _ {r : Bool} (l m : Bytes) (i : ℕ) (e : r ≡ same (take 8 (drop i l)) (take 8 (drop i m))) where
+  pub same-eight : same (drop i l) (drop i m) ≡ (r and same (drop (i + 8) l) (drop (i + 8) m))
+  same-eight = same-split 8 (drop i l) (drop i m) ∙ rw (e, drop-drop, drop-drop)
+
+  pub same-not : r ≡ false → same l m ≡ false
+  unfolding _and_
+  same-not z = forced-off (same l m) (λ t. sym (same-eight ∙ rw z) ∙ same-later l m 0 i (omega arith) t)
+
+  -- and they are the last ones
+  pub same-last : (j : ℕ) → r ≡ true → length l ≤ i + 8 → length m ≤ i + 8 → i ≤ j → same (drop j l) (drop j m) ≡ true
+  unfolding _and_
+  same-last j z a b h = same-later l m i j h (same-eight ∙ rw z (pairwise-end eqb l m (i + 8) a b))
 
 eqb-sym : (x y : ℕ) → eqb x y ≡ eqb y x
 eqb-sym x y = go (eqb x y) refl
@@ -91,16 +103,20 @@ same-sym [] (b ∷ m) = refl
 same-sym (a ∷ l) [] = refl
 same-sym (a ∷ l) (b ∷ m) = ap₂ _and_ (eqb-sym a b) (same-sym l m)
 
--- one turn of a loop that compares eagerly, from i on
-pub same-more : {x : Bool} (ok : Bool) (l m : Bytes) (i j : ℕ) → i + j < length l → i + j < length m → x ≡ (ok and same (drop (i + j) l) (drop (i + j) m))
-    → x ≡ ((ok && eqb (getD l (i + j) 0) (getD m (i + j) 0)) and same (drop (i + (j + 1)) l) (drop (i + (j + 1)) m))
-same-more ok l m i j h k e =
-    let n : i + (j + 1) ≡ i + j + 1 = omega arith in
-    e ∙ rw (n, and-eager, pairwise-step eqb l m (i + j) h k) (sym (and-assoc ok (eqb (getD l (i + j) 0) (getD m (i + j) 0)) (same (drop (i + j + 1) l) (drop (i + j + 1) m))))
+-- a loop that compares eagerly the eight bytes from i on: one turn, and its end
+module _ {x : Bool} (ok : Bool) (l m : Bytes) (i j : ℕ) (e : x ≡ (ok and same (drop j (take 8 (drop i l))) (drop j (take 8 (drop i m))))) where
+  pub same-more : i + 8 ≤ length l → i + 8 ≤ length m → j < 8
+      → x ≡ ((ok && eqb (getD l (i + j) 0) (getD m (i + j) 0)) and same (drop (j + 1) (take 8 (drop i l))) (drop (j + 1) (take 8 (drop i m))))
+  same-more h k n =
+      let a : j < length (take 8 (drop i l)) = rw (length-middle l i 8 h) n in
+      let b : j < length (take 8 (drop i m)) = rw (length-middle m i 8 k) n in
+      e ∙ rw (and-eager, pairwise-step eqb (take 8 (drop i l)) (take 8 (drop i m)) j a b, getD-middle l i 8 j n, getD-middle m i 8 j n)
+      (sym (and-assoc ok (eqb (getD l (i + j) 0) (getD m (i + j) 0)) (same (drop (j + 1) (take 8 (drop i l))) (drop (j + 1) (take 8 (drop i m))))))
 
-pub same-zero : (l m : Bytes) (i : ℕ) → same (drop i l) (drop i m) ≡ (true and same (drop (i + 0) l) (drop (i + 0) m))
-unfolding _and_
-same-zero l m i = rw add-zero
+  pub same-done : 8 ≤ j → ok ≡ x
+  same-done n =
+      let short : (s : Bytes) → length (take 8 (drop i s)) ≤ j = λ s. rw length-take (omega arith) in
+      sym (e ∙ rw (pairwise-end eqb (take 8 (drop i l)) (take 8 (drop i m)) j (short l) (short m)) (and-yes ok))
 
 -- ---- every byte is v
 pub allAre-step : (v : ℕ) (l : Bytes) (i : ℕ) → i < length l → allAre v (drop i l) ≡ (eqb (getD l i 0) v and allAre v (drop (i + 1) l))

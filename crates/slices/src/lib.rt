@@ -2,7 +2,6 @@
 ghost use mathlib.Core.Path.{_≡_};
 ghost use Prim.Native.Nat.{_+_, _≤_, _<_};
 ghost use lib.ListN.{length, getD, take, drop, replicate};
-ghost use Rattle.slices.specs.Test.{_and_};
 ghost use Rattle.slices.specs.Bytes.{le16, le32, part, allAre, same, overwrite};
 ghost use Rattle.slices.specs.Hash.{hashFrom};
 
@@ -104,10 +103,10 @@ pub fn few_are(s: &[u8], v: u8) -> bool
     true
 }
 
-// Eight bytes of each from index i on. No exit before the end: it is compiled to one compare of words.
-fn eight(a: &[u8], b: &[u8], i: usize) -> bool
+// Whether the eight bytes from index i on are the same in both. No exit before the end: it is compiled to one compare of words.
+pub fn eight(a: &[u8], b: &[u8], i: usize) -> bool
     requires { ⌜ (i + 8 ≤ length (now a)) × (i + 8 ≤ length (now b)) ⌝ }
-    ensures { λ r. ⌜ same (drop i (now (a .entry))) (drop i (now (b .entry))) ≡ (r and same (drop (i + 8) (now (a .entry))) (drop (i + 8) (now (b .entry)))) ⌝ }
+    ensures { λ r. ⌜ r ≡ same (take 8 (drop i (now (a .entry)))) (take 8 (drop i (now (b .entry)))) ⌝ }
 {
     let mut ok = true;
     let mut j = 0;
@@ -118,7 +117,7 @@ fn eight(a: &[u8], b: &[u8], i: usize) -> bool
     ok
 }
 
-// The same, left at the first byte that differs: for a few bytes.
+// Whether two slices as long hold the same bytes, left at the first that differs: for a few bytes.
 fn few_equal(a: &[u8], b: &[u8]) -> bool
     requires { ⌜ length (now a) ≡ length (now b) ⌝ }
     ensures { λ r. ⌜ r ≡ same (now (a .entry)) (now (b .entry)) ⌝ }

@@ -37,6 +37,7 @@ unsafe extern "C" {
         name_len: usize,
     ) -> Found;
     fn parts_slot(record: *const u8, record_len: usize) -> usize;
+    fn parts_match(pattern: *const u8, pattern_len: usize, name: *const u8, name_len: usize) -> bool;
     fn parts_fill(bytes: *mut u8, len: usize, at: usize, count: usize, value: u8);
     fn parts_copy(bytes: *mut u8, len: usize, at: usize, source: *const u8, source_len: usize);
     fn parts_move(bytes: *mut u8, len: usize, from: usize, to: usize, count: usize);
@@ -72,6 +73,12 @@ pub fn find(nv: &[u8], volatile: &[u8], namespace: &Namespace, name: &[u8]) -> F
 pub fn slot(record: &[u8]) -> usize {
     // SAFETY: the pointer and the length are of one live slice.
     unsafe { parts_slot(record.as_ptr(), record.len()) }
+}
+
+/// Whether an entry's name matches a variable's.
+pub fn matches(pattern: &[u8], name: &[u8]) -> bool {
+    // SAFETY: each pointer and length is of one live slice.
+    unsafe { parts_match(pattern.as_ptr(), pattern.len(), name.as_ptr(), name.len()) }
 }
 
 /// Sets `count` bytes from `at` on to `value`. Out of bounds, this and the next two change nothing.

@@ -36,10 +36,11 @@ pairwise. (memset and memmove are then told to use vector instructions: of `rep 
 ";
 
 /// The groups of cases. Each is made by itself, so that a run under valgrind makes only its own.
-const GROUPS: [fn(&[u32]) -> Group; 7] = [
+const GROUPS: [fn(&[u32]) -> Group; 8] = [
     |_| calls::whole(),
     |_| calls::choice_in_set(),
     |_| parts::choice(),
+    |_| parts::comparison(),
     |_| parts::policy_check(),
     parts::pair_check,
     |_| parts::search(),

@@ -26,6 +26,13 @@ pub enum Part {
     CheckStores,
     /// The check of the two stores and the search for a name; with an empty name the check alone.
     Find(Name),
+    /// The comparison of an entry's name with a variable's.
+    Match {
+        /// The entry's name.
+        pattern: Name,
+        /// The variable's.
+        name: Name,
+    },
     /// Sets all of the buffer.
     Fill,
     /// Copies the non-volatile store over the buffer.
@@ -60,6 +67,8 @@ impl Part {
             (Part::Find(name), 1) => part(libparts::find(nv, volatile, &OURS, name)),
             (Part::Find(name), 2) => found(plain::find(nv, volatile, &OURS, name, Compare::Whole)),
             (Part::Find(name), _) => found(plain::find(nv, volatile, &OURS, name, Compare::FirstUnit)),
+            (Part::Match { pattern, name }, 0) => [libparts::matches(pattern, name).into(), 0, 0, 0],
+            (Part::Match { pattern, name }, _) => [plain::matches(pattern, name).into(), 0, 0, 0],
             (Part::Fill, column) => {
                 let (count, value) = (buffer.len(), lent.calls as u8);
                 match column {
@@ -140,6 +149,24 @@ pub fn choice() -> Group {
         Case { without: Some(Work::Part(Part::Choose(Name::EMPTY))), ..case }
     });
     group("the choice alone", cases.collect())
+}
+
+/// The comparison of names of 64 units.
+pub fn comparison() -> Group {
+    let letters = "Variable".repeat(8);
+    let digits = "0123456789abcdef".repeat(4);
+    let (head, last) = (&letters[..60], &letters[..63]);
+    let pairs = [
+        ("equal", letters.clone(), letters.clone()),
+        ("the last unit differs", letters.clone(), format!("{last}!")),
+        ("four '#' at the end", format!("{head}####"), format!("{head}0042")),
+        ("all '#'", "#".repeat(64), digits),
+    ];
+    let cases = pairs.map(|(what, pattern, name)| {
+        let part = Part::Match { pattern: inputs::text(&pattern), name: inputs::text(&name) };
+        Case::new(format!("compare 64 units, {what}"), Work::Part(part), inputs::empty())
+    });
+    group("one name against one pattern", cases.into())
 }
 
 /// The check of the policy record.

@@ -1,13 +1,16 @@
 -- `names::matches` meets its contract. The invariant: whether the names match is whether their units from k on do.
 -- The measure is the number of units from k on. Assumes nothing.
-use Rattle.slices.specs.BytesLaws.{pairwise-lengths, pairwise-end, pairwise-hit, pairwise-miss}
-use Rattle.names.specs.Name.{units, unitMatches}
-use Rattle.slices.specs.Bytes.{pairwise}
-use lib.ListN.{drop}
-use native.Mathlib.Omega.{arith}
-use mathlib.Core.Path.{_≡_, refl, sym, ap₂, _∙_}
+use mathlib.Core.Path.{_≡_, refl, sym, _∙_}
 use Prim.Native.Nat.{_≤_, _-_}
+use native.Mathlib.Omega.{arith}
+use lib.ListN.{length, drop}
+use borrow.Author.Tests.{not-true, not-false}
 use borrow.Author.Needs.{needs}
+use Rattle.slices.specs.Test.{_and_}
+use Rattle.slices.specs.TestLaws.{and-yes}
+use Rattle.slices.specs.Bytes.{pairwise}
+use Rattle.slices.specs.BytesLaws.{pairwise-lengths, pairwise-end}
+use Rattle.names.specs.Name.{units, unitMatches}
 use Rattle.names.proofs.matches.Statement.{statement}
 use Rattle.names.proofs.matches.Tie as tie
 
@@ -26,51 +29,54 @@ unit-count-requires-2 c κs = search needs
 returns : tie.Need-returns Inv-loop μ-loop
 returns c =
     let a = c .before .before .before .before .before .args in
-    let p = units (a .p .now) in
-    let v = units (a .v .now) in
-    sym (pairwise-lengths unitMatches p v (λ e. c .if1 .taken (c .before .before .unit-count .ensures ∙ e ∙ sym (c .before .unit-count2 .ensures))))
+    sym (pairwise-lengths unitMatches (units (a .p .now)) (units (a .v .now)) (λ e. c .if1 .taken (c .before .before .unit-count .ensures ∙ e ∙ sym (c .before .unit-count2 .ensures))))
 
 loop-holds : tie.Need-loop-holds Inv-loop μ-loop
-loop-holds c = (search needs, refl)
+loop-holds c = (omega arith, refl)
 
-unit-at-requires : tie.Need-unit-at-requires Inv-loop μ-loop
-unit-at-requires c κs = search needs
+sub-loop : tie.Need-sub-loop Inv-loop μ-loop
+sub-loop c = omega arith
 
-unit-at-requires-2 : tie.Need-unit-at-requires-2 Inv-loop μ-loop
-unit-at-requires-2 c κs = search needs
-
-unit-matches-requires : tie.Need-unit-matches-requires Inv-loop μ-loop
-unit-matches-requires c κs = search needs
-
-add-k : tie.Need-add-k Inv-loop μ-loop
-add-k c = search needs
-
-loop-less : tie.Need-loop-less Inv-loop μ-loop
-loop-less c = search needs
-
-loop-again : tie.Need-loop-again Inv-loop μ-loop
-loop-again c =
-    let a = c .before .before .before .before .before .before .before .before .before .before .before .args in
-    let p = units (a .p .now) in
-    let v = units (a .v .now) in
-    let k = c .before .before .before .before .before .loop .k in
-    (search needs, c .before .before .before .before .before .loop .inv .1 ∙ pairwise-hit unitMatches p v k (omega arith) (omega arith) (sym (c .before .unit-matches .ensures ∙ ap₂ unitMatches (c .before .before .before .unit-at .ensures) (c .before .before .unit-at2 .ensures)) ∙ c .if2 .taken))
+four-match-requires : tie.Need-four-match-requires Inv-loop μ-loop
+four-match-requires c κs =
+    let g = c .before .before .before in
+    (omega (arith, g .before .unit-count .ensures), omega (arith, g .unit-count2 .ensures, c .before .before .if1 .left))
 
 returns-2 : tie.Need-returns-2 Inv-loop μ-loop
+unfolding _and_
 returns-2 c =
-    let a = c .before .before .before .before .before .before .before .before .before .before .before .args in
-    let p = units (a .p .now) in
-    let v = units (a .v .now) in
-    let k = c .before .before .before .before .before .loop .k in
-    sym (c .before .before .before .before .before .loop .inv .1 ∙ pairwise-miss unitMatches p v k (omega arith) (omega arith) (sym (c .before .unit-matches .ensures ∙ ap₂ unitMatches (c .before .before .before .unit-at .ensures) (c .before .before .unit-at2 .ensures)) ∙ c .if2 .left))
+    let m = c .before in
+    let l = m .before .before in
+    sym (l .loop .inv .1 ∙ m .four-match .ensures ∙ rw (not-true (m .four-match .result) (c .if2 .taken)))
+
+add-k : tie.Need-add-k Inv-loop μ-loop
+add-k c = omega arith
+
+loop-less : tie.Need-loop-less Inv-loop μ-loop
+loop-less c = omega arith
+
+loop-again : tie.Need-loop-again Inv-loop μ-loop
+unfolding _and_
+loop-again c =
+    let m = c .before in
+    let l = m .before .before in
+    (omega arith, l .loop .inv .1 ∙ m .four-match .ensures ∙ rw (not-false (m .four-match .result) (c .if2 .left)))
+
+units-match-requires : tie.Need-units-match-requires Inv-loop μ-loop
+units-match-requires c κs =
+    let g = c .before .before .before in
+    (omega arith, omega (arith, g .before .unit-count .ensures), omega (arith, g .unit-count2 .ensures, c .before .before .if1 .left))
 
 returns-3 : tie.Need-returns-3 Inv-loop μ-loop
 returns-3 c =
-    let a = c .before .before .before .before .before .before .before .args in
-    let p = units (a .p .now) in
-    let v = units (a .v .now) in
-    let k = c .before .loop .k in
-    sym (c .before .loop .inv .1 ∙ pairwise-end unitMatches p v k (omega arith) (omega arith))
+    let l = c .before .before in
+    let g = l .before .before in
+    let a = g .before .before .before .before .args in
+    let n = g .before .unit-count .result in
+    sym (
+    l .loop .inv .1 ∙ c .units-match .ensures
+    ∙ rw (pairwise-end unitMatches (units (a .p .now)) (units (a .v .now)) n (omega (arith, g .before .unit-count .ensures)) (omega (arith, g .unit-count2 .ensures, l .before .if1 .left))) (and-yes (c .units-match .result))
+    )
 
 pub matches-spec : {M : Type 1} → statement M
 matches-spec =
@@ -82,11 +88,11 @@ matches-spec =
     unit-count-requires-2
     returns
     loop-holds
-    unit-at-requires
-    unit-at-requires-2
-    unit-matches-requires
+    sub-loop
+    four-match-requires
+    returns-2
     add-k
     loop-less
     loop-again
-    returns-2
+    units-match-requires
     returns-3)

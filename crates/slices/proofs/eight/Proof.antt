@@ -1,22 +1,23 @@
 -- `slices::eight` meets its contract: the answer is `ok` and the answer from j on. Assumes nothing.
-use mathlib.Core.Path.{_≡_, ap, _∙_}
-use Prim.Native.Nat.{ℕ, _≤_, _-_, _+_}
+use mathlib.Core.Path.{_≡_, refl}
+use Prim.Native.Nat.{_≤_, _-_}
 use native.Mathlib.Omega.{arith}
-use lib.ListN.{drop}
+use lib.ListN.{take, drop}
 use Rattle.slices.specs.Test.{_and_}
 use Rattle.slices.specs.Bytes.{same}
-use Rattle.slices.specs.BytesLaws.{same-more, same-zero}
+use Rattle.slices.specs.BytesLaws.{same-more, same-done}
 use Rattle.slices.proofs.eight.Statement.{statement}
 use Rattle.slices.proofs.eight.Tie as tie
 
 abbrev Inv-loop : tie.InvT-loop
-Inv-loop a b i ok₀ j₀ ok j = (j ≤ 8) × (same (drop i a) (drop i b) ≡ (ok and same (drop (i + j) a) (drop (i + j) b)))
+Inv-loop a b i ok₀ j₀ ok j = (j ≤ 8) × (same (take 8 (drop i a)) (take 8 (drop i b)) ≡ (ok and same (drop j (take 8 (drop i a))) (drop j (take 8 (drop i b)))))
 
 abbrev μ-loop : tie.MeasureT-loop
 μ-loop a b i ok₀ j₀ ok j = 8 - j
 
 loop-holds : tie.Need-loop-holds Inv-loop μ-loop
-loop-holds c = (omega arith, same-zero (c .args .a .now) (c .args .b .now) (c .args .i))
+unfolding _and_
+loop-holds c = (omega arith, refl)
 
 add-ok : tie.Need-add-ok Inv-loop μ-loop
 add-ok c = omega arith
@@ -40,14 +41,13 @@ loop-again : tie.Need-loop-again Inv-loop μ-loop
 loop-again c =
     let l = c .before .before .before in
     let a = l .before .args in
-    (omega arith, same-more (l .loop .ok) (a .a .now) (a .b .now) (a .i) (l .loop .j) (omega arith) (omega arith) (l .loop .inv .1))
+    (omega arith, same-more (l .loop .ok) (a .a .now) (a .b .now) (a .i) (l .loop .j) (l .loop .inv .1) (omega arith) (omega arith) (omega arith))
 
 returns : tie.Need-returns Inv-loop μ-loop
 returns c =
     let l = c .before in
     let a = l .before .args in
-    let e : l .loop .j ≡ 8 = omega arith in
-    l .loop .inv .1 ∙ ap (λ (k : ℕ). l .loop .ok and same (drop (a .i + k) (a .a .now)) (drop (a .i + k) (a .b .now))) e
+    same-done (l .loop .ok) (a .a .now) (a .b .now) (a .i) (l .loop .j) (l .loop .inv .1) (omega arith)
 
 pub eight-spec : {M : Type 1} → statement M
 eight-spec =

@@ -8,7 +8,7 @@ use borrow.Author.Tests.{not-true, not-false}
 use borrow.Author.Needs.{needs}
 use Rattle.slices.specs.Test.{_and_}
 use Rattle.slices.specs.Bytes.{same}
-use Rattle.slices.specs.BytesLaws.{pairwise-lengths, same-not, same-last}
+use Rattle.slices.specs.BytesLaws.{pairwise-lengths, same-eight, same-not, same-last}
 use Rattle.slices.proofs.equal.Statement.{statement}
 use Rattle.slices.proofs.equal.Tie as tie
 
@@ -49,7 +49,7 @@ unfolding _and_
 returns-4 c =
     let e = c .before in
     let l = e .before .before in
-    sym (l .loop .inv .1 ∙ e .eight2 .ensures ∙ rw (not-true (e .eight2 .result) (c .if4 .taken)))
+    sym (l .loop .inv .1 ∙ same-eight _ _ (l .loop .i) (e .eight2 .ensures) ∙ rw (not-true (e .eight2 .result) (c .if4 .taken)))
 
 add-i : tie.Need-add-i Inv-loop μ-loop
 add-i c = omega arith
@@ -62,13 +62,13 @@ unfolding _and_
 loop-again c =
     let e = c .before in
     let l = e .before .before in
-    (omega arith, l .loop .inv .1 ∙ e .eight2 .ensures ∙ rw (not-false (e .eight2 .result) (c .if4 .left)))
+    (omega arith, l .loop .inv .1 ∙ same-eight _ _ (l .loop .i) (e .eight2 .ensures) ∙ rw (not-false (e .eight2 .result) (c .if4 .left)))
 
 returns-5 : tie.Need-returns-5 Inv-loop μ-loop
 returns-5 c =
     let l = c .before in
     let e = l .before .before in
-    sym (l .loop .inv .1 ∙ same-last _ _ (length (e .before .before .before .before .before .args .a .now) - 8) (l .loop .i) (e .eight .ensures) (not-false (e .eight .result) (l .before .if3 .left)) (omega arith) (omega arith) (omega arith))
+    sym (l .loop .inv .1 ∙ same-last _ _ (length (e .before .before .before .before .before .args .a .now) - 8) (e .eight .ensures) (l .loop .i) (not-false (e .eight .result) (l .before .if3 .left)) (omega arith) (omega arith) (omega arith))
 
 pub equal-spec : {M : Type 1} → statement M
 equal-spec =

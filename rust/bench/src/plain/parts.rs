@@ -25,6 +25,16 @@ pub fn check_stores<'a, I: Seen<'a>>(nv: &'a [u8], volatile: &'a [u8]) -> Option
     Stores::<I>::check(nv, volatile).map(|stores| [stores.ends[1], stores.ends[0]])
 }
 
+/// Whether an entry's name matches a variable's: as many units, each equal or '#' over a hex digit.
+pub fn matches(pattern: &[u8], name: &[u8]) -> bool {
+    let (wanted, units) = (pattern.as_chunks::<2>().0, name.as_chunks::<2>().0);
+    wanted.len() == units.len()
+        && wanted
+            .iter()
+            .zip(units)
+            .all(|(wanted, unit)| wanted == unit || *wanted == [b'#', 0] && unit[1] == 0 && unit[0].is_ascii_hexdigit())
+}
+
 /// How a search compares a name.
 #[derive(Clone, Copy)]
 pub enum Compare {
