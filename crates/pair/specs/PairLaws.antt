@@ -96,12 +96,6 @@ module _ (nv vol : Bytes) (v : Variable) where
   pub lookup-nv : (at len : ℕ) → placeOf true nv v ≡ At at len → lookup nv vol v ≡ some (part at (at + len) nv)
   lookup-nv at len f = lookup-either ∙ rw (find-at true nv v at len f)
 
-  pub lookup-vol : (at len : ℕ) → placeOf true nv v ≡ Absent → placeOf false vol v ≡ At at len → lookup nv vol v ≡ some (part at (at + len) vol)
-  lookup-vol at len f g = lookup-either ∙ rw (find-absent true nv v f, find-at false vol v at len g)
-
-  pub lookup-none : placeOf true nv v ≡ Absent → placeOf false vol v ≡ Absent → lookup nv vol v ≡ none
-  lookup-none f g = lookup-either ∙ rw (find-absent true nv v f, find-absent false vol v g)
-
   -- the record that is found: it is of the variable, and its NV bit tells its store
   module _ (r : Bytes) (e : lookup nv vol v ≡ some r) where
     pub record Looked : Type 0 where

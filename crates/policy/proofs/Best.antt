@@ -25,10 +25,6 @@ use Rattle.policy.specs.Choice.{beats, better, choiceFrom, choiceOf}
 use Rattle.policy.specs.Best.{asChoice}
 use Rattle.policy.proofs.Walk.{At, begins, entry-length, split, behind}
 
-pub asChoice-none : (b i at : ℕ) → b ≡ 66 → Nothing ≡ asChoice b i at
-unfolding asChoice
-asChoice-none b i at e = rw (eq-eqb b 66 e)
-
 pub asChoice-some : (b i at : ℕ) → (b ≡ 66 → ⊥) → Chosen i at b ≡ asChoice b i at
 unfolding asChoice
 asChoice-some b i at e = rw (ne-eqb b 66 e)

@@ -42,9 +42,6 @@ module _ {P : Bytes → Type 0} where
   pub all-here : (c : Bytes) (cs : List Bytes) → All P (c ∷ cs) → P c
   all-here c cs (more h a) = h
 
-  pub all-behind : (c : Bytes) (cs : List Bytes) → All P (c ∷ cs) → All P cs
-  all-behind c cs (more h a) = a
-
   pub all-map : {Q : Bytes → Type 0} → ((c : Bytes) → P c → Q c) → (cs : List Bytes) → All P cs → All Q cs
   all-map f [] nil = nil
   all-map f (c ∷ cs) (more h a) = more (f c h) (all-map f cs a)

@@ -8,10 +8,6 @@ use lib.Seq.{length-take-le, take-at, drop-at, take-append-le, take-take, drop-d
 use Rattle.slices.specs.Bytes.{Bytes, overwrite}
 use Rattle.slices.specs.PartLaws.{drop-take}
 
-pub length-overwrite : (d : Bytes) (at : ℕ) (w : Bytes) → at + length w ≤ length d → length (overwrite d at w) ≡ length d
-unfolding overwrite
-length-overwrite d at w h = simp (length-append, length-take, length-drop) (omega arith)
-
 -- nothing written
 pub overwrite-none : (s : Bytes) (at : ℕ) → s ≡ overwrite s at []
 unfolding overwrite

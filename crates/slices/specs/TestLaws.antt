@@ -43,11 +43,7 @@ unfolding _and_
 and-eager true b = refl
 and-eager false b = refl
 
--- a test is true if its being false would make the whole false, and false if its being true would
-pub forced : (b : Bool) → (b ≡ false → false ≡ true) → b ≡ true
-forced true h = refl
-forced false h = h refl
-
+-- a test is false if its being true would be false
 pub forced-off : (b : Bool) → (b ≡ true → false ≡ true) → b ≡ false
 forced-off true h = sym (h refl)
 forced-off false h = refl

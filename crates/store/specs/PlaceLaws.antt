@@ -128,9 +128,6 @@ module _ (nonVolatile : Bool) (s : Bytes) (v : Variable) where
     pub find-at : find (isOf v) (recordsOf nonVolatile s) ≡ some (part at (at + len) s)
     find-at = split-at .found ∙ ap some (sym part-at)
 
-    pub isOf-at : isOf v (part at (at + len) s) ≡ true
-    isOf-at = ap (isOf v) part-at ∙ split-at .takes
-
     pub ok-at : recordOk nonVolatile (part at (at + len) s) ≡ true
     ok-at =
         let w = split-at in

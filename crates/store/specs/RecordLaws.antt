@@ -70,9 +70,6 @@ pub header-mark : (nonVolatile : Bool) (r : Bytes) → headerOk nonVolatile r �
 unfolding headerOk
 header-mark nonVolatile r e = and-left _ _ e
 
-pub size-fits : (n d : ℕ) → 32 + n + d ≤ recordSize n d
-size-fits n d = omega arith
-
 -- ---- the length of the record that begins a list
 module _ (nonVolatile : Bool) (l : Bytes) where
   abbrev size : ℕ
