@@ -35,16 +35,16 @@ module _ (nv vol : Bytes) (v : Variable) where
   payload-nothing p q r n e = (λ policy w. payload-refused nv vol v policy w n e, subst (PointsInto p q nv vol r) (sym e) tt)
 
   module _ (nonVolatile : Bool) (at len : ℕ) (e : readingOf nv vol v ≡ Stands (placeAt nonVolatile at len)) where
-    abbrev holds : Bytes
+    abbrev pub holds : Bytes
     holds = cond nonVolatile nv vol
 
-    placed : placeOf nonVolatile holds v ≡ At at len
+    pub placed : placeOf nonVolatile holds v ≡ At at len
     placed = place-of nonVolatile nv vol v at len (sym (stands-at nv vol v (placeAt nonVolatile at len) e))
 
-    pub payload-asks : (at + len ≤ length holds) × HeaderFits (part at (at + len) holds)
-    payload-asks = (record-within nonVolatile holds v at len placed, record-fits nonVolatile holds v at len placed)
+    pub record-asks : (at + len ≤ length holds) × HeaderFits (part at (at + len) holds)
+    record-asks = (record-within nonVolatile holds v at len placed, record-fits nonVolatile holds v at len placed)
 
-  payload-placed : (at len : ℕ) (nonVolatile : Bool) → payloadOf (part at (at + len) (cond nonVolatile nv vol)) ≡ payloadAt nv vol (placeAt nonVolatile at len)
+  pub payload-placed : (at len : ℕ) (nonVolatile : Bool) → payloadOf (part at (at + len) (cond nonVolatile nv vol)) ≡ payloadAt nv vol (placeAt nonVolatile at len)
   payload-placed at len true = refl
   payload-placed at len false = refl
 

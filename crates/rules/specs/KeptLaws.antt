@@ -17,87 +17,70 @@ use Rattle.rules.specs.Engine.{State, Call, powerOn, restart, register, 
 
 -- ---- what a call keeps
 
--- only a power-on and a set write a store
-abbrev pub KeepsStores : Call → Type 0
-KeepsStores (powerOn allowed) = ⊥
-KeepsStores (restart allowed) = Unit
-KeepsStores (register e) = Unit
-KeepsStores (dump buffer) = Unit
-KeepsStores lock = Unit
-KeepsStores disable = Unit
-KeepsStores query = Unit
-KeepsStores (read v) = Unit
-KeepsStores (set r) = ⊥
+-- the parts of the state that a call writes where it is done
+pub record Writes : Type 0 where
+  pub nv : Bool
+  pub vol : Bool
+  pub policy : Bool
+  pub switches : Bool
 
--- only a power-on, a restart and a registration write the policy record
-abbrev pub KeepsPolicy : Call → Type 0
-KeepsPolicy (powerOn allowed) = ⊥
-KeepsPolicy (restart allowed) = ⊥
-KeepsPolicy (register e) = ⊥
-KeepsPolicy (dump buffer) = Unit
-KeepsPolicy lock = Unit
-KeepsPolicy disable = Unit
-KeepsPolicy query = Unit
-KeepsPolicy (read v) = Unit
-KeepsPolicy (set r) = Unit
+abbrev these : Bool → Bool → Bool → Bool → Writes
+these nv vol policy switches = record { nv = nv; vol = vol; policy = policy; switches = switches }
 
--- only a power-on, a restart, lock and disable write the switches
-abbrev pub KeepsSwitches : Call → Type 0
-KeepsSwitches (powerOn allowed) = ⊥
-KeepsSwitches (restart allowed) = ⊥
-KeepsSwitches (register e) = Unit
-KeepsSwitches (dump buffer) = Unit
-KeepsSwitches lock = ⊥
-KeepsSwitches disable = ⊥
-KeepsSwitches query = Unit
-KeepsSwitches (read v) = Unit
-KeepsSwitches (set r) = Unit
+abbrev pub writes : Call → Writes
+writes (powerOn allowed) = these false true true true
+writes (restart allowed) = these false false true true
+writes (register e) = these false false true false
+writes (dump buffer) = these false false false false
+writes lock = these false false false true
+writes disable = these false false false true
+writes query = these false false false false
+writes (read v) = these false false false false
+writes (set r) = these true true false false
 
--- what the effect keeps, the call keeps, done or refused
-kept : {A : Type 0} (f : State → A) (s : State) (c : Call) → f (effect s c) ≡ f s → f (step s c .1) ≡ f s
+abbrev pub Unless : Bool → Type 0 → Type 0
+Unless true P = Unit
+Unless false P = P
+
+-- t has of s every part that is not written
+pub record Kept (w : Writes) (s t : State) : Type 0 where
+  pub nv : Unless (w .nv) (t .nv ≡ s .nv)
+  pub vol : Unless (w .vol) (t .vol ≡ s .vol)
+  pub policy : Unless (w .policy) (t .policy ≡ s .policy)
+  pub switches : Unless (w .switches) (t .switches ≡ s .switches)
+
+effect-kept : (s : State) (c : Call) → Kept (writes c) s (effect s c)
+effect-kept s (powerOn allowed) = record { nv = refl; vol = tt; policy = tt; switches = tt }
+effect-kept s (restart allowed) = record { nv = refl; vol = refl; policy = tt; switches = tt }
+effect-kept s (register e) = record { nv = refl; vol = refl; policy = tt; switches = refl }
+effect-kept s (dump buffer) = record { nv = refl; vol = refl; policy = refl; switches = refl }
+effect-kept s lock = record { nv = refl; vol = refl; policy = refl; switches = tt }
+effect-kept s disable = record { nv = refl; vol = refl; policy = refl; switches = tt }
+effect-kept s query = record { nv = refl; vol = refl; policy = refl; switches = refl }
+effect-kept s (read v) = record { nv = refl; vol = refl; policy = refl; switches = refl }
+effect-kept s (set r) = record { nv = tt; vol = tt; policy = refl; switches = refl }
+
+unless : (b : Bool) (P : Type 0) → P → Unless b P
+unless true P p = tt
+unless false P p = p
+
+same-kept : (w : Writes) (s : State) → Kept w s s
+same-kept w s =
+    record {
+      nv = unless (w .nv) (s .nv ≡ s .nv) refl;
+      vol = unless (w .vol) (s .vol ≡ s .vol) refl;
+      policy = unless (w .policy) (s .policy ≡ s .policy) refl;
+      switches = unless (w .switches) (s .switches ≡ s .switches) refl;
+    }
+
+-- EACH CALL KEEPS WHAT IT DOES NOT WRITE, done or refused
+pub kept : (s : State) (c : Call) → Kept (writes c) s (step s c .1)
 unfolding step
-kept f s c e = go (isSuccess (status s c))
+kept s c = go (isSuccess (status s c))
   where
-    go : (b : Bool) → f (cond b (effect s c) s) ≡ f s
-    go true = e
-    go false = refl
-
-pub stores-kept : (s : State) (c : Call) → KeepsStores c → (step s c .1 .nv ≡ s .nv) × (step s c .1 .vol ≡ s .vol)
-stores-kept s (powerOn allowed) k = absurd k
-stores-kept s (restart allowed) k = (kept (λ t. t .nv) s (restart allowed) refl, kept (λ t. t .vol) s (restart allowed) refl)
-stores-kept s (register e) k = (kept (λ t. t .nv) s (register e) refl, kept (λ t. t .vol) s (register e) refl)
-stores-kept s (dump buffer) k = (kept (λ t. t .nv) s (dump buffer) refl, kept (λ t. t .vol) s (dump buffer) refl)
-stores-kept s lock k = (kept (λ t. t .nv) s lock refl, kept (λ t. t .vol) s lock refl)
-stores-kept s disable k = (kept (λ t. t .nv) s disable refl, kept (λ t. t .vol) s disable refl)
-stores-kept s query k = (kept (λ t. t .nv) s query refl, kept (λ t. t .vol) s query refl)
-stores-kept s (read v) k = (kept (λ t. t .nv) s (read v) refl, kept (λ t. t .vol) s (read v) refl)
-stores-kept s (set r) k = absurd k
-
--- and a power-on keeps the non-volatile one
-pub power-on-keeps : (s : State) (allowed : Bool) → step s (powerOn allowed) .1 .nv ≡ s .nv
-power-on-keeps s allowed = kept (λ t. t .nv) s (powerOn allowed) refl
-
-pub policy-kept : (s : State) (c : Call) → KeepsPolicy c → step s c .1 .policy ≡ s .policy
-policy-kept s (powerOn allowed) k = absurd k
-policy-kept s (restart allowed) k = absurd k
-policy-kept s (register e) k = absurd k
-policy-kept s (dump buffer) k = kept (λ t. t .policy) s (dump buffer) refl
-policy-kept s lock k = kept (λ t. t .policy) s lock refl
-policy-kept s disable k = kept (λ t. t .policy) s disable refl
-policy-kept s query k = kept (λ t. t .policy) s query refl
-policy-kept s (read v) k = kept (λ t. t .policy) s (read v) refl
-policy-kept s (set r) k = kept (λ t. t .policy) s (set r) refl
-
-pub switches-kept : (s : State) (c : Call) → KeepsSwitches c → step s c .1 .switches ≡ s .switches
-switches-kept s (powerOn allowed) k = absurd k
-switches-kept s (restart allowed) k = absurd k
-switches-kept s (register e) k = kept (λ t. t .switches) s (register e) refl
-switches-kept s (dump buffer) k = kept (λ t. t .switches) s (dump buffer) refl
-switches-kept s lock k = absurd k
-switches-kept s disable k = absurd k
-switches-kept s query k = kept (λ t. t .switches) s query refl
-switches-kept s (read v) k = kept (λ t. t .switches) s (read v) refl
-switches-kept s (set r) k = kept (λ t. t .switches) s (set r) refl
+    go : (b : Bool) → Kept (writes c) s (cond b (effect s c) s)
+    go true = effect-kept s c
+    go false = same-kept (writes c) s
 
 -- ---- what a dump that is done leaves in its buffer: the entries, and behind them the bytes that were there
 pub dumped-buffer : (s : State) (buffer : Bytes) → isSuccess (status s (dump buffer)) ≡ true

@@ -26,7 +26,7 @@ use Rattle.engine.specs.Answers.{readingOf}
 use Rattle.engine.proofs.Readings.{stands-at, read-refused, read-stands, payload-refused, payload-stands}
 use Rattle.varpolicy.specs.declared.Found.{Found}
 use Rattle.varpolicy.specs.Exports.{numbered, foundNothing, foundAt, foundOf, FoundStep}
-use Rattle.engine.proofs.Payloads.{not-nowhere}
+use Rattle.engine.proofs.Payloads.{not-nowhere, holds, placed, payload-placed}
 use Rattle.engine.proofs.Places.{placeAt, place-of, record-within, record-fits, payload-within, payload-part, record-store}
 
 -- an answer, once each part of it is known
@@ -44,32 +44,25 @@ module _ (nv vol : Bytes) (at len : ℕ) where
   attributes-placed true = refl
   attributes-placed false = refl
 
-  payload-placed : (nonVolatile : Bool) → payloadOf (part at (at + len) (cond nonVolatile nv vol)) ≡ payloadAt nv vol (placeAt nonVolatile at len)
-  payload-placed true = refl
-  payload-placed false = refl
-
 module _ (nv vol : Bytes) (v : Variable) where
   -- the record that a read finds
   module _ (nonVolatile : Bool) (at len : ℕ) (e : readingOf nv vol v ≡ Stands (placeAt nonVolatile at len)) where
-    abbrev holds : Bytes
-    holds = cond nonVolatile nv vol
+    abbrev store : Bytes
+    store = holds nv vol v nonVolatile at len e
 
-    placed : placeOf nonVolatile holds v ≡ At at len
-    placed = place-of nonVolatile nv vol v at len (sym (stands-at nv vol v (placeAt nonVolatile at len) e))
+    abbrev here : placeOf nonVolatile store v ≡ At at len
+    here = placed nv vol v nonVolatile at len e
 
-    pub found-asks : (at + len ≤ length holds) × HeaderFits (part at (at + len) holds)
-    found-asks = (record-within nonVolatile holds v at len placed, record-fits nonVolatile holds v at len placed)
-
-    found-step : (policy : Bytes) (w : Switches) → FoundStep (stateOf nv vol policy w) v (foundAt holds nonVolatile at len)
+    found-step : (policy : Bytes) (w : Switches) → FoundStep (stateOf nv vol policy w) v (foundAt store nonVolatile at len)
     found-step policy w =
         let s = stateOf nv vol policy w in
         let p = placeAt nonVolatile at len in
         let a = read-stands nv vol v policy w p e (attributes-placed nv vol at len nonVolatile) in
-        let b = payload-stands nv vol v policy w p e (payload-part nonVolatile holds v at len placed ∙ payload-placed nv vol at len nonVolatile) in
+        let b = payload-stands nv vol v policy w p e (payload-part nonVolatile store v at len here ∙ payload-placed nv vol v at len nonVolatile) in
         record {
-          itsAnswer = parts-numbered Success (attributesOf (part at (at + len) holds)) _ (a .itsStatus) (a .itsAttributes) b (read-switches s v) (a .itsState);
-          itsStore = record-store nonVolatile holds v at len placed;
-          itsPlace = payload-within nonVolatile holds v at len placed;
+          itsAnswer = parts-numbered Success (attributesOf (part at (at + len) store)) _ (a .itsStatus) (a .itsAttributes) b (read-switches s v) (a .itsState);
+          itsStore = record-store nonVolatile store v at len here;
+          itsPlace = payload-within nonVolatile store v at len here;
         }
 
   nothing-step : (n : Status) → readingOf nv vol v ≡ Refused n → (policy : Bytes) (w : Switches) → FoundStep (stateOf nv vol policy w) v (foundNothing (statusNumber n))

@@ -2,7 +2,7 @@
 use mathlib.Core.Path.{sym, ap, _∙_}
 use mathlib.Core.Bool.{true, false}
 use Rattle.engine.specs.declared.Reading.the-variants.{Stands}
-use Rattle.engine.proofs.Payloads.{payload-asks, payload-nothing, payload-found, not-nowhere}
+use Rattle.engine.proofs.Payloads.{record-asks, payload-nothing, payload-found, not-nowhere}
 use borrow.Author.Needs.{needs}
 use Rattle.engine.proofs.payload.Statement.{statement}
 use Rattle.engine.proofs.payload.Tie as tie
@@ -26,13 +26,13 @@ enum-known-place : tie.Need-enum-known-place
 enum-known-place c = search needs
 
 payload-of-requires : tie.Need-payload-of-requires
-payload-of-requires c κs = payload-asks _ _ _ true _ _ (sym (c .before .before .before .before .before .before .look-up .ensures) ∙ c .before .before .before .before .reading .given .1 ∙ ap Stands (c .before .place .given .1))
+payload-of-requires c κs = record-asks _ _ _ true _ _ (sym (c .before .before .before .before .before .before .look-up .ensures) ∙ c .before .before .before .before .reading .given .1 ∙ ap Stands (c .before .place .given .1))
 
 enum-known-place-2 : tie.Need-enum-known-place-2
 enum-known-place-2 c = search needs
 
 payload-of-requires-2 : tie.Need-payload-of-requires-2
-payload-of-requires-2 c κs = payload-asks _ _ _ false _ _ (sym (c .before .before .before .before .before .before .look-up .ensures) ∙ c .before .before .before .before .reading .given .1 ∙ ap Stands (c .before .place2 .given .1))
+payload-of-requires-2 c κs = record-asks _ _ _ false _ _ (sym (c .before .before .before .before .before .before .look-up .ensures) ∙ c .before .before .before .before .reading .given .1 ∙ ap Stands (c .before .place2 .given .1))
 
 enum-told-2 : tie.Need-enum-told-2
 enum-told-2 c = search needs

@@ -4,7 +4,8 @@ use mathlib.Core.Bool.{true, false}
 use borrow.Author.Needs.{needs}
 use Rattle.variables.specs.declared.Place.the-variants.{NonVolatile, Volatile, Nowhere}
 use Rattle.engine.specs.declared.Reading.the-variants.{Refused, Stands}
-use Rattle.varpolicy.proofs.Readings.{found-asks, read-found}
+use Rattle.varpolicy.proofs.Readings.{read-found}
+use Rattle.engine.proofs.Payloads.{record-asks}
 use Rattle.varpolicy.proofs.varpolicy_read.Statement.{statement}
 use Rattle.varpolicy.proofs.varpolicy_read.Tie as tie
 
@@ -25,7 +26,7 @@ enum-known-place c = search needs
 
 found-at-requires : tie.Need-found-at-requires
 found-at-requires c κs =
-    found-asks _ _ _ true _ _
+    record-asks _ _ _ true _ _
     (sym (c .before .before .before .before .before .before .look-up .ensures) ∙ c .before .before .before .before .reading2 .given .1 ∙ ap Stands (c .before .place .given .1))
 
 enum-known-place-2 : tie.Need-enum-known-place-2
@@ -33,7 +34,7 @@ enum-known-place-2 c = search needs
 
 found-at-requires-2 : tie.Need-found-at-requires-2
 found-at-requires-2 c κs =
-    found-asks _ _ _ false _ _
+    record-asks _ _ _ false _ _
     (sym (c .before .before .before .before .before .before .look-up .ensures) ∙ c .before .before .before .before .reading2 .given .1 ∙ ap Stands (c .before .place2 .given .1))
 
 enum-told : tie.Need-enum-told
