@@ -3,6 +3,7 @@ use mathlib.Core.Path.{_≡_}
 use mathlib.Core.List.{List, [], _∷_, _++_}
 use mathlib.Core.Bool.{Bool, true, false, _||_}
 use mathlib.Core.Option.{Option, none, some}
+use mathlib.Core.Logic.{_⊎_}
 use Prim.Native.Nat.{ℕ}
 use lib.ListN.{length, drop}
 use lib.Dec.{ltb}
@@ -12,6 +13,11 @@ module _ {A : Type 0} where
   abbrev pub All : (A → Type 0) → List A → Type 0
   All P [] = Unit
   All P (a ∷ l) = P a × All P l
+
+  -- a stands in the list
+  abbrev pub Among : A → List A → Type 0
+  Among a [] = ⊥
+  Among a (x ∷ l) = (a ≡ x) ⊎ Among a l
 
   -- of each two, the earlier first
   abbrev pub Pairs : (A → A → Type 0) → List A → Type 0

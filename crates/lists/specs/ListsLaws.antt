@@ -10,7 +10,7 @@ use native.Mathlib.Omega.{arith}
 use lib.ListN.{length, length-append}
 use lib.Seq.{drop-append-seam}
 use lib.Dec.{ltb, T, ltb→lt, nltb→le}
-use Rattle.lists.specs.Lists.{All, Pairs, any, flat, over, lower, better, best, chosen, RanksDiffer}
+use Rattle.lists.specs.Lists.{All, Among, Pairs, any, flat, over, lower, better, best, chosen, RanksDiffer}
 
 or-left-comm : (x y z : Bool) → (x || (y || z)) ≡ (y || (x || z))
 or-left-comm true true z = refl
@@ -35,6 +35,26 @@ module _ {A : Type 0} where
   pub all-right : (P : A → Type 0) (l m : List A) → All P (l ++ m) → All P m
   all-right P [] m h = h
   all-right P (x ∷ l) m h = all-right P l m (h .1)
+
+  -- and of each that stands in the list
+  pub all-among : (P : A → Type 0) (l : List A) → All P l → (a : A) → Among a l → P a
+  all-among P (x ∷ l) h a (inl e) = subst⁻¹ P e (h .0)
+  all-among P (x ∷ l) h a (inr k) = all-among P l (h .1) a k
+
+  pub among-all : (P : A → Type 0) (l : List A) → ((a : A) → Among a l → P a) → All P l
+  among-all P [] h = tt
+  among-all P (x ∷ l) h = (h x (inl refl), among-all P l (λ a k. h a (inr k)))
+
+  pub among-left : (l m : List A) (a : A) → Among a l → Among a (l ++ m)
+  among-left (x ∷ l) m a (inl e) = inl e
+  among-left (x ∷ l) m a (inr k) = inr (among-left l m a k)
+
+  pub among-right : (l m : List A) (a : A) → Among a m → Among a (l ++ m)
+  among-right [] m a k = k
+  among-right (x ∷ l) m a k = inr (among-right l m a k)
+
+  pub among-middle : (l : List A) (a : A) (m : List A) → Among a (l ++ (a ∷ m))
+  among-middle l a m = among-right l (a ∷ m) a (inl refl)
 
   -- each two: one more behind the others, those in front of a place, and those before it against it
   pub pairs-snoc : (R : A → A → Type 0) (l : List A) (a : A) → Pairs R l → All (λ x. R x a) l → Pairs R (l ++ (a ∷ []))

@@ -2,21 +2,24 @@
 use Prim.Native.Nat.{ℕ, zero, suc, _+_, _-_, _*_, _/_, _%_, _≤_, _<_}
 use mathlib.Core.Path.{_≡_, refl, sym, ap, ap₂, _∙_}
 use mathlib.Core.List.{List, [], _∷_, _++_}
-use mathlib.Core.Bool.{Bool, true, false, not, _&&_}
+use mathlib.Core.Bool.{Bool, true, false, not, _||_, _&&_, false≢true}
+use mathlib.Core.Logic.{_↔_, inl, inr}
 use native.Mathlib.Omega.{arith}
 use native.Mathlib.Nat.{add-zero}
 use native.Mathlib.Numerals.{add-one}
 use lib.ListN.{length, getD, take, drop, drop-of-length-le, length-append, length-drop, length-take, take-append-drop}
 use lib.Seq.{drop-cons, getD-append-add, getD-append-seam, take-append-seam}
-use lib.Dec.{eqb}
-use borrow.Author.Tests.{eq-eqb, ne-eqb, le-leb, leb-true, eqb-true}
+use lib.Dec.{eqb, leb}
+use borrow.Author.Tests.{eq-eqb, ne-eqb, le-leb, leb-true, eqb-true, eqb-false}
 use Rattle.limits.specs.Limits.{maxNameBytes, namespaceBytes}
+use Rattle.lists.specs.Lists.{All, Among}
+use Rattle.lists.specs.ListsLaws.{all-among, among-left, among-right}
 use Rattle.slices.specs.Test.{_and_}
 use Rattle.slices.specs.TestLaws.{and-left, and-right, and-intro, and-assoc, and-eager}
 use Rattle.slices.specs.Bytes.{Bytes, le16, pairwise}
 use Rattle.slices.specs.BytesLaws.{pairwise-refl, pairwise-hit, same-eq}
 use Rattle.slices.specs.PartLaws.{drop-step, getD-middle}
-use Rattle.names.specs.Name.{units, noZero, isName, isTerminated, Variable, named, unitMatches, wildcards, numberSign, oneIf}
+use Rattle.names.specs.Name.{units, noZero, isName, isTerminated, Variable, named, isHexDigit, unitMatches, wildcards, numberSign, oneIf}
 
 pub units-length : (s : Bytes) → length (units s) ≡ length s / 2
 unfolding units
@@ -169,6 +172,54 @@ unitMatches-same u w e = rw (eq-eqb u w e)
 pub matches-refl : (us : List ℕ) → pairwise unitMatches us us ≡ true
 unfolding unitMatches
 matches-refl = pairwise-refl unitMatches (λ u. unitMatches-same u u refl)
+
+-- ---- which units are hex digits
+
+-- the 22 of them: 0-9, A-F, a-f
+abbrev pub hexDigits : List ℕ
+hexDigits =
+    0x30 ∷ 0x31 ∷ 0x32 ∷ 0x33 ∷ 0x34 ∷ 0x35 ∷ 0x36 ∷ 0x37 ∷ 0x38 ∷ 0x39
+    ∷ 0x41 ∷ 0x42 ∷ 0x43 ∷ 0x44 ∷ 0x45 ∷ 0x46
+    ∷ 0x61 ∷ 0x62 ∷ 0x63 ∷ 0x64 ∷ 0x65 ∷ 0x66 ∷ []
+
+-- n numbers from a on
+abbrev run : ℕ → ℕ → List ℕ
+run zero a = []
+run (suc n) a = a ∷ run n (suc a)
+
+in-run : (n a u : ℕ) → a ≤ u → u < a + n → Among u (run n a)
+in-run zero a u h k = absurd (omega arith)
+in-run (suc n) a u h k = go (eqb u a) refl (in-run n (suc a) u)
+  where
+    go : (b : Bool) → eqb u a ≡ b → (suc a ≤ u → u < suc a + n → Among u (run n (suc a))) → Among u (a ∷ run n (suc a))
+    go true e f = inl (eqb-true u a e)
+    go false e f = let d = eqb-false u a e in inr (f (omega arith) (omega arith))
+
+in-range : (a b n u : ℕ) → suc b ≡ a + n → (leb a u and leb u b) ≡ true → Among u (run n a)
+in-range a b n u e t =
+    let low = leb-true a u (and-left _ _ t) in
+    let high = leb-true u b (and-right (leb a u) (leb u b) t) in
+    in-run n a u low (omega arith)
+
+in-ranges : (u : ℕ) (p q r : Bool) → (p || (q || r)) ≡ true → (p ≡ true → Among u (run 10 0x30)) → (q ≡ true → Among u (run 6 0x41))
+    → (r ≡ true → Among u (run 6 0x61)) → Among u hexDigits
+in-ranges u true q r e f g h = among-left (run 10 0x30) (run 6 0x41 ++ run 6 0x61) u (f refl)
+in-ranges u false true r e f g h = among-right (run 10 0x30) (run 6 0x41 ++ run 6 0x61) u (among-left (run 6 0x41) (run 6 0x61) u (g refl))
+in-ranges u false false true e f g h = among-right (run 10 0x30) (run 6 0x41 ++ run 6 0x61) u (among-right (run 6 0x41) (run 6 0x61) u (h refl))
+in-ranges u false false false e f g h = absurd (false≢true e)
+
+all-hex : All (λ x. isHexDigit x ≡ true) hexDigits
+unfolding isHexDigit _and_
+all-hex = (refl, (refl, (refl, (refl, (refl, (refl, (refl, (refl, (refl, (refl, (refl, (refl, (refl, (refl, (refl, (refl, (refl, (refl, (refl, (refl, (refl, (refl, tt))))))))))))))))))))))
+
+-- EXACTLY THE 22 UNITS ARE HEX DIGITS
+pub hex-digits : (u : ℕ) → isHexDigit u ≡ true ↔ Among u hexDigits
+unfolding isHexDigit
+hex-digits u = (
+  (λ e. in-ranges u (leb 0x30 u and leb u 0x39) (leb 0x41 u and leb u 0x46) (leb 0x61 u and leb u 0x66) e
+      (in-range 0x30 0x39 10 u refl) (in-range 0x41 0x46 6 u refl) (in-range 0x61 0x66 6 u refl)),
+  all-among (λ x. isHexDigit x ≡ true) hexDigits all-hex u,
+)
 
 -- r is the comparison of the eight bytes of the four units from k on: equal units match
 module _ {r : Bool} (p v : Bytes) (k : ℕ) (h : k + 4 ≤ length (units p)) (g : k + 4 ≤ length (units v)) (e : r ≡ pairwise eqb (take 8 (drop (2 * k) p)) (take 8 (drop (2 * k) v)))

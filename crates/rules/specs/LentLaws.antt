@@ -62,7 +62,7 @@ abbrev pub sumOfSizes : List Bytes → ℕ
 sumOfSizes [] = 0
 sumOfSizes (e ∷ es) = sizeField e + sumOfSizes es
 
-sizes-sum : (es : List Bytes) → All WellFormed es → length (flat es) ≡ sumOfSizes es
+pub sizes-sum : (es : List Bytes) → All WellFormed es → length (flat es) ≡ sumOfSizes es
 unfolding flat
 sizes-sum [] nil = refl
 sizes-sum (e ∷ es) (more h a) = length-append e (flat es) ∙ ap₂ _+_ (sym (sized e h .stated)) (sizes-sum es a)

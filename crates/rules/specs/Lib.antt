@@ -4,5 +4,11 @@ pub mod Engine
 pub mod EngineLaws
 pub mod LentLaws
 pub mod KeptLaws
+pub mod Grounds
+pub mod ConditionLaws
+pub mod FoundLaws
+pub mod OrderedLaws
+pub mod SetGroundsLaws
+pub mod GroundsLaws
 pub mod StateLaws
 pub mod Readings

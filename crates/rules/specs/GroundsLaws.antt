@@ -1,0 +1,451 @@
+-- The computed status and the grounds of Grounds.antt agree, both ways, for every state and call. Assumes nothing.
+use Prim.Native.Nat.{ℕ, suc, _+_, _≤_, _<_}
+use mathlib.Core.Path.{_≡_, refl, sym, ap, ap₂, subst, subst⁻¹, _∙_}
+use mathlib.Core.List.{List, [], _∷_}
+use mathlib.Core.Bool.{Bool, true, false, not, _||_, cond, or-true, true≢false, false≢true}
+use mathlib.Core.Option.{Option, none, some}
+use mathlib.Core.Logic.{_⊎_, inl, inr, _↔_}
+use native.Mathlib.Omega.{arith}
+use lib.ListN.{length}
+use lib.Dec.{eqb, leb, ltb}
+use borrow.Author.Tests.{not-true, not-false}
+use Rattle.limits.specs.Limits.{maxEntries, policyBytes, maxStore}
+use Rattle.lists.specs.Lists.{Among}
+use Rattle.lists.specs.ListsLaws.{Less, less}
+use Rattle.slices.specs.Test.{_and_}
+use Rattle.slices.specs.Bytes.{Bytes}
+use Rattle.slices.specs.Chunks.{flat, contains}
+use Rattle.names.specs.Name.{Variable, named}
+use Rattle.pair.specs.Pair.{sound, soundAlone, lookup}
+use Rattle.entry.specs.Entry.{sizeField, wellFormed, sameTarget}
+use Rattle.entry.specs.EntryLaws.{sized, sameTarget-same, sameTarget-of}
+use Rattle.policy.specs.Policy.{entriesOf, policyValid}
+use Rattle.policy.specs.PolicyLaws as policy
+use Rattle.policy.specs.PolicyLaws.{entriesOf-formed}
+use Rattle.status.specs.declared.Status.{Status}
+use Rattle.status.specs.declared.Status.the-variants.{Success, InvalidParameter, Unsupported, BufferTooSmall, WriteProtected, OutOfResources, VolumeCorrupted, NotFound, AlreadyStarted}
+use Rattle.status.specs.Status.{isSuccess}
+use Rattle.rules.specs.Set.{Request, exists}
+use Rattle.rules.specs.LentLaws.{sumOfSizes, sizes-sum}
+use Rattle.rules.specs.Engine.{State, Call, powerOnStatus, restartStatus, registerStatus, dumpStatus, readStatus, status, step}
+use Rattle.rules.specs.EngineLaws.{step-status}
+use Rattle.rules.specs.Engine.Call.{powerOn, restart, register, dump, lock, disable, query, read, set}
+use Rattle.rules.specs.Grounds.{Entries, SoundStores, Applies, Answers, Refused}
+use Rattle.rules.specs.Grounds.Applies.{powerOnStore, powerOnLength, powerOnRecord, powerOnDone, restartStores, restartRecord, restartDone}
+use Rattle.rules.specs.Grounds.Applies.{registerRecord, registerLocked, registerMalformed, registerRepeated, registerCount, registerSum, registerDone, dumpRecord, dumpShort, dumpDone}
+use Rattle.rules.specs.Grounds.Applies.{lockLocked, lockDone, disableDisabled, disableLocked, disableNotAllowed, disableDone, queryDone, readStores, readName, readAbsent, readDone}
+use Rattle.rules.specs.ConditionLaws.{Tells, tells-not, tells-eq, tells-le, tells-lt, tells-off, tells-named}
+use Rattle.rules.specs.FoundLaws.{tells-sound, tells-alone, tells-entries, tells-exists, among-contains, contains-among}
+use Rattle.rules.specs.Grounds.Applies.{setStores, setRecord, setName, setPayload, setBit, setRuntime, setAppend, setShort, setLong, setMissing, setProhibited, setLocked}
+use Rattle.rules.specs.Grounds.Applies.{setAbsent, setDeleted, setOther, setNothing, setJoined, setFullNV, setFullVol, setDone}
+use Rattle.rules.specs.SetGroundsLaws.{set-answers}
+use Rattle.rules.specs.OrderedLaws.{Row, row, firstOf, NoneBefore, Grounds, NoGrounds, first-answers}
+
+-- ---- power-on and restart
+
+power-on-chain : (a b c : Bool) → cond (a and b and c) Success VolumeCorrupted
+    ≡ firstOf (row 0 (not a) VolumeCorrupted ∷ row 0 (not b) VolumeCorrupted ∷ row 0 (not c) VolumeCorrupted ∷ row 1 true Success ∷ [])
+unfolding _and_
+power-on-chain false b c = refl
+power-on-chain true false c = refl
+power-on-chain true true false = refl
+power-on-chain true true true = refl
+
+module _ (s : State) (allowed : Bool) where
+  abbrev power-on-rows : List Row
+  power-on-rows =
+      row 0 (not (soundAlone (s .nv))) VolumeCorrupted ∷ row 0 (not (leb (length (s .vol)) maxStore)) VolumeCorrupted
+      ∷ row 0 (not (eqb (length (s .policy)) policyBytes)) VolumeCorrupted ∷ row 1 true Success ∷ []
+
+  power-on-grounds : Grounds s (powerOn allowed) power-on-rows power-on-rows
+  power-on-grounds = (
+    (λ n t. powerOnStore (tells-not _ (tells-alone (s .nv)) .0 t)),
+    (
+      (λ n t. powerOnLength (let h = tells-not _ (tells-le (length (s .vol)) maxStore) .0 t in omega arith)),
+      (
+        (λ n t. powerOnRecord (tells-not _ (tells-eq (length (s .policy)) policyBytes) .0 t)),
+        ((λ n t. powerOnDone), tt),
+      ),
+    ),
+  )
+
+  no-power-on : NoGrounds s (powerOn allowed) power-on-rows
+  no-power-on p n k m l (powerOnStore h) = tells-off _ (tells-not _ (tells-alone (s .nv))) (n 0 l) h
+  no-power-on p n k m l (powerOnLength h) = tells-off _ (tells-not _ (tells-le (length (s .vol)) maxStore)) (n 1 l) (λ g. omega arith)
+  no-power-on p n k m l (powerOnRecord h) = tells-off _ (tells-not _ (tells-eq (length (s .policy)) policyBytes)) (n 2 l) h
+  no-power-on p n k m l powerOnDone = true≢false (n 3 l)
+
+  power-on-answers : Answers s (powerOn allowed) (status s (powerOn allowed))
+  unfolding powerOnStatus _and_
+  power-on-answers =
+      first-answers s (powerOn allowed) power-on-rows refl refl (power-on-chain (soundAlone (s .nv)) (leb (length (s .vol)) maxStore) (eqb (length (s .policy)) policyBytes)) power-on-grounds no-power-on
+
+restart-chain : (a b : Bool) → cond (a and b) Success VolumeCorrupted ≡ firstOf (row 0 (not a) VolumeCorrupted ∷ row 0 (not b) VolumeCorrupted ∷ row 1 true Success ∷ [])
+unfolding _and_
+restart-chain false b = refl
+restart-chain true false = refl
+restart-chain true true = refl
+
+module _ (s : State) (allowed : Bool) where
+  abbrev restart-rows : List Row
+  restart-rows = row 0 (not (sound (s .nv) (s .vol))) VolumeCorrupted ∷ row 0 (not (eqb (length (s .policy)) policyBytes)) VolumeCorrupted ∷ row 1 true Success ∷ []
+
+  restart-grounds : Grounds s (restart allowed) restart-rows restart-rows
+  restart-grounds = (
+    (λ n t. restartStores (tells-not _ (tells-sound (s .nv) (s .vol)) .0 t)),
+    ((λ n t. restartRecord (tells-not _ (tells-eq (length (s .policy)) policyBytes) .0 t)), ((λ n t. restartDone), tt)),
+  )
+
+  no-restart : NoGrounds s (restart allowed) restart-rows
+  no-restart p n k m l (restartStores h) = tells-off _ (tells-not _ (tells-sound (s .nv) (s .vol))) (n 0 l) h
+  no-restart p n k m l (restartRecord h) = tells-off _ (tells-not _ (tells-eq (length (s .policy)) policyBytes)) (n 1 l) h
+  no-restart p n k m l restartDone = true≢false (n 2 l)
+
+  restart-answers : Answers s (restart allowed) (status s (restart allowed))
+  unfolding restartStatus _and_
+  restart-answers =
+      first-answers s (restart allowed) restart-rows refl refl (restart-chain (sound (s .nv) (s .vol)) (eqb (length (s .policy)) policyBytes)) restart-grounds no-restart
+
+-- ---- register
+
+register-chain : (v l w r a b : Bool)
+    → cond v (cond l WriteProtected (cond (not w) InvalidParameter (cond r AlreadyStarted (cond (a and b) Success OutOfResources)))) VolumeCorrupted
+    ≡ firstOf (row 0 (not v) VolumeCorrupted ∷ row 1 l WriteProtected ∷ row 2 (not w) InvalidParameter ∷ row 3 r AlreadyStarted
+    ∷ row 4 (not a) OutOfResources ∷ row 4 (not b) OutOfResources ∷ row 5 true Success ∷ [])
+unfolding _and_
+register-chain false l w r a b = refl
+register-chain true true w r a b = refl
+register-chain true false false r a b = refl
+register-chain true false true true a b = refl
+register-chain true false true false false b = refl
+register-chain true false true false true false = refl
+register-chain true false true false true true = refl
+
+module _ (s : State) (e : Bytes) where
+  abbrev es : List Bytes
+  es = entriesOf (s .policy)
+
+  abbrev register-rows : List Row
+  register-rows =
+      row 0 (not (policyValid (s .policy))) VolumeCorrupted ∷ row 1 (s .switches .locked) WriteProtected ∷ row 2 (not (wellFormed e)) InvalidParameter
+      ∷ row 3 (contains (sameTarget e) es) AlreadyStarted ∷ row 4 (not (leb (suc (length es)) maxEntries)) OutOfResources
+      ∷ row 4 (not (leb (length (flat es) + length e) policyBytes)) OutOfResources ∷ row 5 true Success ∷ []
+
+  -- the record is valid, and the entry well formed, where the tests before have failed
+  module _ (p : ℕ) (n : NoneBefore register-rows p) where
+    register-listed : 0 < p → Entries s es
+    register-listed l = policy.policy-entries (s .policy) (not-false _ (n 0 l))
+
+    register-formed : 2 < p → wellFormed e ≡ true
+    register-formed l = not-false _ (n 2 l)
+
+    register-sum : 2 < p → length (flat es) + length e ≡ sumOfSizes es + sizeField e
+    register-sum l = ap₂ _+_ (sizes-sum es (entriesOf-formed (s .policy))) (sym (sized e (register-formed l) .stated))
+
+  register-grounds : Grounds s (register e) register-rows register-rows
+  register-grounds = (
+    (λ n t. registerRecord (λ x k. tells-not _ (tells-entries s) .0 t (x, k))),
+    (
+      (λ n t. registerLocked t),
+      (
+        (λ n t. registerMalformed (λ h. false≢true (sym (not-true _ t) ∙ h))),
+        (
+          (λ n t.
+              let w = contains-among (sameTarget e) es t in
+              let q = sameTarget-same e (w .0) (w .2) in
+              registerRepeated es (w .0) (register-listed 3 n (omega arith)) (w .1) (q .namespace) (q .name)),
+          (
+            (λ n t.
+                let h = tells-not _ (tells-le (suc (length es)) maxEntries) .0 t in
+                registerCount es (register-listed 4 n (omega arith)) (omega arith)),
+            (
+              (λ n t.
+                  let h = tells-not _ (tells-le (length (flat es) + length e) policyBytes) .0 t in
+                  registerSum {e = e} es (register-listed 4 n (omega arith)) (let q = register-sum 4 n (omega arith) in omega arith)),
+              ((λ n t. registerDone), tt),
+            ),
+          ),
+        ),
+      ),
+    ),
+  )
+
+  no-register : NoGrounds s (register e) register-rows
+  no-register p n k m l (registerRecord h) = h es (register-listed p n l)
+  no-register p n k m l (registerLocked h) = true≢false (sym h ∙ n 1 l)
+  no-register p n k m l (registerMalformed h) = h (register-formed p n l)
+  no-register p n k m l (registerRepeated xs f w j g i) =
+      let o = subst⁻¹ (Among f) (policy.packs-only xs (s .policy) w) j in
+      true≢false (sym (among-contains (sameTarget e) es f o (sameTarget-of e f (record { namespace = g; name = i }))) ∙ n 3 l)
+  no-register p n k m l (registerCount xs w h) =
+      let o = ap length (policy.packs-only xs (s .policy) w) in
+      tells-off _ (tells-not _ (tells-le (suc (length es)) maxEntries)) (n 4 l) (λ g. omega arith)
+  no-register p n k m l (registerSum xs w h) =
+      let o = ap sumOfSizes (policy.packs-only xs (s .policy) w) in
+      let q = register-sum p n (omega arith) in
+      tells-off _ (tells-not _ (tells-le (length (flat es) + length e) policyBytes)) (n 5 l) (λ g. omega arith)
+  no-register p n k m l registerDone = true≢false (n 6 l)
+
+  register-answers : Answers s (register e) (status s (register e))
+  unfolding registerStatus _and_
+  register-answers =
+      first-answers s (register e) register-rows refl refl
+      (register-chain (policyValid (s .policy)) (s .switches .locked) (wellFormed e) (contains (sameTarget e) es) (leb (suc (length es)) maxEntries) (leb (length (flat es) + length e) policyBytes))
+      register-grounds no-register
+
+-- ---- dump
+
+dump-chain : (v f : Bool) → cond v (cond f Success BufferTooSmall) VolumeCorrupted ≡ firstOf (row 0 (not v) VolumeCorrupted ∷ row 1 (not f) BufferTooSmall ∷ row 2 true Success ∷ [])
+dump-chain false f = refl
+dump-chain true false = refl
+dump-chain true true = refl
+
+module _ (s : State) (buffer : Bytes) where
+  abbrev listed : List Bytes
+  listed = entriesOf (s .policy)
+
+  abbrev dump-rows : List Row
+  dump-rows = row 0 (not (policyValid (s .policy))) VolumeCorrupted ∷ row 1 (not (leb (length (flat listed)) (length buffer))) BufferTooSmall ∷ row 2 true Success ∷ []
+
+  dump-sum : length (flat listed) ≡ sumOfSizes listed
+  dump-sum = sizes-sum listed (entriesOf-formed (s .policy))
+
+  dump-grounds : Grounds s (dump buffer) dump-rows dump-rows
+  dump-grounds = (
+    (λ n t. dumpRecord (λ x k. tells-not _ (tells-entries s) .0 t (x, k))),
+    (
+      (λ n t.
+          let h = tells-not _ (tells-le (length (flat listed)) (length buffer)) .0 t in
+          dumpShort {buffer = buffer} listed (policy.policy-entries (s .policy) (not-false _ (n 0 (omega arith)))) (let q = dump-sum in omega arith)),
+      ((λ n t. dumpDone), tt),
+    ),
+  )
+
+  no-dump : NoGrounds s (dump buffer) dump-rows
+  no-dump p n k m l (dumpRecord h) = h listed (policy.policy-entries (s .policy) (not-false _ (n 0 l)))
+  no-dump p n k m l (dumpShort xs w h) =
+      let o = ap sumOfSizes (policy.packs-only xs (s .policy) w) in
+      let q = dump-sum in
+      tells-off _ (tells-not _ (tells-le (length (flat listed)) (length buffer))) (n 1 l) (λ g. omega arith)
+  no-dump p n k m l dumpDone = true≢false (n 2 l)
+
+  dump-answers : Answers s (dump buffer) (status s (dump buffer))
+  unfolding dumpStatus _and_
+  dump-answers = first-answers s (dump buffer) dump-rows refl refl (dump-chain (policyValid (s .policy)) (leb (length (flat listed)) (length buffer))) dump-grounds no-dump
+
+-- ---- lock, disable, query
+
+disable-chain : (e l a : Bool) → cond e (cond l WriteProtected (cond a Success WriteProtected)) AlreadyStarted
+    ≡ firstOf (row 0 (not e) AlreadyStarted ∷ row 1 l WriteProtected ∷ row 1 (not a) WriteProtected ∷ row 2 true Success ∷ [])
+disable-chain false l a = refl
+disable-chain true true a = refl
+disable-chain true false false = refl
+disable-chain true false true = refl
+
+module _ (s : State) where
+  abbrev lock-rows : List Row
+  lock-rows = row 0 (s .switches .locked) WriteProtected ∷ row 1 true Success ∷ []
+
+  no-lock : NoGrounds s lock lock-rows
+  no-lock p n k m l (lockLocked h) = true≢false (sym h ∙ n 0 l)
+  no-lock p n k m l lockDone = true≢false (n 1 l)
+
+  lock-answers : Answers s lock (status s lock)
+  unfolding _and_
+  lock-answers = first-answers s lock lock-rows refl refl refl ((λ n t. lockLocked t), ((λ n t. lockDone), tt)) no-lock
+
+  abbrev disable-rows : List Row
+  disable-rows =
+      row 0 (not (s .switches .enabled)) AlreadyStarted ∷ row 1 (s .switches .locked) WriteProtected
+      ∷ row 1 (not (s .switches .«disabling_allowed»)) WriteProtected ∷ row 2 true Success ∷ []
+
+  disable-grounds : Grounds s disable disable-rows disable-rows
+  disable-grounds = (
+    (λ n t. disableDisabled (not-true _ t)),
+    ((λ n t. disableLocked t), ((λ n t. disableNotAllowed (not-true _ t)), ((λ n t. disableDone), tt))),
+  )
+
+  no-disable : NoGrounds s disable disable-rows
+  no-disable p n k m l (disableDisabled h) = true≢false (sym (not-false _ (n 0 l)) ∙ h)
+  no-disable p n k m l (disableLocked h) = true≢false (sym h ∙ n 1 l)
+  no-disable p n k m l (disableNotAllowed h) = true≢false (sym (not-false _ (n 2 l)) ∙ h)
+  no-disable p n k m l disableDone = true≢false (n 3 l)
+
+  disable-answers : Answers s disable (status s disable)
+  unfolding _and_
+  disable-answers =
+      first-answers s disable disable-rows refl refl (disable-chain (s .switches .enabled) (s .switches .locked) (s .switches .«disabling_allowed»)) disable-grounds no-disable
+
+  no-query : NoGrounds s query (row 0 true Success ∷ [])
+  no-query p n k m l queryDone = true≢false (n 0 l)
+
+  query-answers : Answers s query (status s query)
+  unfolding _and_
+  query-answers = first-answers s query (row 0 true Success ∷ []) refl refl refl ((λ n t. queryDone), tt) no-query
+
+-- ---- read
+
+read-chain : (s n x : Bool) → cond s (cond n (cond x Success NotFound) InvalidParameter) VolumeCorrupted
+    ≡ firstOf (row 0 (not s) VolumeCorrupted ∷ row 1 (not n) InvalidParameter ∷ row 2 (not x) NotFound ∷ row 3 true Success ∷ [])
+read-chain false n x = refl
+read-chain true false x = refl
+read-chain true true false = refl
+read-chain true true true = refl
+
+module _ (s : State) (v : Variable) where
+  abbrev read-rows : List Row
+  read-rows =
+      row 0 (not (sound (s .nv) (s .vol))) VolumeCorrupted ∷ row 1 (not (named v)) InvalidParameter
+      ∷ row 2 (not (exists (lookup (s .nv) (s .vol) v))) NotFound ∷ row 3 true Success ∷ []
+
+  read-sound : (p : ℕ) → NoneBefore read-rows p → 0 < p → SoundStores (s .nv) (s .vol)
+  read-sound p n l = tells-sound (s .nv) (s .vol) .0 (not-false _ (n 0 l))
+
+  read-grounds : Grounds s (read v) read-rows read-rows
+  read-grounds = (
+    (λ n t. readStores (tells-not _ (tells-sound (s .nv) (s .vol)) .0 t)),
+    (
+      (λ n t. readName (tells-not _ (tells-named v) .0 t)),
+      (
+        (λ n t. let k = read-sound 2 n (omega arith) in readAbsent (λ r f. tells-not _ (tells-exists s v k) .0 t (r, f))),
+        ((λ n t. readDone), tt),
+      ),
+    ),
+  )
+
+  no-read : NoGrounds s (read v) read-rows
+  no-read p n k m l (readStores h) = h (read-sound p n l)
+  no-read p n k m l (readName h) = tells-off _ (tells-not _ (tells-named v)) (n 1 l) h
+  no-read p n k m l (readAbsent h) =
+      tells-off _ (tells-not _ (tells-exists s v (read-sound p n (omega arith)))) (n 2 l) (λ w. h (w .0) (w .1))
+  no-read p n k m l readDone = true≢false (n 3 l)
+
+  read-answers : Answers s (read v) (status s (read v))
+  unfolding readStatus _and_
+  read-answers = first-answers s (read v) read-rows refl refl (read-chain (sound (s .nv) (s .vol)) (named v) (exists (lookup (s .nv) (s .vol) v))) read-grounds no-read
+
+-- ---- THE AGREEMENT
+
+-- the computed status is an answer, so there is at least one
+pub status-answers : (s : State) (c : Call) → Answers s c (status s c)
+status-answers s (powerOn allowed) = power-on-answers s allowed
+status-answers s (restart allowed) = restart-answers s allowed
+status-answers s (register e) = register-answers s e
+status-answers s (dump buffer) = dump-answers s buffer
+status-answers s lock = lock-answers s
+status-answers s disable = disable-answers s
+status-answers s query = query-answers s
+status-answers s (read v) = read-answers s v
+status-answers s (set r) = set-answers s r
+
+-- the status that the grounds at a place give
+abbrev gives : Call → ℕ → Status
+gives (powerOn allowed) k = cond (ltb k 1) VolumeCorrupted Success
+gives (restart allowed) k = cond (ltb k 1) VolumeCorrupted Success
+gives (register e) k =
+    cond (ltb k 1) VolumeCorrupted (cond (ltb k 2) WriteProtected (cond (ltb k 3) InvalidParameter (cond (ltb k 4) AlreadyStarted (cond (ltb k 5) OutOfResources Success))))
+gives (dump buffer) k = cond (ltb k 1) VolumeCorrupted (cond (ltb k 2) BufferTooSmall Success)
+gives lock k = cond (ltb k 1) WriteProtected Success
+gives disable k = cond (ltb k 1) AlreadyStarted (cond (ltb k 2) WriteProtected Success)
+gives query k = Success
+gives (read v) k = cond (ltb k 1) VolumeCorrupted (cond (ltb k 2) InvalidParameter (cond (ltb k 3) NotFound Success))
+gives (set r) k =
+    cond (ltb k 10) VolumeCorrupted (cond (ltb k 20) InvalidParameter (cond (ltb k 30) Unsupported (cond (ltb k 43) InvalidParameter
+    (cond (ltb k 51) WriteProtected (cond (ltb k 52) NotFound (cond (ltb k 60) Success (cond (ltb k 70) InvalidParameter (cond (ltb k 80) Success (cond (ltb k 100) OutOfResources Success)))))))))
+
+at-place : (s : State) (c : Call) (k : ℕ) (n : Status) → Applies s c k n → n ≡ gives c k
+at-place s c k n (powerOnStore h) = refl
+at-place s c k n (powerOnLength h) = refl
+at-place s c k n (powerOnRecord h) = refl
+at-place s c k n powerOnDone = refl
+at-place s c k n (restartStores h) = refl
+at-place s c k n (restartRecord h) = refl
+at-place s c k n restartDone = refl
+at-place s c k n (registerRecord h) = refl
+at-place s c k n (registerLocked h) = refl
+at-place s c k n (registerMalformed h) = refl
+at-place s c k n (registerRepeated es f w j g i) = refl
+at-place s c k n (registerCount es w h) = refl
+at-place s c k n (registerSum es w h) = refl
+at-place s c k n registerDone = refl
+at-place s c k n (dumpRecord h) = refl
+at-place s c k n (dumpShort es w h) = refl
+at-place s c k n dumpDone = refl
+at-place s c k n (lockLocked h) = refl
+at-place s c k n lockDone = refl
+at-place s c k n (disableDisabled h) = refl
+at-place s c k n (disableLocked h) = refl
+at-place s c k n (disableNotAllowed h) = refl
+at-place s c k n disableDone = refl
+at-place s c k n queryDone = refl
+at-place s c k n (readStores h) = refl
+at-place s c k n (readName h) = refl
+at-place s c k n (readAbsent h) = refl
+at-place s c k n readDone = refl
+at-place s c k n (setStores h) = refl
+at-place s c k n (setRecord h) = refl
+at-place s c k n (setName h) = refl
+at-place s c k n (setPayload h) = refl
+at-place s c k n (setBit i b h) = refl
+at-place s c k n (setRuntime h i) = refl
+at-place s c k n (setAppend h i) = refl
+at-place s c k n (setShort e w d h) = refl
+at-place s c k n (setLong e w d h) = refl
+at-place s c k n (setMissing e i w d h j) = refl
+at-place s c k n (setProhibited e i w d h j) = refl
+at-place s c k n (setLocked e w h) = refl
+at-place s c k n (setAbsent d h) = refl
+at-place s c k n (setDeleted d) = refl
+at-place s c k n (setOther q f h) = refl
+at-place s c k n (setNothing h i) = refl
+at-place s c k n (setJoined q h f i) = refl
+at-place s c k n (setFullNV rs qs h j t i) = refl
+at-place s c k n (setFullVol rs qs h j t i) = refl
+at-place s c k n setDone = refl
+
+-- AT MOST ONE ANSWER: two that are first stand at one place
+pub one-answer : (s : State) (c : Call) (n m : Status) → Answers s c n → Answers s c m → n ≡ m
+one-answer s c n m a b = at-place s c (a .place) n (a .applies) ∙ ap (gives c) same-place ∙ sym (at-place s c (b .place) m (b .applies))
+  where
+    not-before : (n m : Status) (a : Answers s c n) (b : Answers s c m) → a .place < b .place → ⊥
+    not-before n m a b l = b .first (a .place) n l (a .applies)
+
+    same-place : a .place ≡ b .place
+    same-place = go (less (a .place) (b .place)) (less (b .place) (a .place))
+      where
+        go : Less (a .place) (b .place) → Less (b .place) (a .place) → a .place ≡ b .place
+        go (inl h) k = absurd (not-before n m a b (h .0))
+        go (inr h) (inl k) = absurd (not-before m n b a (k .0))
+        go (inr h) (inr k) = let i = h .0 in let j = k .0 in omega arith
+
+-- THE STATUS IS n EXACTLY IF n IS THE FIRST THAT APPLIES, whatever the state and the call
+pub status-exactly : (s : State) (c : Call) (n : Status) → (step s c .0 .status ≡ n) ↔ Answers s c n
+status-exactly s c n = (
+  (λ e. subst (Answers s c) (sym (step-status s c) ∙ e) (status-answers s c)),
+  λ a. step-status s c ∙ one-answer s c (status s c) n (status-answers s c) a,
+)
+
+-- A CALL IS REFUSED EXACTLY WHEN THE RULES GIVE A GROUND FOR IT
+pub refused-exactly : (s : State) (c : Call) → (isSuccess (step s c .0 .status) ≡ false) ↔ Refused s c
+refused-exactly s c = (
+  (λ h. record {
+    gives = step s c .0 .status;
+    answers = status-exactly s c (step s c .0 .status) .0 refl;
+    other = λ e. true≢false (sym (ap isSuccess e) ∙ h);
+  }),
+  λ r. ap isSuccess (status-exactly s c (r .gives) .1 (r .answers)) ∙ not-success (r .gives) (r .other),
+)
+  where
+    not-success : (n : Status) → (n ≡ Success → ⊥) → isSuccess n ≡ false
+    not-success Success h = absurd (h refl)
+    not-success InvalidParameter h = refl
+    not-success Unsupported h = refl
+    not-success BufferTooSmall h = refl
+    not-success WriteProtected h = refl
+    not-success OutOfResources h = refl
+    not-success VolumeCorrupted h = refl
+    not-success NotFound h = refl
+    not-success AlreadyStarted h = refl
+
+pub a-write-is-refused-exactly-when-the-rules-give-a-ground : (s : State) (r : Request) → (isSuccess (step s (set r) .0 .status) ≡ false) ↔ Refused s (set r)
+a-write-is-refused-exactly-when-the-rules-give-a-ground s r = refused-exactly s (set r)

@@ -1,0 +1,559 @@
+-- The computed status of a set and its grounds agree. Assumes nothing.
+use Prim.Native.Nat.{ℕ, suc, _+_, _*_, _%_, _/_, _≤_, _<_}
+use mathlib.Core.Path.{_≡_, refl, sym, ap, ap₂, subst, subst⁻¹, _∙_}
+use mathlib.Core.List.{List, [], _∷_, _++_}
+use mathlib.Core.Bool.{Bool, true, false, not, _||_, cond, or-true, true≢false, false≢true}
+use mathlib.Core.Option.{Option, none, some}
+use mathlib.Core.Logic.{_⊎_, inl, inr, _↔_}
+use native.Mathlib.Omega.{arith}
+use lib.ListN.{length, length-append}
+use lib.Dec.{eqb, leb, ltb}
+use lib.Arith.{mod-mul}
+use lib.Bits.{bitAnd}
+use native.Mathlib.Nat.{mod-eq-of-lt}
+use borrow.Author.Tests.{not-true, not-false, eqb-true, eq-eqb, leb-true, le-leb, lt-ltb, ltb-true}
+use Rattle.limits.specs.Limits.{maxPayload}
+use Rattle.lists.specs.Lists.{Among}
+use Rattle.slices.specs.Test.{_and_}
+use Rattle.slices.specs.TestLaws.{and-left, and-right, and-intro, and-no, and-off, forced-off}
+use Rattle.slices.specs.Bytes.{Bytes, same}
+use Rattle.slices.specs.Chunks.{flat, distinct, replaceOrAppend}
+use Rattle.slices.specs.ItemsLaws.{all-append, all-map, distinct-left, distinct-right}
+use Rattle.names.specs.Name.{Variable, named}
+use Rattle.entry.specs.Entry.{minSize, maxSize, attributesMustHave, attributesCantHave, lockPolicyType, triggerOf, triggerValue}
+use Rattle.policy.specs.Policy.{entriesOf, policyValid}
+use Rattle.policy.specs.PolicyLaws as policy
+use Rattle.policy.specs.Choice.{chosen}
+use Rattle.store.specs.Record.{hasNV, hasAppend, attributesOf, payloadOf, recordOk, isOf, sameVariable, encodeRecord}
+use Rattle.store.specs.EncodeLaws.{attributesOk-small}
+use Rattle.store.specs.AttributeLaws.{record-attributes}
+use Rattle.store.specs.Store.{recordsOf, recordsWith, hasRoom}
+use Rattle.pair.specs.Pair.{sound, lookup}
+use Rattle.status.specs.declared.Status.{Status}
+use Rattle.status.specs.declared.Status.the-variants.{Success, InvalidParameter, Unsupported, WriteProtected, OutOfResources, VolumeCorrupted, NotFound}
+use Rattle.rules.specs.declared.Ground.{Ground}
+use Rattle.rules.specs.declared.Ground.the-variants.{NoGround, SizeGround, AttributeGround, LockGround}
+use Rattle.rules.specs.Set.{Request, Lookup, orElse, orGround, exists, badRequest, unsupportedBit, needsBS, requestStatus, holdsValue, locks, isDeletion, sizeAllowed, attributesAllowed, requestGround, groundOf, groundBy, groundStatus, otherAttributes, isEmptyAppend, payloadAfter, recordAfter, storeOf, writeStatus, setStatus}
+use Rattle.rules.specs.Engine.{State, Call, speaking, setStatusBy, status}
+use Rattle.rules.specs.Engine.Call.{set}
+use Rattle.rules.specs.Grounds.{Not, Bit, NV, BS, RT, Append, Entries, Records, SoundStores, Found, Absent, Locks, Deletion, SameKind, Enforced, PayloadAfter, Storing, Applies, Answers}
+use Rattle.rules.specs.Grounds.Applies.{setStores, setRecord, setName, setPayload, setBit, setRuntime, setAppend, setShort, setLong, setMissing, setProhibited, setLocked}
+use Rattle.rules.specs.Grounds.Applies.{setAbsent, setDeleted, setOther, setNothing, setJoined, setFullNV, setFullVol, setDone}
+use Rattle.rules.specs.ConditionLaws.{Tells, tells-not, tells-and, tells-nand, tells-eq, tells-le, tells-lt, tells-more, tells-same, tells-off, off-tells, tells-missing, tells-prohibited, tells-unsupported, tells-nv, tells-bs, tells-rt, tells-append, tells-deletion, tells-nothing, tells-needs-bs, tells-named, chosen-speaks, speaks-chosen}
+use Rattle.rules.specs.FoundLaws.{none-some, slices-among, tells-sound, tells-entries, tells-exists, first-records, second-records, found-lookup, lookup-found, lookup-absent, with-put, put-with}
+use Rattle.rules.specs.OrderedLaws.{Row, row, firstOf, NoneBefore, Grounds, NoGrounds, first-answers}
+
+-- ---- the tests in their order
+
+abbrev isSize : Ground → Bool
+isSize NoGround = false
+isSize SizeGround = true
+isSize AttributeGround = false
+isSize LockGround = false
+
+abbrev isAttribute : Ground → Bool
+isAttribute NoGround = false
+isAttribute SizeGround = false
+isAttribute AttributeGround = true
+isAttribute LockGround = false
+
+abbrev isLock : Ground → Bool
+isLock NoGround = false
+isLock SizeGround = false
+isLock AttributeGround = false
+isLock LockGround = true
+
+abbrev write-rows : Bool → Bool → Bool → Bool → Bool → Bool → List Row
+write-rows deletion found other nothing long room =
+    row 51 (deletion and not found) NotFound ∷ row 52 deletion Success ∷ row 60 other InvalidParameter ∷ row 70 nothing Success
+    ∷ row 80 long OutOfResources ∷ row 90 (not room) OutOfResources ∷ row 100 true Success ∷ []
+
+write-chain : (d x o e l m : Bool) → cond d (cond x Success NotFound) (cond o InvalidParameter (cond e Success (cond l OutOfResources (cond m Success OutOfResources))))
+    ≡ firstOf (write-rows d x o e l m)
+unfolding _and_
+write-chain true true o e l m = refl
+write-chain true false o e l m = refl
+write-chain false x true e l m = refl
+write-chain false x false true l m = refl
+write-chain false x false false true m = refl
+write-chain false x false false false true = refl
+write-chain false x false false false false = refl
+
+abbrev ground-rows : Ground → List Row → List Row
+ground-rows g rows = row 41 (isSize g) InvalidParameter ∷ row 42 (isAttribute g) InvalidParameter ∷ row 43 (isLock g) WriteProtected ∷ rows
+
+ground-chain : (g : Ground) (n : Status) (rows : List Row) → n ≡ firstOf rows → orElse (groundStatus g) n ≡ firstOf (ground-rows g rows)
+ground-chain NoGround n rows e = e
+ground-chain SizeGround n rows e = refl
+ground-chain AttributeGround n rows e = refl
+ground-chain LockGround n rows e = refl
+
+abbrev all-rows : Bool → Bool → Bool → Bool → Bool → Bool → List Row → List Row
+all-rows sound valid named long unsupported needs rows =
+    row 0 (not sound) VolumeCorrupted ∷ row 0 (not valid) VolumeCorrupted ∷ row 10 (not named) InvalidParameter ∷ row 10 long InvalidParameter
+    ∷ row 20 unsupported Unsupported ∷ row 30 needs InvalidParameter ∷ rows
+
+all-chain : (s v n l u b : Bool) (m : Status) (rows : List Row) → m ≡ firstOf rows
+    → cond (s and v) (orElse (cond (not n || l) InvalidParameter (cond u Unsupported (cond b InvalidParameter Success))) m) VolumeCorrupted
+    ≡ firstOf (all-rows s v n l u b rows)
+unfolding _and_
+all-chain false v n l u b m rows e = refl
+all-chain true false n l u b m rows e = refl
+all-chain true true false l u b m rows e = refl
+all-chain true true true true u b m rows e = refl
+all-chain true true true false true b m rows e = refl
+all-chain true true true false false true m rows e = refl
+all-chain true true true false false false m rows e = e
+
+-- ---- step 4
+
+-- which ground speaks: a deletion or not, size and attributes allowed or not, locked or not
+data Spoken (d z a l : Bool) : Ground → Type 0 where
+  bySize : d ≡ false → z ≡ false → Spoken d z a l SizeGround
+  byAttributes : d ≡ false → z ≡ true → a ≡ false → Spoken d z a l AttributeGround
+  byLock : (d ≡ false → (z ≡ true) × (a ≡ true)) → l ≡ true → Spoken d z a l LockGround
+  byNone : (d ≡ false → (z ≡ true) × (a ≡ true)) → l ≡ false → Spoken d z a l NoGround
+
+spoken : (d z a l : Bool) → Spoken d z a l (orGround (cond d NoGround (cond z (cond a NoGround AttributeGround) SizeGround)) (cond l LockGround NoGround))
+spoken true z a true = byLock (λ h. absurd (true≢false h)) refl
+spoken true z a false = byNone (λ h. absurd (true≢false h)) refl
+spoken false false a l = bySize refl refl
+spoken false true false l = byAttributes refl refl refl
+spoken false true true true = byLock (λ h. (refl, refl)) refl
+spoken false true true false = byNone (λ h. (refl, refl)) refl
+
+module _ {d z a l : Bool} where
+  size-says : (g : Ground) → Spoken d z a l g → isSize g ≡ true → (d ≡ false) × (z ≡ false)
+  size-says g (bySize e f) h = (e, f)
+  size-says g (byAttributes e f i) h = absurd (false≢true h)
+  size-says g (byLock w i) h = absurd (false≢true h)
+  size-says g (byNone w i) h = absurd (false≢true h)
+
+  attribute-says : (g : Ground) → Spoken d z a l g → isAttribute g ≡ true → (d ≡ false) × (a ≡ false)
+  attribute-says g (bySize e f) h = absurd (false≢true h)
+  attribute-says g (byAttributes e f i) h = (e, i)
+  attribute-says g (byLock w i) h = absurd (false≢true h)
+  attribute-says g (byNone w i) h = absurd (false≢true h)
+
+  lock-says : (g : Ground) → Spoken d z a l g → isLock g ≡ true → l ≡ true
+  lock-says g (bySize e f) h = absurd (false≢true h)
+  lock-says g (byAttributes e f i) h = absurd (false≢true h)
+  lock-says g (byLock w i) h = i
+  lock-says g (byNone w i) h = absurd (false≢true h)
+
+  -- and what there is where its grounds do not speak
+  no-size : (g : Ground) → Spoken d z a l g → isSize g ≡ false → d ≡ false → z ≡ true
+  no-size g (bySize e f) h k = absurd (true≢false h)
+  no-size g (byAttributes e f i) h k = f
+  no-size g (byLock w i) h k = w k .0
+  no-size g (byNone w i) h k = w k .0
+
+  no-attribute : (g : Ground) → Spoken d z a l g → isSize g ≡ false → isAttribute g ≡ false → d ≡ false → a ≡ true
+  no-attribute g (bySize e f) h j k = absurd (true≢false h)
+  no-attribute g (byAttributes e f i) h j k = absurd (true≢false j)
+  no-attribute g (byLock w i) h j k = w k .1
+  no-attribute g (byNone w i) h j k = w k .1
+
+  no-lock : (g : Ground) → Spoken d z a l g → isSize g ≡ false → isAttribute g ≡ false → isLock g ≡ false → l ≡ false
+  no-lock g (bySize e f) h j k = absurd (true≢false h)
+  no-lock g (byAttributes e f i) h j k = absurd (true≢false j)
+  no-lock g (byLock w i) h j k = absurd (true≢false k)
+  no-lock g (byNone w i) h j k = i
+
+-- the tests of an entry
+tells-size : (e : Bytes) (n : ℕ) → Tells (not (sizeAllowed e n)) ((n < minSize e) ⊎ (maxSize e < n))
+unfolding sizeAllowed
+tells-size e n = tells-nand _ _ (tells-more (minSize e) n) (tells-more n (maxSize e))
+
+tells-attributes : (e : Bytes) (a : ℕ)
+    → Tells (not (attributesAllowed e a)) (((i : ℕ) × Bit i (attributesMustHave e) × Not (Bit i a)) ⊎ ((i : ℕ) × Bit i (attributesCantHave e) × Bit i a))
+unfolding attributesAllowed
+tells-attributes e a = tells-nand _ _ (tells-missing (attributesMustHave e) a) (tells-prohibited (attributesCantHave e) a)
+
+module _ (s : State) where
+  abbrev found : Lookup
+  found = lookup (s .nv) (s .vol)
+
+  tells-holds : SoundStores (s .nv) (s .vol) → (v : Variable) (value : ℕ) → Tells (holdsValue (found v) value) ((r : Bytes) × Found s v r × (payloadOf r ≡ value ∷ []))
+  unfolding holdsValue
+  tells-holds k v value = (go (found v) refl, λ w. rw (found-lookup s v (w .0) (w .1)) (tells-same (payloadOf (w .0)) (value ∷ []) .1 (w .2)))
+    where
+      go : (o : Option Bytes) → found v ≡ o → holdsValue o value ≡ true → (r : Bytes) × Found s v r × (payloadOf r ≡ value ∷ [])
+      go none e h = absurd (false≢true h)
+      go (some r) e h = (r, lookup-found s v r k e, tells-same (payloadOf r) (value ∷ []) .0 h)
+
+  tells-locks : SoundStores (s .nv) (s .vol) → (e : Bytes) (v : Variable) → Tells (locks e found v) (Locks s e v)
+  unfolding locks
+  tells-locks k e v = (to, back)
+    where
+      to : cond (eqb (lockPolicyType e) 1) true (cond (eqb (lockPolicyType e) 2) (exists (found v)) (cond (eqb (lockPolicyType e) 3) (holdsValue (found (triggerOf e)) (triggerValue e)) false)) ≡ true
+          → Locks s e v
+      to = go (eqb (lockPolicyType e) 1) (eqb (lockPolicyType e) 2) (eqb (lockPolicyType e) 3) refl refl refl
+        where
+          go : (x y z : Bool) → eqb (lockPolicyType e) 1 ≡ x → eqb (lockPolicyType e) 2 ≡ y → eqb (lockPolicyType e) 3 ≡ z
+              → cond x true (cond y (exists (found v)) (cond z (holdsValue (found (triggerOf e)) (triggerValue e)) false)) ≡ true → Locks s e v
+          go true y z p q r h = Locks.now (eqb-true _ _ p)
+          go false true z p q r h = let w = tells-exists s v k .0 h in Locks.onCreate (w .0) (eqb-true _ _ q) (w .1)
+          go false false true p q r h = let w = tells-holds k (triggerOf e) (triggerValue e) .0 h in Locks.onVarState (w .0) (eqb-true _ _ r) (w .1) (w .2)
+          go false false false p q r h = absurd (false≢true h)
+
+      back : Locks s e v
+          → cond (eqb (lockPolicyType e) 1) true (cond (eqb (lockPolicyType e) 2) (exists (found v)) (cond (eqb (lockPolicyType e) 3) (holdsValue (found (triggerOf e)) (triggerValue e)) false)) ≡ true
+      back (Locks.now h) = rw h
+      back (Locks.onCreate r h f) = rw h (tells-exists s v k .1 (r, f))
+      back (Locks.onVarState r h f p) = rw h (tells-holds k (triggerOf e) (triggerValue e) .1 (r, f, p))
+
+-- ---- step 6
+
+same-digit : (x y : ℕ) → (x % 2 ≡ 1 ↔ y % 2 ≡ 1) → x % 2 ≡ y % 2
+same-digit x y h = go (eqb (x % 2) 1) refl
+  where
+    go : (b : Bool) → eqb (x % 2) 1 ≡ b → x % 2 ≡ y % 2
+    go true e = let i = eqb-true (x % 2) 1 e in i ∙ sym (h .0 i)
+    go false e = go₂ (eqb (y % 2) 1) refl
+      where
+        go₂ : (b : Bool) → eqb (y % 2) 1 ≡ b → x % 2 ≡ y % 2
+        go₂ true f = let j = eqb-true (y % 2) 1 f in absurd (tells-off _ (tells-eq (x % 2) 1) e (h .1 j))
+        go₂ false f = let i = tells-off _ (tells-eq (x % 2) 1) e in let j = tells-off _ (tells-eq (y % 2) 1) f in omega arith
+
+-- the low three bits
+low-bits : (a : ℕ) → a % 8 ≡ (a / 2 / 2 % 2 * 2 + a / 2 % 2) * 2 + a % 2
+low-bits a =
+    let e : a % 8 ≡ a / 2 % 4 * 2 + a % 2 = mod-mul a {m = 4} {c = 2} (omega arith) (omega arith) in
+    let f : a / 2 % 4 ≡ a / 2 / 2 % 2 * 2 + a / 2 % 2 = mod-mul (a / 2) {m = 2} {c = 2} (omega arith) (omega arith) in
+    e ∙ ap (λ x. x * 2 + a % 2) f
+
+-- attributes as they are stored are those of the request if NV, BS and RT are
+same-kind : (x a : ℕ) → x ≤ 7 → SameKind x a → x ≡ a % 8
+same-kind x a m k =
+    let e : x ≡ x % 8 = sym (mod-eq-of-lt (omega arith)) in
+    let p = same-digit x a (k .nv) in
+    let q = same-digit (x / 2) (a / 2) (k .bs) in
+    let r = same-digit (x / 2 / 2) (a / 2 / 2) (k .rt) in
+    e ∙ low-bits x ∙ rw (p, q, r) (sym (low-bits a))
+
+three-bits : (x b c d : ℕ) → b < 2 → c < 2 → d < 2 → x ≡ (d * 2 + c) * 2 + b → (x % 2 ≡ b) × (x / 2 % 2 ≡ c) × (x / 2 / 2 % 2 ≡ d)
+three-bits x b c d hb hc hd e =
+    let h : x / 2 ≡ d * 2 + c = omega arith in
+    let i : x / 2 / 2 ≡ d = omega arith in
+    (omega arith, omega arith, omega arith)
+
+kind-same : (x a : ℕ) → x ≡ a % 8 → SameKind x a
+kind-same x a e =
+    let w = three-bits x (a % 2) (a / 2 % 2) (a / 2 / 2 % 2) (omega arith) (omega arith) (omega arith) (e ∙ low-bits a) in
+    record {
+      nv = ((λ h. sym (w .0) ∙ h), λ h. w .0 ∙ h);
+      bs = ((λ h. sym (w .1) ∙ h), λ h. w .1 ∙ h);
+      rt = ((λ h. sym (w .2) ∙ h), λ h. w .2 ∙ h);
+    }
+
+-- a record of a sound store has no other bits
+found-small : (s : State) (v : Variable) (q : Bytes) → Found s v q → attributesOf q ≤ 7
+found-small s v q f =
+    slices-among (f .inNV ++ f .inVol)
+    (all-append (f .inNV) (f .inVol) (all-map (small true) (f .inNV) (f .records .first .records)) (all-map (small false) (f .inVol) (f .records .second .records)))
+    q (f .stands)
+  where
+    small : (b : Bool) (r : Bytes) → recordOk b r ≡ true → attributesOf r ≤ 7
+    small b r h = attributesOk-small b (attributesOf r) (record-attributes b r h)
+
+tells-other : (s : State) (r : Request) → SoundStores (s .nv) (s .vol)
+    → Tells (otherAttributes (lookup (s .nv) (s .vol) (r .variable)) (r .attributes)) ((q : Bytes) × Found s (r .variable) q × Not (SameKind (attributesOf q) (r .attributes)))
+unfolding otherAttributes
+tells-other s r k = (go (lookup (s .nv) (s .vol) (r .variable)) refl, back)
+  where
+    go : (o : Option Bytes) → lookup (s .nv) (s .vol) (r .variable) ≡ o → otherAttributes o (r .attributes) ≡ true
+        → (q : Bytes) × Found s (r .variable) q × Not (SameKind (attributesOf q) (r .attributes))
+    go none e h = absurd (false≢true h)
+    go (some q) e h =
+        let f = lookup-found s (r .variable) q k e in
+        let n = tells-not _ (tells-eq (attributesOf q) (r .attributes % 8)) .0 h in
+        (q, f, λ i. n (same-kind (attributesOf q) (r .attributes) (found-small s (r .variable) q f) i))
+
+    back : (q : Bytes) × Found s (r .variable) q × Not (SameKind (attributesOf q) (r .attributes))
+        → otherAttributes (lookup (s .nv) (s .vol) (r .variable)) (r .attributes) ≡ true
+    back w =
+        rw (found-lookup s (r .variable) (w .0) (w .1))
+        (tells-not _ (tells-eq (attributesOf (w .0)) (r .attributes % 8)) .1 (λ e. w .2 (kind-same (attributesOf (w .0)) (r .attributes) e)))
+
+-- ---- steps 8 and 9
+
+module _ (s : State) (r : Request) (k : SoundStores (s .nv) (s .vol)) where
+  abbrev after : Bytes
+  after = payloadAfter (lookup (s .nv) (s .vol) (r .variable)) (r .attributes) (r .payload)
+
+  payload-is : PayloadAfter s r after
+  unfolding payloadAfter
+  payload-is = go (lookup (s .nv) (s .vol) (r .variable)) refl
+    where
+      go : (o : Option Bytes) → lookup (s .nv) (s .vol) (r .variable) ≡ o → PayloadAfter s r (payloadAfter o (r .attributes) (r .payload))
+      go none e = PayloadAfter.own (λ h. lookup-absent s (r .variable) e) refl
+      go (some q) e = go₂ (hasAppend (r .attributes)) refl
+        where
+          go₂ : (b : Bool) → hasAppend (r .attributes) ≡ b → PayloadAfter s r (cond b (payloadOf q ++ r .payload) (r .payload))
+          go₂ true h = PayloadAfter.joined q (tells-append (r .attributes) .0 h) (lookup-found s (r .variable) q k e) refl
+          go₂ false h = PayloadAfter.own (λ i. absurd (tells-off _ (tells-append (r .attributes)) h i)) refl
+
+  payload-only : (p : Bytes) → PayloadAfter s r p → p ≡ after
+  unfolding payloadAfter
+  payload-only p (PayloadAfter.joined q h f e) = rw (found-lookup s (r .variable) q f, tells-append (r .attributes) .1 h) e
+  payload-only p (PayloadAfter.own h e) = go (lookup (s .nv) (s .vol) (r .variable)) refl
+    where
+      go : (o : Option Bytes) → lookup (s .nv) (s .vol) (r .variable) ≡ o → p ≡ payloadAfter o (r .attributes) (r .payload)
+      go none i = e
+      go (some q) i = go₂ (hasAppend (r .attributes)) refl
+        where
+          go₂ : (b : Bool) → hasAppend (r .attributes) ≡ b → p ≡ cond b (payloadOf q ++ r .payload) (r .payload)
+          go₂ true j = absurd (h (tells-append (r .attributes) .0 j) q (lookup-found s (r .variable) q k i))
+          go₂ false j = e
+
+  -- too long, of a request whose own payload is not
+  tells-joined : length (r .payload) ≤ maxPayload
+      → Tells (ltb maxPayload (length after)) ((q : Bytes) × Append (r .attributes) × Found s (r .variable) q × (maxPayload < length (payloadOf q) + length (r .payload)))
+  tells-joined m = (
+    (λ t. to payload-is (ltb-true maxPayload (length after) t)),
+    λ w. lt-ltb maxPayload (length after)
+        (let e = ap length (payload-only _ (PayloadAfter.joined (w .0) (w .1) (w .2) refl)) in
+        let l = length-append (payloadOf (w .0)) (r .payload) in
+        let h = w .3 in omega arith),
+  )
+    where
+      to : PayloadAfter s r after → maxPayload < length after
+          → (q : Bytes) × Append (r .attributes) × Found s (r .variable) q × (maxPayload < length (payloadOf q) + length (r .payload))
+      to (PayloadAfter.joined q h f e) t = (q, h, f, let l = ap length e ∙ length-append (payloadOf q) (r .payload) in omega arith)
+      to (PayloadAfter.own h e) t = absurd (let l = ap length e in omega arith)
+
+  abbrev stored : Bytes
+  stored = encodeRecord (r .attributes % 8) (r .variable) after
+
+  -- what is stored among the records rs
+  abbrev storing : (rs : List Bytes) → Storing s r rs
+  storing rs = record { payload = after; is = payload-is; records = replaceOrAppend (isOf (r .variable)) stored rs; put = with-put (r .variable) stored rs }
+
+  storing-only : (rs : List Bytes) → distinct sameVariable rs ≡ true → (t : Storing s r rs) → t .records ≡ replaceOrAppend (isOf (r .variable)) stored rs
+  storing-only rs d t =
+      put-with (r .variable) _ rs (t .records) d (t .put)
+      ∙ ap (λ p. replaceOrAppend (isOf (r .variable)) (encodeRecord (r .attributes % 8) (r .variable) p) rs) (payload-only (t .payload) (t .is))
+
+  -- no room in a store, whose records are rs
+  module _ (b : Bool) (store : Bytes) (rs : List Bytes) (e : rs ≡ recordsOf b store) where
+    full : hasRoom b store (r .variable) stored ≡ false → length store < length (flat (storing rs .records))
+    unfolding hasRoom
+    full h =
+        let l = ap (λ x. length (flat (replaceOrAppend (isOf (r .variable)) stored x))) e in
+        let m : Not (length (flat (replaceOrAppend (isOf (r .variable)) stored (recordsOf b store))) ≤ length store) = tells-off _ (tells-le _ (length store)) h in
+        let g : length store < length (flat (replaceOrAppend (isOf (r .variable)) stored rs)) = omega arith in g
+
+    not-full : distinct sameVariable rs ≡ true → (t : Storing s r rs) → hasRoom b store (r .variable) stored ≡ true → length store < length (flat (t .records)) → ⊥
+    unfolding hasRoom
+    not-full d t h g =
+        let l = ap (λ x. length (flat (replaceOrAppend (isOf (r .variable)) stored x))) e in
+        let o = ap (λ x. length (flat x)) (storing-only rs d t) in
+        let m : length (flat (replaceOrAppend (isOf (r .variable)) stored (recordsOf b store))) ≤ length store = leb-true _ (length store) h in omega arith
+
+-- ---- the set
+
+module _ (s : State) (r : Request) where
+  abbrev chosenEntry : Option Bytes
+  chosenEntry = speaking (s .switches .enabled) (chosen (entriesOf (s .policy)) (r .variable))
+
+  abbrev spokenGround : Ground
+  spokenGround = groundBy chosenEntry (lookup (s .nv) (s .vol)) r
+
+  abbrev standing : Option Bytes
+  standing = lookup (s .nv) (s .vol) (r .variable)
+
+  abbrev long : Bool
+  long = ltb maxPayload (length (payloadAfter standing (r .attributes) (r .payload)))
+
+  abbrev room : Bool
+  room = hasRoom (hasNV (r .attributes)) (storeOf (r .attributes) (s .nv) (s .vol)) (r .variable) (recordAfter standing r)
+
+  abbrev last-rows : List Row
+  last-rows =
+      write-rows (isDeletion (r .attributes) (r .payload)) (exists standing) (otherAttributes standing (r .attributes)) (isEmptyAppend (r .attributes) (r .payload)) long room
+
+  abbrev set-rows : List Row
+  set-rows =
+      all-rows (sound (s .nv) (s .vol)) (policyValid (s .policy)) (named (r .variable)) (ltb maxPayload (length (r .payload))) (unsupportedBit (r .attributes)) (needsBS (r .attributes))
+      (ground-rows spokenGround last-rows)
+
+  set-chain : status s (set r) ≡ firstOf set-rows
+  unfolding setStatusBy setStatus requestStatus badRequest writeStatus
+  set-chain =
+      all-chain (sound (s .nv) (s .vol)) (policyValid (s .policy)) (named (r .variable)) (ltb maxPayload (length (r .payload))) (unsupportedBit (r .attributes)) (needsBS (r .attributes))
+      _ (ground-rows spokenGround last-rows)
+      (ground-chain spokenGround _ last-rows
+      (write-chain (isDeletion (r .attributes) (r .payload)) (exists standing) (otherAttributes standing (r .attributes)) (isEmptyAppend (r .attributes) (r .payload)) long room))
+
+  -- the entry that step 4 asks
+  enforced-entry : (e : Bytes) → Enforced s r e → chosenEntry ≡ some e
+  enforced-entry e w =
+      let c = subst⁻¹ (λ x. chosen x (r .variable) ≡ some e) (policy.packs-only (w .entries) (s .policy) (w .listed)) (speaks-chosen (w .entries) (r .variable) e (w .speaks)) in
+      rw (w .enabled) c
+
+  entry-enforced : Entries s (entriesOf (s .policy)) → (e : Bytes) → chosenEntry ≡ some e → Enforced s r e
+  entry-enforced l e = go (s .switches .enabled) refl
+    where
+      go : (b : Bool) → s .switches .enabled ≡ b → speaking b (chosen (entriesOf (s .policy)) (r .variable)) ≡ some e → Enforced s r e
+      go true h c = record { enabled = h; entries = entriesOf (s .policy); listed = l; speaks = chosen-speaks (entriesOf (s .policy)) (r .variable) e c }
+      go false h c = absurd (none-some e c)
+
+  asked : (test : Ground → Bool) → test NoGround ≡ false → test spokenGround ≡ true
+      → (e : Bytes) × (chosenEntry ≡ some e) × (test (groundOf e (lookup (s .nv) (s .vol)) r) ≡ true)
+  asked test f = go chosenEntry refl
+    where
+      go : (o : Option Bytes) → chosenEntry ≡ o → test (groundBy o (lookup (s .nv) (s .vol)) r) ≡ true
+          → (e : Bytes) × (chosenEntry ≡ some e) × (test (groundOf e (lookup (s .nv) (s .vol)) r) ≡ true)
+      go none e h = absurd (false≢true (sym f ∙ h))
+      go (some x) e h = (x, e, h)
+
+  spoken-of : (e : Bytes) → Spoken (isDeletion (r .attributes) (r .payload)) (sizeAllowed e (length (r .payload))) (attributesAllowed e (r .attributes)) (locks e (lookup (s .nv) (s .vol)) (r .variable))
+      (groundOf e (lookup (s .nv) (s .vol)) r)
+  unfolding groundOf requestGround
+  spoken-of e = spoken _ _ _ _
+
+  -- what the tests that have failed before tell
+  module _ (p : ℕ) (n : NoneBefore set-rows p) where
+    set-stores : 0 < p → SoundStores (s .nv) (s .vol)
+    set-stores l = tells-sound (s .nv) (s .vol) .0 (not-false _ (n 0 l))
+
+    set-listed : 0 < p → Entries s (entriesOf (s .policy))
+    set-listed l = policy.policy-entries (s .policy) (not-false _ (n 1 l))
+
+    set-short : 10 < p → length (r .payload) ≤ maxPayload
+    set-short l = let h = tells-off _ (tells-lt maxPayload (length (r .payload))) (n 3 l) in omega arith
+
+    ground-off : (test : Ground → Bool) → test spokenGround ≡ false → (e : Bytes) → Enforced s r e → test (groundOf e (lookup (s .nv) (s .vol)) r) ≡ false
+    ground-off test h e w = subst (λ o. test (groundBy o (lookup (s .nv) (s .vol)) r) ≡ false) (enforced-entry e w) h
+
+    not-deletion : Not (Deletion r) → isDeletion (r .attributes) (r .payload) ≡ false
+    not-deletion h = off-tells _ (tells-deletion r) h
+
+  size-ground : (e : Bytes) → Enforced s r e → Not (Deletion r) → (length (r .payload) < minSize e) ⊎ (maxSize e < length (r .payload)) → Applies s (set r) 41 InvalidParameter
+  size-ground e w d (inl h) = setShort e w d h
+  size-ground e w d (inr h) = setLong e w d h
+
+  attribute-ground : (e : Bytes) → Enforced s r e → Not (Deletion r)
+      → ((i : ℕ) × Bit i (attributesMustHave e) × Not (Bit i (r .attributes))) ⊎ ((i : ℕ) × Bit i (attributesCantHave e) × Bit i (r .attributes)) → Applies s (set r) 42 InvalidParameter
+  attribute-ground e w d (inl h) = setMissing e (h .0) w d (h .1) (h .2)
+  attribute-ground e w d (inr h) = setProhibited e (h .0) w d (h .1) (h .2)
+
+  needs-ground : (RT (r .attributes) ⊎ Append (r .attributes)) × Not (BS (r .attributes)) → Applies s (set r) 30 InvalidParameter
+  needs-ground w = go (w .0)
+    where
+      go : RT (r .attributes) ⊎ Append (r .attributes) → Applies s (set r) 30 InvalidParameter
+      go (inl h) = setRuntime h (w .1)
+      go (inr h) = setAppend h (w .1)
+
+  room-ground : SoundStores (s .nv) (s .vol) → hasRoom (hasNV (r .attributes)) (storeOf (r .attributes) (s .nv) (s .vol)) (r .variable) (recordAfter standing r) ≡ false
+      → Applies s (set r) 90 OutOfResources
+  room-ground k = go (hasNV (r .attributes)) refl
+    where
+      go : (b : Bool) → hasNV (r .attributes) ≡ b → hasRoom b (cond b (s .nv) (s .vol)) (r .variable) (recordAfter standing r) ≡ false → Applies s (set r) 90 OutOfResources
+      go true e h =
+          setFullNV (k .inNV) (k .inVol) (tells-nv (r .attributes) .0 e) (k .records) (storing s r k (k .inNV))
+          (full s r k true (s .nv) (k .inNV) (first-records (k .records)) h)
+      go false e h =
+          setFullVol (k .inNV) (k .inVol) (tells-off _ (tells-nv (r .attributes)) e) (k .records) (storing s r k (k .inVol))
+          (full s r k false (s .vol) (k .inVol) (second-records (k .records)) h)
+
+  set-grounds : Grounds s (set r) set-rows set-rows
+  set-grounds = (
+    (λ n t. setStores (tells-not _ (tells-sound (s .nv) (s .vol)) .0 t)),
+    (
+      (λ n t. setRecord (λ x k. tells-not _ (tells-entries s) .0 t (x, k))),
+      (
+        (λ n t. setName (tells-not _ (tells-named (r .variable)) .0 t)),
+        (
+          (λ n t. setPayload (ltb-true maxPayload (length (r .payload)) t)),
+          (
+            (λ n t. let w = tells-unsupported (r .attributes) .0 t in setBit (w .0) (w .1) (w .2)),
+            (
+              (λ n t. needs-ground (tells-needs-bs (r .attributes) .0 t)),
+              (
+                (λ n t.
+                    let w = asked isSize refl t in
+                    let q = size-says _ (spoken-of (w .0)) (w .2) in
+                    size-ground (w .0) (entry-enforced (set-listed 41 n (omega arith)) (w .0) (w .1)) (tells-off _ (tells-deletion r) (q .0)) (tells-size (w .0) (length (r .payload)) .0 (ap not (q .1)))),
+                (
+                  (λ n t.
+                      let w = asked isAttribute refl t in
+                      let q = attribute-says _ (spoken-of (w .0)) (w .2) in
+                      attribute-ground (w .0) (entry-enforced (set-listed 42 n (omega arith)) (w .0) (w .1)) (tells-off _ (tells-deletion r) (q .0)) (tells-attributes (w .0) (r .attributes) .0 (ap not (q .1)))),
+                  (
+                    (λ n t.
+                        let w = asked isLock refl t in
+                        let q = lock-says _ (spoken-of (w .0)) (w .2) in
+                        setLocked (w .0) (entry-enforced (set-listed 43 n (omega arith)) (w .0) (w .1)) (tells-locks s (set-stores 43 n (omega arith)) (w .0) (r .variable) .0 q)),
+                    (
+                      (λ n t.
+                          let k = set-stores 51 n (omega arith) in
+                          let w = tells-and _ _ (tells-deletion r) (tells-not _ (tells-exists s (r .variable) k)) .0 t in
+                          setAbsent (w .0) (λ q f. w .1 (q, f))),
+                      (
+                        (λ n t. setDeleted (tells-deletion r .0 t)),
+                        (
+                          (λ n t. let w = tells-other s r (set-stores 60 n (omega arith)) .0 t in setOther (w .0) (w .1) (w .2)),
+                          (
+                            (λ n t. let w = tells-nothing r .0 t in setNothing (w .0) (w .1)),
+                            (
+                              (λ n t. let w = tells-joined s r (set-stores 80 n (omega arith)) (set-short 80 n (omega arith)) .0 t in setJoined (w .0) (w .1) (w .2) (w .3)),
+                              (
+                                (λ n t. room-ground (set-stores 90 n (omega arith)) (not-true _ t)),
+                                ((λ n t. setDone), tt),
+                              ),
+                            ),
+                          ),
+                        ),
+                      ),
+                    ),
+                  ),
+                ),
+              ),
+            ),
+          ),
+        ),
+      ),
+    ),
+  )
+
+  no-set : NoGrounds s (set r) set-rows
+  no-set p n k m l (setStores h) = h (set-stores p n l)
+  no-set p n k m l (setRecord h) = h (entriesOf (s .policy)) (set-listed p n l)
+  no-set p n k m l (setName h) = tells-off _ (tells-not _ (tells-named (r .variable))) (n 2 l) h
+  no-set p n k m l (setPayload h) = tells-off _ (tells-lt maxPayload (length (r .payload))) (n 3 l) h
+  no-set p n k m l (setBit i b h) = tells-off _ (tells-unsupported (r .attributes)) (n 4 l) (i, b, h)
+  no-set p n k m l (setRuntime h i) = tells-off _ (tells-needs-bs (r .attributes)) (n 5 l) (inl h, i)
+  no-set p n k m l (setAppend h i) = tells-off _ (tells-needs-bs (r .attributes)) (n 5 l) (inr h, i)
+  no-set p n k m l (setShort e w d h) =
+      tells-off _ (tells-size e (length (r .payload))) (ap not (no-size _ (spoken-of e) (ground-off p n isSize (n 6 l) e w) (not-deletion p n d))) (inl h)
+  no-set p n k m l (setLong e w d h) =
+      tells-off _ (tells-size e (length (r .payload))) (ap not (no-size _ (spoken-of e) (ground-off p n isSize (n 6 l) e w) (not-deletion p n d))) (inr h)
+  no-set p n k m l (setMissing e i w d h j) =
+      tells-off _ (tells-attributes e (r .attributes))
+      (ap not (no-attribute _ (spoken-of e) (ground-off p n isSize (n 6 (omega arith)) e w) (ground-off p n isAttribute (n 7 l) e w) (not-deletion p n d))) (inl (i, h, j))
+  no-set p n k m l (setProhibited e i w d h j) =
+      tells-off _ (tells-attributes e (r .attributes))
+      (ap not (no-attribute _ (spoken-of e) (ground-off p n isSize (n 6 (omega arith)) e w) (ground-off p n isAttribute (n 7 l) e w) (not-deletion p n d))) (inr (i, h, j))
+  no-set p n k m l (setLocked e w h) =
+      tells-off _ (tells-locks s (set-stores p n (omega arith)) e (r .variable))
+      (no-lock _ (spoken-of e) (ground-off p n isSize (n 6 (omega arith)) e w) (ground-off p n isAttribute (n 7 (omega arith)) e w) (ground-off p n isLock (n 8 l) e w)) h
+  no-set p n k m l (setAbsent d h) =
+      tells-off _ (tells-and _ _ (tells-deletion r) (tells-not _ (tells-exists s (r .variable) (set-stores p n (omega arith))))) (n 9 l) (d, λ w. h (w .0) (w .1))
+  no-set p n k m l (setDeleted d) = tells-off _ (tells-deletion r) (n 10 l) d
+  no-set p n k m l (setOther q f h) = tells-off _ (tells-other s r (set-stores p n (omega arith))) (n 11 l) (q, f, h)
+  no-set p n k m l (setNothing h i) = tells-off _ (tells-nothing r) (n 12 l) (h, i)
+  no-set p n k m l (setJoined q h f i) =
+      tells-off _ (tells-joined s r (set-stores p n (omega arith)) (set-short p n (omega arith))) (n 13 l) (q, h, f, i)
+  no-set p n k m l (setFullNV rs qs h c t i) =
+      not-full s r (set-stores p n (omega arith)) true (s .nv) rs (first-records c) (distinct-left sameVariable rs qs (c .apart)) t
+      (subst (λ b. hasRoom b (cond b (s .nv) (s .vol)) (r .variable) (recordAfter standing r) ≡ true) (tells-nv (r .attributes) .1 h) (not-false _ (n 14 l))) i
+  no-set p n k m l (setFullVol rs qs h c t i) =
+      not-full s r (set-stores p n (omega arith)) false (s .vol) qs (second-records c) (distinct-right sameVariable rs qs (c .apart)) t
+      (subst (λ b. hasRoom b (cond b (s .nv) (s .vol)) (r .variable) (recordAfter standing r) ≡ true) (off-tells _ (tells-nv (r .attributes)) h) (not-false _ (n 14 l))) i
+  no-set p n k m l setDone = true≢false (n 15 l)
+
+  pub set-answers : Answers s (set r) (status s (set r))
+  unfolding _and_
+  set-answers = first-answers s (set r) set-rows refl refl set-chain set-grounds no-set
