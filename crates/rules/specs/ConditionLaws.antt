@@ -28,7 +28,7 @@ use Rattle.entry.specs.Entry.{namespaceOf, nameIsEmpty, nameOf, targets, rank}
 use Rattle.policy.specs.Choice.{chosen}
 use Rattle.store.specs.Record.{hasNV, hasBS, hasRT, hasAppend}
 use Rattle.rules.specs.Set.{Request, isEmpty, isDeletion, unsupportedBit, needsBS, isEmptyAppend}
-use Rattle.rules.specs.Grounds.{Not, Bit, NV, BS, RT, Append, knownBits, Name, Named, UnitMatches, Matches, Targets, Speaks, Deletion}
+use Rattle.rules.specs.Grounds.{Not, Bit, NV, BS, RT, Append, knownBits, Name, Named, UnitMatches, Matches, Targets, Speaks, Deletion, EmptyAppend}
 
 -- ---- a test and its proposition
 
@@ -224,7 +224,7 @@ tells-deletion r =
     tells-and _ _ (tells-not _ (tells-append (r .attributes)))
     (tells-or _ _ (tells-empty (r .payload)) (tells-not _ (tells-or _ _ (tells-bs (r .attributes)) (tells-rt (r .attributes)))))
 
-pub tells-nothing : (r : Request) → Tells (isEmptyAppend (r .attributes) (r .payload)) (Append (r .attributes) × (r .payload ≡ []))
+pub tells-nothing : (r : Request) → Tells (isEmptyAppend (r .attributes) (r .payload)) (EmptyAppend r)
 unfolding isEmptyAppend
 tells-nothing r = tells-and _ _ (tells-append (r .attributes)) (tells-empty (r .payload))
 

@@ -10,9 +10,9 @@ use Rattle.lists.specs.Lists.{Among}
 use Rattle.lists.specs.ListsLaws.{among-middle}
 use Rattle.slices.specs.TestLaws.{and-left, and-right, and-intro, forced-off}
 use Rattle.slices.specs.Bytes.{Bytes}
-use Rattle.slices.specs.Chunks.{contains, distinct, find, replace, replaceOrAppend}
+use Rattle.slices.specs.Chunks.{contains, distinct, find, remove, replace, replaceOrAppend}
 use Rattle.slices.specs.ChunksLaws.{All, nil, more}
-use Rattle.slices.specs.ItemsLaws.{contains-middle, contains-none, distinct-across, distinct-apart, distinct-left, distinct-right, find-takes, none-contains, or-left-off, or-right-off}
+use Rattle.slices.specs.ItemsLaws.{contains-middle, contains-none, distinct-across, distinct-apart, distinct-left, distinct-right, find-takes, or-left-off, or-right-off, remove-none}
 use Rattle.names.specs.Name.{Variable}
 use Rattle.policy.specs.Policy.{entriesOf, policyValid}
 use Rattle.policy.specs.PolicyLaws as policy
@@ -24,7 +24,7 @@ use Rattle.pair.specs.Pair.{allRecords, sound, soundAlone, lookup}
 use Rattle.pair.specs.PairLaws.{sound-nv, sound-vol, sound-distinct, sound-of}
 use Rattle.rules.specs.Set.{exists}
 use Rattle.rules.specs.Engine.{State}
-use Rattle.rules.specs.Grounds.{Not, Entries, Records, SoundStores, SoundAlone, Found, Absent, Put}
+use Rattle.rules.specs.Grounds.{Not, Entries, Records, SoundStores, SoundAlone, Found, Absent, Put, Taken}
 use Rattle.rules.specs.ConditionLaws.{Tells}
 
 -- ---- members of a list, and tests
@@ -147,8 +147,9 @@ module _ (s : State) (v : Variable) where
       go none e h = absurd (false≢true h)
       go (some r) e h = (r, lookup-found r k e)
 
--- ---- a store's records with one written
+-- ---- a store's records with one written or taken out
 
+-- where a test first holds
 record Middle (p : Bytes → Bool) (q : Bytes) (l : List Bytes) : Type 0 where
   before : List Bytes
   here : Bytes
@@ -156,14 +157,15 @@ record Middle (p : Bytes → Bool) (q : Bytes) (l : List Bytes) : Type 0 where
   is : l ≡ before ++ (here ∷ behind)
   takes : p here ≡ true
   written : replace p q l ≡ before ++ (q ∷ behind)
+  without : remove p l ≡ before ++ behind
 
 middle : (p : Bytes → Bool) (q : Bytes) (l : List Bytes) → contains p l ≡ true → Middle p q l
-unfolding contains replace
+unfolding contains replace remove
 middle p q [] e = absurd (false≢true e)
 middle p q (x ∷ l) e = go (p x) refl e (middle p q l)
   where
     go : (b : Bool) → p x ≡ b → (b || contains p l) ≡ true → (contains p l ≡ true → Middle p q l) → Middle p q (x ∷ l)
-    go true h k f = record { before = []; here = x; behind = l; is = refl; takes = h; written = rw h }
+    go true h k f = record { before = []; here = x; behind = l; is = refl; takes = h; written = rw h; without = rw h }
     go false h k f =
         let m = f k in
         record {
@@ -173,43 +175,72 @@ middle p q (x ∷ l) e = go (p x) refl e (middle p q l)
           is = ap (_∷_ x) (m .is);
           takes = m .takes;
           written = rw h (ap (_∷_ x) (m .written));
+          without = rw h (ap (_∷_ x) (m .without));
         }
 
 pub contains-among : (p : Bytes → Bool) (l : List Bytes) → contains p l ≡ true → (a : Bytes) × Among a l × (p a ≡ true)
-contains-among p l e = let m = middle p [] l e in (m .here, subst⁻¹ (Among (m .here)) (m .is) (among-middle (m .before) (m .here) (m .behind)), m .takes)
+contains-among p l e =
+    let m = middle p [] l e in
+    (m .here, subst⁻¹ (Among (m .here)) (m .is) (among-middle (m .before) (m .here) (m .behind)), m .takes)
 
-replace-middle : (p : Bytes → Bool) (q : Bytes) (xs : List Bytes) (x : Bytes) (ys : List Bytes) → contains p xs ≡ false → p x ≡ true → replace p q (xs ++ (x ∷ ys)) ≡ xs ++ (q ∷ ys)
-unfolding contains replace
-replace-middle p q [] x ys n t = rw t
-replace-middle p q (z ∷ xs) x ys n t = rw (or-left-off (p z) (contains p xs) n) (ap (_∷_ z) (replace-middle p q xs x ys (or-right-off (p z) (contains p xs) n) t))
+-- at a place before which it does not hold
+module _ (p : Bytes → Bool) (x : Bytes) (ys : List Bytes) (t : p x ≡ true) where
+  replace-middle : (q : Bytes) (xs : List Bytes) → contains p xs ≡ false → replace p q (xs ++ (x ∷ ys)) ≡ xs ++ (q ∷ ys)
+  unfolding contains replace
+  replace-middle q [] n = rw t
+  replace-middle q (z ∷ xs) n = rw (or-left-off (p z) (contains p xs) n) (ap (_∷_ z) (replace-middle q xs (or-right-off (p z) (contains p xs) n)))
 
-module _ (v : Variable) (q : Bytes) (rs : List Bytes) where
-  -- what the rules write
-  pub with-put : Put v q rs (replaceOrAppend (isOf v) q rs)
+  remove-middle : (xs : List Bytes) → contains p xs ≡ false → remove p (xs ++ (x ∷ ys)) ≡ xs ++ ys
+  unfolding contains remove
+  remove-middle [] n = rw t
+  remove-middle (z ∷ xs) n = rw (or-left-off (p z) (contains p xs) n) (ap (_∷_ z) (remove-middle xs (or-right-off (p z) (contains p xs) n)))
+
+-- no record of the variable
+pub nowhere : (v : Variable) (rs : List Bytes) → ((x : Bytes) → Among x rs → Not (variableOf x ≡ v)) → contains (isOf v) rs ≡ false
+nowhere v rs n = forced-off (contains (isOf v) rs) (λ c.
+    let w = contains-among (isOf v) rs c in absurd (n (w .0) (w .1) (sym (isOf-variable v (w .0) (w .2)))))
+
+none-there : (v : Variable) (rs : List Bytes) → contains (isOf v) rs ≡ false → (x : Bytes) → Among x rs → Not (variableOf x ≡ v)
+none-there v rs e x k o = true≢false (sym (own-of v x o) ∙ slices-among rs (contains-none (isOf v) rs e) x k)
+
+-- of distinct records none before a variable's is one of the variable
+only-one : (v : Variable) (xs : List Bytes) (x : Bytes) (ys : List Bytes) → distinct sameVariable (xs ++ (x ∷ ys)) ≡ true → isOf v x ≡ true → contains (isOf v) xs ≡ false
+only-one v xs x ys d t = forced-off (contains (isOf v) xs) (λ c.
+    let w = contains-among (isOf v) xs c in
+    let off = slices-among xs (distinct-across sameVariable xs (x ∷ ys) d) (w .0) (w .1) in
+    absurd (true≢false (sym (among-contains (sameVariable (w .0)) (x ∷ ys) x (inl refl) (sym (isOf-like v (w .0) (w .2) x) ∙ t)) ∙ off)))
+
+module _ (v : Variable) (rs : List Bytes) where
+  -- what the rules write, and take out
+  pub with-put : (q : Bytes) → Put v q rs (replaceOrAppend (isOf v) q rs)
   unfolding replaceOrAppend
-  with-put = go (contains (isOf v) rs) refl
+  with-put q = go (contains (isOf v) rs) refl
     where
       go : (b : Bool) → contains (isOf v) rs ≡ b → Put v q rs (cond b (replace (isOf v) q rs) (rs ++ (q ∷ [])))
       go true e = let m = middle (isOf v) q rs e in Put.inPlace (m .before) (m .here) (m .behind) (m .is) (sym (isOf-variable v (m .here) (m .takes))) (m .written)
-      go false e = Put.behind (λ x k o. true≢false (sym (own-of v x o) ∙ slices-among rs (contains-none (isOf v) rs e) x k)) refl
+      go false e = Put.behind (none-there v rs e) refl
 
-  -- is all that may be written
-  pub put-with : (ps : List Bytes) → distinct sameVariable rs ≡ true → Put v q rs ps → ps ≡ replaceOrAppend (isOf v) q rs
-  unfolding replaceOrAppend
-  put-with ps d (Put.inPlace xs x ys e o f) =
-      let t : isOf v x ≡ true = own-of v x o in
-      let c : contains (isOf v) rs ≡ true = subst⁻¹ (λ l. contains (isOf v) l ≡ true) e (contains-middle (isOf v) xs x ys t) in
-      rw c (f ∙ sym (ap (replace (isOf v) q) e ∙ replace-middle (isOf v) q xs x ys (none-before t) t))
+  pub without-taken : Taken v rs (remove (isOf v) rs)
+  without-taken = go (contains (isOf v) rs) refl
     where
-      none-before : isOf v x ≡ true → contains (isOf v) xs ≡ false
-      none-before t = forced-off (contains (isOf v) xs) (λ c.
-          let m = middle (isOf v) q xs c in
-          let apart = distinct-across sameVariable (m .before ++ (m .here ∷ m .behind)) (x ∷ ys)
-          (subst (λ l. distinct sameVariable (l ++ (x ∷ ys)) ≡ true) (m .is) (subst (λ l. distinct sameVariable l ≡ true) e d)) in
-          let off = slices-among _ apart (m .here) (among-middle (m .before) (m .here) (m .behind)) in
-          absurd (true≢false (sym (among-contains (sameVariable (m .here)) (x ∷ ys) x (inl refl) (sym (isOf-like v (m .here) (m .takes) x) ∙ t)) ∙ off)))
-  put-with ps d (Put.behind n f) =
-      let c : contains (isOf v) rs ≡ false = forced-off (contains (isOf v) rs) (λ c.
-      let m = middle (isOf v) q rs c in
-      absurd (n (m .here) (subst⁻¹ (Among (m .here)) (m .is) (among-middle (m .before) (m .here) (m .behind))) (sym (isOf-variable v (m .here) (m .takes))))) in
-      rw c f
+      go : (b : Bool) → contains (isOf v) rs ≡ b → Taken v rs (remove (isOf v) rs)
+      go true e = let m = middle (isOf v) [] rs e in Taken.out (m .before) (m .here) (m .behind) (m .is) (sym (isOf-variable v (m .here) (m .takes))) (m .without)
+      go false e = Taken.absent (none-there v rs e) (remove-none (isOf v) rs e)
+
+  -- is all that may be written, and taken out
+  module _ (d : distinct sameVariable rs ≡ true) where
+    before-none : (xs : List Bytes) (x : Bytes) (ys : List Bytes) → rs ≡ xs ++ (x ∷ ys) → variableOf x ≡ v → contains (isOf v) xs ≡ false
+    before-none xs x ys e o = only-one v xs x ys (subst (λ l. distinct sameVariable l ≡ true) e d) (own-of v x o)
+
+    pub put-with : (q : Bytes) (ps : List Bytes) → Put v q rs ps → ps ≡ replaceOrAppend (isOf v) q rs
+    unfolding replaceOrAppend
+    put-with q ps (Put.inPlace xs x ys e o f) =
+        let t = own-of v x o in
+        let c : contains (isOf v) rs ≡ true = subst⁻¹ (λ l. contains (isOf v) l ≡ true) e (contains-middle (isOf v) xs x ys t) in
+        rw c (f ∙ sym (ap (replace (isOf v) q) e ∙ replace-middle (isOf v) x ys t q xs (before-none xs x ys e o)))
+    put-with q ps (Put.behind n f) = rw (nowhere v rs n) f
+
+    pub taken-without : (ps : List Bytes) → Taken v rs ps → ps ≡ remove (isOf v) rs
+    taken-without ps (Taken.out xs x ys e o f) =
+        f ∙ sym (ap (remove (isOf v)) e ∙ remove-middle (isOf v) x ys (own-of v x o) xs (before-none xs x ys e o))
+    taken-without ps (Taken.absent n f) = f ∙ sym (remove-none (isOf v) rs (nowhere v rs n))

@@ -137,6 +137,10 @@ pub data Locks (s : State) (e : Bytes) (v : Variable) : Type 0 where
 abbrev pub Deletion : Request → Type 0
 Deletion r = Not (Append (r .attributes)) × ((r .payload ≡ []) ⊎ Not (BS (r .attributes) ⊎ RT (r .attributes)))
 
+-- an append of nothing
+abbrev pub EmptyAppend : Request → Type 0
+EmptyAppend r = Append (r .attributes) × (r .payload ≡ [])
+
 -- equal NV, BS and RT
 pub record SameKind (a b : ℕ) : Type 0 where
   pub nv : NV a ↔ NV b
@@ -160,6 +164,11 @@ pub data PayloadAfter (s : State) (r : Request) (p : Bytes) : Type 0 where
 pub data Put (v : Variable) (q : Bytes) (rs ps : List Bytes) : Type 0 where
   inPlace : (xs : List Bytes) (x : Bytes) (ys : List Bytes) → rs ≡ xs ++ (x ∷ ys) → variableOf x ≡ v → ps ≡ xs ++ (q ∷ ys) → Put v q rs ps
   behind : ((x : Bytes) → Among x rs → Not (variableOf x ≡ v)) → ps ≡ rs ++ (q ∷ []) → Put v q rs ps
+
+-- ps are the records rs without the variable's, the gap closed
+pub data Taken (v : Variable) (rs ps : List Bytes) : Type 0 where
+  out : (xs : List Bytes) (x : Bytes) (ys : List Bytes) → rs ≡ xs ++ (x ∷ ys) → variableOf x ≡ v → ps ≡ xs ++ ys → Taken v rs ps
+  absent : ((x : Bytes) → Among x rs → Not (variableOf x ≡ v)) → ps ≡ rs → Taken v rs ps
 
 -- what the request would store, in the store whose records are rs: its record, and that store's records afterwards
 pub record Storing (s : State) (r : Request) (rs : List Bytes) : Type 0 where
@@ -233,7 +242,7 @@ pub data Applies (s : State) : Call → ℕ → Status → Type 0 where
   -- 6
   setOther : {r : Request} (q : Bytes) → Found s (r .variable) q → Not (SameKind (attributesOf q) (r .attributes)) → Applies s (set r) 60 InvalidParameter
   -- 7
-  setNothing : {r : Request} → Append (r .attributes) → r .payload ≡ [] → Applies s (set r) 70 Success
+  setNothing : {r : Request} → EmptyAppend r → Applies s (set r) 70 Success
   -- 8
   setJoined : {r : Request} (q : Bytes) → Append (r .attributes) → Found s (r .variable) q → maxPayload < length (payloadOf q) + length (r .payload)
       → Applies s (set r) 80 OutOfResources

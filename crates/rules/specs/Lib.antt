@@ -10,5 +10,7 @@ pub mod FoundLaws
 pub mod OrderedLaws
 pub mod SetGroundsLaws
 pub mod GroundsLaws
+pub mod Effects
+pub mod EffectsLaws
 pub mod StateLaws
 pub mod Readings

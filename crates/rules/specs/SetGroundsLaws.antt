@@ -238,7 +238,7 @@ three-bits x b c d hb hc hd e =
     let i : x / 2 / 2 ≡ d = omega arith in
     (omega arith, omega arith, omega arith)
 
-kind-same : (x a : ℕ) → x ≡ a % 8 → SameKind x a
+pub kind-same : (x a : ℕ) → x ≡ a % 8 → SameKind x a
 kind-same x a e =
     let w = three-bits x (a % 2) (a / 2 % 2) (a / 2 / 2 % 2) (omega arith) (omega arith) (omega arith) (e ∙ low-bits a) in
     record {
@@ -279,10 +279,10 @@ tells-other s r k = (go (lookup (s .nv) (s .vol) (r .variable)) refl, back)
 -- ---- steps 8 and 9
 
 module _ (s : State) (r : Request) (k : SoundStores (s .nv) (s .vol)) where
-  abbrev after : Bytes
+  abbrev pub after : Bytes
   after = payloadAfter (lookup (s .nv) (s .vol) (r .variable)) (r .attributes) (r .payload)
 
-  payload-is : PayloadAfter s r after
+  pub payload-is : PayloadAfter s r after
   unfolding payloadAfter
   payload-is = go (lookup (s .nv) (s .vol) (r .variable)) refl
     where
@@ -294,7 +294,7 @@ module _ (s : State) (r : Request) (k : SoundStores (s .nv) (s .vol)) where
           go₂ true h = PayloadAfter.joined q (tells-append (r .attributes) .0 h) (lookup-found s (r .variable) q k e) refl
           go₂ false h = PayloadAfter.own (λ i. absurd (tells-off _ (tells-append (r .attributes)) h i)) refl
 
-  payload-only : (p : Bytes) → PayloadAfter s r p → p ≡ after
+  pub payload-only : (p : Bytes) → PayloadAfter s r p → p ≡ after
   unfolding payloadAfter
   payload-only p (PayloadAfter.joined q h f e) = rw (found-lookup s (r .variable) q f, tells-append (r .attributes) .1 h) e
   payload-only p (PayloadAfter.own h e) = go (lookup (s .nv) (s .vol) (r .variable)) refl
@@ -323,16 +323,16 @@ module _ (s : State) (r : Request) (k : SoundStores (s .nv) (s .vol)) where
       to (PayloadAfter.joined q h f e) t = (q, h, f, let l = ap length e ∙ length-append (payloadOf q) (r .payload) in omega arith)
       to (PayloadAfter.own h e) t = absurd (let l = ap length e in omega arith)
 
-  abbrev stored : Bytes
+  abbrev pub stored : Bytes
   stored = encodeRecord (r .attributes % 8) (r .variable) after
 
   -- what is stored among the records rs
-  abbrev storing : (rs : List Bytes) → Storing s r rs
-  storing rs = record { payload = after; is = payload-is; records = replaceOrAppend (isOf (r .variable)) stored rs; put = with-put (r .variable) stored rs }
+  abbrev pub storing : (rs : List Bytes) → Storing s r rs
+  storing rs = record { payload = after; is = payload-is; records = replaceOrAppend (isOf (r .variable)) stored rs; put = with-put (r .variable) rs stored }
 
-  storing-only : (rs : List Bytes) → distinct sameVariable rs ≡ true → (t : Storing s r rs) → t .records ≡ replaceOrAppend (isOf (r .variable)) stored rs
+  pub storing-only : (rs : List Bytes) → distinct sameVariable rs ≡ true → (t : Storing s r rs) → t .records ≡ replaceOrAppend (isOf (r .variable)) stored rs
   storing-only rs d t =
-      put-with (r .variable) _ rs (t .records) d (t .put)
+      put-with (r .variable) rs d _ (t .records) (t .put)
       ∙ ap (λ p. replaceOrAppend (isOf (r .variable)) (encodeRecord (r .attributes % 8) (r .variable) p) rs) (payload-only (t .payload) (t .is))
 
   -- no room in a store, whose records are rs
@@ -496,7 +496,7 @@ module _ (s : State) (r : Request) where
                         (
                           (λ n t. let w = tells-other s r (set-stores 60 n (omega arith)) .0 t in setOther (w .0) (w .1) (w .2)),
                           (
-                            (λ n t. let w = tells-nothing r .0 t in setNothing (w .0) (w .1)),
+                            (λ n t. setNothing (tells-nothing r .0 t)),
                             (
                               (λ n t. let w = tells-joined s r (set-stores 80 n (omega arith)) (set-short 80 n (omega arith)) .0 t in setJoined (w .0) (w .1) (w .2) (w .3)),
                               (
@@ -543,7 +543,7 @@ module _ (s : State) (r : Request) where
       tells-off _ (tells-and _ _ (tells-deletion r) (tells-not _ (tells-exists s (r .variable) (set-stores p n (omega arith))))) (n 9 l) (d, λ w. h (w .0) (w .1))
   no-set p n k m l (setDeleted d) = tells-off _ (tells-deletion r) (n 10 l) d
   no-set p n k m l (setOther q f h) = tells-off _ (tells-other s r (set-stores p n (omega arith))) (n 11 l) (q, f, h)
-  no-set p n k m l (setNothing h i) = tells-off _ (tells-nothing r) (n 12 l) (h, i)
+  no-set p n k m l (setNothing h) = tells-off _ (tells-nothing r) (n 12 l) h
   no-set p n k m l (setJoined q h f i) =
       tells-off _ (tells-joined s r (set-stores p n (omega arith)) (set-short p n (omega arith))) (n 13 l) (q, h, f, i)
   no-set p n k m l (setFullNV rs qs h c t i) =

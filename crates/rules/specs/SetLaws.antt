@@ -229,6 +229,19 @@ module _ (speaking : Option Bytes) (nv vol : Bytes) (r : Request) (ok : sound nv
           storedVolatile (rw (d, e, n)) (rw (d, e, n)) (record { formed = rw n at (formed d e m); own = own; room = rw n at room })
           (not-first nv vol (r .variable) (r .attributes) o n)
 
+  -- what is stored is a record, which its store has room for
+  pub set-formed : isDeletion (r .attributes) (r .payload) ≡ false → isEmptyAppend (r .attributes) (r .payload) ≡ false
+      → (recordOk (hasNV (r .attributes)) (recordAfter before r) ≡ true)
+      × (hasRoom (hasNV (r .attributes)) (storeOf (r .attributes) nv vol) (r .variable) (recordAfter before r) ≡ true)
+  set-formed d e = go written
+    where
+      go : Writes nv vol before r
+          → (recordOk (hasNV (r .attributes)) (recordAfter before r) ≡ true)
+          × (hasRoom (hasNV (r .attributes)) (storeOf (r .attributes) nv vol) (r .variable) (recordAfter before r) ≡ true)
+      go (deletes d′) = absurd (true≢false (sym d′ ∙ d))
+      go (keeps d′ e′) = absurd (true≢false (sym e′ ∙ e))
+      go (stores d′ o e′ m room) = (formed d e m, room)
+
   change : Change nv vol (r .variable) (recordAfter before r) nvAfter volAfter
   unfolding setStore
   change = go written
