@@ -1,18 +1,14 @@
--- What each call keeps whatever it answers, what a dump leaves in its buffer, and which step of a set answers first.
+-- What each call keeps whatever it answers, and what a dump leaves in its buffer.
 -- Assumes nothing.
 use mathlib.Core.Path.{_≡_, refl}
 use mathlib.Core.List.{[], _++_}
 use mathlib.Core.Bool.{Bool, true, false, cond}
-use mathlib.Core.Option.{Option}
 use lib.ListN.{length, drop}
 use Rattle.slices.specs.Bytes.{Bytes}
 use Rattle.slices.specs.OverwriteLaws.{overwrite-seam}
 use Rattle.slices.specs.Chunks.{flat}
 use Rattle.policy.specs.Policy.{entriesOf}
-use Rattle.pair.specs.Pair.{lookup}
-use Rattle.status.specs.declared.Status.{Status}
 use Rattle.status.specs.Status.{isSuccess}
-use Rattle.rules.specs.Set.{Request, groundBy, groundStatus, requestStatus, setStatus, writeStatus}
 use Rattle.rules.specs.Engine.{State, Call, powerOn, restart, register, dump, lock, disable, query, read, set, status, effect, step}
 
 -- ---- what a call keeps
@@ -87,21 +83,3 @@ pub dumped-buffer : (s : State) (buffer : Bytes) → isSuccess (status s (dump b
     → step s (dump buffer) .0 .bytes ≡ flat (entriesOf (s .policy)) ++ drop (length (flat (entriesOf (s .policy)))) buffer
 unfolding step
 dumped-buffer s buffer e = rw e (overwrite-seam [] buffer (flat (entriesOf (s .policy))) 0 refl)
-
--- ---- which step answers first
-module _ (speaking : Option Bytes) (nv vol : Bytes) (r : Request) where
-  -- what step 4 answers
-  abbrev grounds : Status
-  grounds = groundStatus (groundBy speaking (lookup nv vol) r)
-
-  pub steps-1-to-3-first : isSuccess (requestStatus r) ≡ false → setStatus speaking nv vol r ≡ requestStatus r
-  unfolding setStatus
-  steps-1-to-3-first e = rw e
-
-  pub step-4-next : isSuccess (requestStatus r) ≡ true → isSuccess grounds ≡ false → setStatus speaking nv vol r ≡ grounds
-  unfolding setStatus
-  step-4-next e f = rw (e, f)
-
-  pub steps-5-to-9-last : isSuccess (requestStatus r) ≡ true → isSuccess grounds ≡ true → setStatus speaking nv vol r ≡ writeStatus nv vol (lookup nv vol (r .variable)) r
-  unfolding setStatus
-  steps-5-to-9-last e f = rw (e, f)
