@@ -1,6 +1,6 @@
 -- DEMAND 3 over the rules' engine, closed: no parameter is left open, and nothing is assumed but that the power-on answered 0.
 -- The definitions that it uses are in `history`'s History.antt, and what they are of this engine is in Machine.antt.
-use mathlib.Core.Path.{_≡_, refl}
+use mathlib.Core.Path.{_≡_, refl, ap, _∙_}
 use mathlib.Core.List.{List, [], _∷_, _++_, map}
 use mathlib.Core.Bool.{Bool, true, false}
 use mathlib.Core.Option.{none}
@@ -10,21 +10,22 @@ use Rattle.slices.specs.Bytes.{Bytes}
 use Rattle.policy.specs.Policy.{entriesOf, sizesSum}
 use Rattle.status.specs.Status.{isSuccess}
 use Rattle.rules.specs.Engine as rules
-use Rattle.rules.specs.Engine.{Call}
-use Rattle.rules.specs.Engine.Call.{powerOn}
+use Rattle.rules.specs.Engine.{State, Call}
+use Rattle.rules.specs.Engine.Call.{powerOn, restart}
+use Rattle.rules.specs.EngineLaws.{step-status}
 use Rattle.rules.specs.StateLaws.{power-on-sound}
 use Rattle.history.specs.History.{Items, Order, Past, Proper, Complete, Permitted, Demand3, endWith}
 use Rattle.history.specs.History.ItemOf.{call, ownDump, rebuild}
 use Rattle.history.specs.HistoryLaws as general
 use Rattle.history.specs.AnyMoment as moment
 use Rattle.history.specs.AnyMoment.{NoneOutdates, OneRebuild, pastAfter}
-use Rattle.demand3.specs.Machine.{State, grouped, machine}
-use Rattle.demand3.specs.MachineLaws.{Reached, laws, never-cut}
+use Rattle.demand3.specs.Machine.{machine}
+use Rattle.demand3.specs.MachineLaws.{Reached, laws, power-on-done, restart-done, never-cut}
 
 -- "A history starts from the state that a power-on with answer 0 left, whatever the stores held and whether or not disabling
 -- is allowed"
 abbrev pub poweredOn : rules.State → Bool → State
-poweredOn s allowed = grouped (rules.step s (powerOn allowed) .1)
+poweredOn s allowed = rules.step s (powerOn allowed) .1
 
 start : (s : rules.State) (allowed : Bool) → isSuccess (rules.step s (powerOn allowed) .0 .status) ≡ true → Reached false (poweredOn s allowed)
 start s allowed h = record { uncut = refl; sound = power-on-sound s allowed h }
@@ -77,6 +78,26 @@ module _ (s : rules.State) (allowed : Bool) (answered0 : isSuccess (rules.step s
       → Permitted machine ds x → ProperFrom (is ++ (rebuild ds x ∷ []))
   append-rebuild is ds x p d m =
       moment.append-rebuild machine Reached laws (poweredOn s allowed) (start s allowed answered0) is ds x p (uncut is) d m
+
+  -- an own dump with room serves a rebuild at any later moment, in order or in any permitted other order, unless a registration,
+  -- power-on or restart of the history that succeeded outdates it
+  pub dump-now-rebuild-later : (xs ys : Items machine) (buffer : Bytes) (x : Order machine) → ProperFrom (xs ++ ys)
+      → sizesSum (endWith machine (poweredOn s allowed) xs .policy) ≤ length buffer
+      → NoneOutdates machine (endWith machine (poweredOn s allowed) xs) ys → Permitted machine (entriesAt xs) x
+      → ProperFrom ((xs ++ (ownDump buffer ∷ ys)) ++ (rebuild (entriesAt xs) x ∷ []))
+  dump-now-rebuild-later xs ys buffer x p room n m =
+      moment.dump-now-rebuild-later machine Reached laws (poweredOn s allowed) (start s allowed answered0) xs ys buffer x p (uncut xs) room n
+      (moment.never-cut machine never-cut ys (endWith machine (poweredOn s allowed) xs)) m
+
+  -- no power-on and no restart of a history is refused, with rebuilds or without: each is refused by damage alone, and no call
+  -- does any
+  pub starts-succeed : (is : Items machine) → ProperFrom is → (again : Bool)
+      → (isSuccess (rules.step (endWith machine (poweredOn s allowed) is) (powerOn again) .0 .status) ≡ true)
+      × (isSuccess (rules.step (endWith machine (poweredOn s allowed) is) (restart again) .0 .status) ≡ true)
+  starts-succeed is p again =
+      let z = endWith machine (poweredOn s allowed) is in
+      let w = moment.reached machine Reached laws (poweredOn s allowed) (start s allowed answered0) is p (uncut is) .sound in
+      (ap isSuccess (step-status z (powerOn again)) ∙ power-on-done z again w, ap isSuccess (step-status z (restart again)) ∙ restart-done z again w)
 
   -- ONE REBUILD between any two lists of calls
   pub one-rebuild : (cs₁ cs₂ : List Call) → OneRebuild machine (poweredOn s allowed) cs₁ cs₂

@@ -26,14 +26,14 @@ use Rattle.status.specs.Status.{isSuccess, statusNumber}
 use Rattle.switches.specs.Switches.{freshSwitches}
 use Rattle.rules.specs.Set.{exists, isEmpty, holdsValue, locks, isDeletion, sizeAllowed, attributesAllowed, requestGround, groundOf, otherAttributes, isEmptyAppend, payloadAfter, writeStatus, badRequest, unsupportedBit, needsBS, requestStatus, setStatus, setStore}
 use Rattle.rules.specs.Engine as rules
-use Rattle.rules.specs.Engine.{Call, step, powerOnStatus, restartStatus, registerStatus, dumpStatus, readStatus, setStatusBy}
+use Rattle.rules.specs.Engine.{Answer, Call, step, powerOnStatus, restartStatus, registerStatus, dumpStatus, readStatus, setStatusBy}
 use Rattle.rules.specs.Engine.Call.{powerOn, restart, register, dump, lock, disable, read, set}
 use Rattle.history.specs.History.{Items, Complete, DumpOf, Demand3, Permitted, Past, answers, answersWith, history, struck}
 use Rattle.history.specs.AnyMoment.{pastAfter}
 use Rattle.history.specs.History.Outcome.{granted}
 use Rattle.history.specs.History.Kind.{dumps}
 use Rattle.history.specs.History.ItemOf.{call, ownDump, rebuild}
-use Rattle.demand3.specs.Machine.{Answer, outcomeBy, kindOf, machine}
+use Rattle.demand3.specs.Machine.{outcomeBy, kindOf, machine}
 use Rattle.demand3.specs.Demand3.{poweredOn, demand-3, ProperFrom, append-calls, insert-dump, append-rebuild}
 
 -- two namespaces; the names "A#", "#A", "A1" and "AA"
@@ -108,7 +108,7 @@ items = (items₃ ++ (rebuild (e₂ ∷ e₁ ∷ e₃ ∷ []) none ∷ [])) ++ m
 
 abbrev statusNumbers : List Answer → List ℕ
 statusNumbers [] = []
-statusNumbers (a ∷ l) = statusNumber (a .beside .status) ∷ statusNumbers l
+statusNumbers (a ∷ l) = statusNumber (a .status) ∷ statusNumbers l
 
 abbrev bytesOf : ℕ → List Answer → Bytes
 bytesOf n [] = []
@@ -117,7 +117,7 @@ bytesOf (suc n) (a ∷ l) = bytesOf n l
 
 abbrev numberOf : ℕ → List Answer → ℕ
 numberOf n [] = 0
-numberOf zero (a ∷ l) = a .beside .number
+numberOf zero (a ∷ l) = a .number
 numberOf (suc n) (a ∷ l) = numberOf n l
 
 -- what the history's calls answer, with the rebuilds and without them
@@ -141,10 +141,10 @@ abbrev past : Items machine → Past machine
 past is = pastAfter machine [] (poweredOn board true) is
 
 -- a dump that answered 0, whose bytes are compared one by one
-dump-of : {ds : List Bytes} {c : Call} {a : Answer} → kindOf c ≡ dumps → outcomeBy (isSuccess (a .beside .status)) ≡ granted
-    → All (λ e. wellFormed e ≡ true) ds → same (lists.flat ds) (take (a .beside .number) (a .bytes)) ≡ true → DumpOf machine ds c a
+dump-of : {ds : List Bytes} {c : Call} {a : Answer} → kindOf c ≡ dumps → outcomeBy (isSuccess (a .status)) ≡ granted
+    → All (λ e. wellFormed e ≡ true) ds → same (lists.flat ds) (take (a .number) (a .bytes)) ≡ true → DumpOf machine ds c a
 dump-of {ds} {c} {a} k g f h =
-    record { isDump = k; isGranted = g; areFormed = f; areDumped = same-eq (lists.flat ds) (take (a .beside .number) (a .bytes)) h }
+    record { isDump = k; isGranted = g; areFormed = f; areDumped = same-eq (lists.flat ds) (take (a .number) (a .bytes)) h }
 
 -- entries of different namespaces never target one variable
 apart : (e f : Bytes) → (namespaceOf e ≡ namespaceOf f → ⊥) → (v : Variable) → RanksDiffer rank (λ x. targets x v) e f

@@ -2,5 +2,4 @@ pub mod Machine
 pub mod OrderLaws
 pub mod MachineLaws
 pub mod Demand3
-pub mod OneRebuild
 pub mod Example

@@ -1,55 +1,21 @@
--- The rules' engine as the machine that demand 3 is about: the fields of its `step` regrouped, and what the words "policy
--- record", "granted", "registration", "dump", "entry", "targets", "rank" and "rebuild" are of it.
--- Assumes nothing: these are definitions.
+-- The rules' engine as the machine that demand 3 is about: its states, calls, answers and `step` are the rules' own. Here is
+-- what the words "granted", "registration", "dump", "entry", "targets", "rank" and "rebuild" are of it, and what another order
+-- of the entries changes. Assumes nothing: these are definitions.
 use Prim.Native.Nat.{ℕ, _≤_}
 use mathlib.Core.List.{List, [], _∷_, _++_}
 use mathlib.Core.Bool.{Bool, true, cond}
-use mathlib.Core.Option.{Option}
-use lib.ListN.{length}
+use lib.ListN.{length, take}
+use Rattle.lists.specs.Lists.{over}
 use Rattle.slices.specs.Bytes.{Bytes}
 use Rattle.names.specs.Name.{Variable, named}
 use Rattle.entry.specs.Entry.{wellFormed, targets, rank}
 use Rattle.policy.specs.Policy.{entriesOf, sizesSum}
-use Rattle.status.specs.declared.Status.{Status}
 use Rattle.status.specs.Status.{isSuccess}
-use Rattle.switches.specs.declared.Switches.{Switches}
-use Rattle.rules.specs.Engine as rules
-use Rattle.rules.specs.Engine.{Call}
+use Rattle.rules.specs.Engine.{State, Answer, Call, stateOf, step}
 use Rattle.rules.specs.Engine.Call.{powerOn, restart, register, dump, lock, disable, query, read, set}
-use Rattle.history.specs.History.{StateRecord, AnswerRecord, Outcome, Kind, Machine}
+use Rattle.history.specs.History.{Outcome, Kind, Machine}
 use Rattle.history.specs.History.Outcome.{granted, refused}
 use Rattle.history.specs.History.Kind.{starts, registers, dumps, keeps}
-
--- the state but for the policy record: the two stores and the switches
-pub record Core : Type 0 where
-  pub nv : Bytes
-  pub vol : Bytes
-  pub switches : Switches
-
--- an answer but for its bytes
-pub record Beside : Type 0 where
-  pub status : Status
-  pub number : ℕ
-  pub switches : Option Switches
-
-abbrev pub State : Type 0
-State = StateRecord Core ℕ
-
-abbrev pub Answer : Type 0
-Answer = AnswerRecord Beside ℕ
-
--- the rules' states and answers, and the same fields grouped
-abbrev pub rulesState : State → rules.State
-rulesState s = rules.stateOf (s .core .nv) (s .core .vol) (s .policy) (s .core .switches)
-
-abbrev pub grouped : rules.State → State
-grouped s = record { core = record { nv = s .nv; vol = s .vol; switches = s .switches }; policy = s .policy }
-
-abbrev pub groupedAnswer : rules.Answer → Answer
-groupedAnswer a = record { beside = record { status = a .status; number = a .number; switches = a .switches }; bytes = a .bytes }
-
-abbrev pub stepGrouped : State → Call → Answer × State
-stepGrouped s c = (groupedAnswer (rules.step (rulesState s) c .0), grouped (rules.step (rulesState s) c .1))
 
 -- "Refused means a status other than 0." No call is cut in this edition
 abbrev pub outcomeBy : Bool → Outcome
@@ -66,12 +32,34 @@ kindOf query = keeps
 kindOf (read v) = keeps
 kindOf (set r) = keeps
 
+-- WHAT ANOTHER ORDER CHANGES, "all else is equal": the entries in the policy record
+abbrev pub stateIn : List Bytes → State → State
+stateIn o s = stateOf (s .nv) (s .vol) (over o (s .policy)) (s .switches)
+
+-- and those in the buffer of a dump that answered 0
+abbrev pub answerIn : Call → List Bytes → Answer → Answer
+answerIn (powerOn allowed) o a = a
+answerIn (restart allowed) o a = a
+answerIn (register e) o a = a
+answerIn (dump buffer) o a =
+    record {
+      status = a .status;
+      number = a .number;
+      bytes = cond (isSuccess (a .status)) (over o (a .bytes)) (a .bytes);
+      switches = a .switches;
+    }
+answerIn lock o a = a
+answerIn disable o a = a
+answerIn query o a = a
+answerIn (read v) o a = a
+answerIn (set r) o a = a
+
 -- A REBUILD'S CALLS. "restart over the same stores with the old engine's disable setting", its third switch
-abbrev pub restartOf : Core → Call
+abbrev pub restartOf : State → Call
 restartOf k = restart (k .switches .«disabling_allowed»)
 
 -- "then disable, then lock, each only if the old engine was"
-abbrev pub closingOf : Core → List Call
+abbrev pub closingOf : State → List Call
 closingOf k = cond (k .switches .enabled) [] (disable ∷ []) ++ cond (k .switches .locked) (lock ∷ []) []
 
 -- THE MACHINE
@@ -79,16 +67,18 @@ abbrev pub machine : Machine
 machine =
     record {
       Symbol = ℕ;
-      Core = Core;
-      Beside = Beside;
+      State = State;
+      Answer = Answer;
       Call = Call;
       Variable = Variable;
-      step = stepGrouped;
+      step = step;
       outcome = λ a. outcomeBy (isSuccess (a .status));
       kind = kindOf;
-      dumpedLength = λ a. a .number;
+      dumped = λ a. take (a .number) (a .bytes);
       formed = wellFormed;
-      listed = entriesOf;
+      entries = λ s. entriesOf (s .policy);
+      stateIn = stateIn;
+      answerIn = answerIn;
       named = named;
       targets = targets;
       rank = rank;

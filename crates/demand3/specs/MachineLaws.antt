@@ -8,10 +8,10 @@ use native.Mathlib.Omega.{arith}
 use lib.ListN.{length, take, length-append}
 use lib.Dec.{eqb}
 use borrow.Author.Tests.{le-leb}
-use Rattle.limits.specs.Limits.{maxEntries, policyBytes}
+use Rattle.limits.specs.Limits.{maxEntries, policyBytes, maxStore}
 use Rattle.lists.specs.Lists as lists
 use Rattle.lists.specs.Lists.{over}
-use Rattle.lists.specs.ListsLaws.{length-perm}
+use Rattle.lists.specs.ListsLaws.{length-perm, flat-perm, over-over}
 use Rattle.slices.specs.Test.{_and_}
 use Rattle.slices.specs.Bytes.{Bytes, overwrite, padded}
 use Rattle.slices.specs.Chunks.{flat, packed}
@@ -22,23 +22,24 @@ use Rattle.entry.specs.Entry.{sameTarget}
 use Rattle.policy.specs.Policy.{entriesOf, sizesSum, packPolicy, policyValid}
 use Rattle.policy.specs.PolicyLaws.{WellFormed, Entries, policyValid-length, policy-entries, pack-entriesOf, entriesOf-formed, entriesOf-pack, entries-policy, sizesSum-flat}
 use Rattle.policy.specs.Choice.{chosen}
+use Rattle.store.specs.StoreLaws.{storeOk-length}
 use Rattle.pair.specs.Pair.{sound}
+use Rattle.pair.specs.PairLaws.{sound-alone, sound-vol}
 use Rattle.status.specs.declared.Status.{Status}
 use Rattle.status.specs.declared.Status.the-variants.{Success, VolumeCorrupted}
 use Rattle.status.specs.Status.{isSuccess, statusNumber}
 use Rattle.switches.specs.declared.Switches.{Switches}
 use Rattle.switches.specs.Switches.{freshSwitches}
 use Rattle.rules.specs.Set.{Request, badRequest, requestStatus, setStatus}
-use Rattle.rules.specs.Engine as rules
-use Rattle.rules.specs.Engine.{Call, powerOnStatus, restartStatus, registerStatus, dumpStatus, speaking, setStatusBy, status, answer, after, effect, step}
+use Rattle.rules.specs.Engine.{State, Answer, Call, stateOf, powerOnStatus, restartStatus, registerStatus, dumpStatus, speaking, setStatusBy, status, answer, after, effect, step}
 use Rattle.rules.specs.Engine.Call.{powerOn, restart, register, dump, lock, disable, query, read, set}
 use Rattle.rules.specs.EngineLaws.{step-status, refused-changes-nothing, granted-effect}
 use Rattle.rules.specs.StateLaws.{Sound, register-granted, step-sound}
-use Rattle.history.specs.History.{Outcome, Kind, stateIn, answerIn, entriesAfter, outcomeOf, cutAfter, ifGranted, AllGranted, end, rebuilding}
+use Rattle.history.specs.History.{Outcome, Kind, entriesAfter, outcomeOf, cutAfter, AllGranted, end, rebuilding}
 use Rattle.history.specs.History.Outcome.{granted, refused, cut}
 use Rattle.history.specs.History.Kind.{starts, registers, dumps, keeps}
-use Rattle.history.specs.HistoryLaws.{SameChoice, Laws}
-use Rattle.demand3.specs.Machine.{Core, State, Answer, rulesState, grouped, groupedAnswer, stepGrouped, outcomeBy, kindOf, restartOf, closingOf, machine}
+use Rattle.history.specs.HistoryLaws.{granted-refused, SameChoice, Laws}
+use Rattle.demand3.specs.Machine.{stateIn, answerIn, outcomeBy, kindOf, restartOf, closingOf, machine}
 use Rattle.demand3.specs.OrderLaws.{
   flat-same,
   flat-length,
@@ -55,8 +56,8 @@ use Rattle.demand3.specs.OrderLaws.{
 }
 
 -- ---- another order of the entries: a state of the rules with the record of the entries o
-abbrev reordered : rules.State → List Bytes → rules.State
-reordered s o = rules.stateOf (s .nv) (s .vol) (packPolicy o) (s .switches)
+abbrev withEntries : State → List Bytes → State
+withEntries s o = stateOf (s .nv) (s .vol) (packPolicy o) (s .switches)
 
 register-same : (locked : Bool) (es o : List Bytes) (e : Bytes) → List·Permᴰ es o → registerStatus locked o e ≡ registerStatus locked es e
 unfolding registerStatus
@@ -80,7 +81,7 @@ set-same es o enabled nv vol r l = go (named (r .variable)) refl
     go true e = ap (λ (x : Option Bytes). setStatus (speaking enabled x) nv vol r) (sym (l .choice (r .variable) e))
     go false e = set-unnamed _ _ nv vol r e
 
-module _ (s : rules.State) (w : Sound s) (o : List Bytes) where
+module _ (s : State) (w : Sound s) (o : List Bytes) where
   abbrev es : List Bytes
   es = entriesOf (s .policy)
 
@@ -97,22 +98,19 @@ module _ (s : rules.State) (w : Sound s) (o : List Bytes) where
     over-o : over o (s .policy) ≡ packPolicy o
     over-o = ap (over o) (sym (pack-entriesOf (s .policy) (w .policy))) ∙ over-pack d
 
-    reordered-sound : Sound (reordered s o)
+    reordered-sound : Sound (withEntries s o)
     reordered-sound = record { stores = w .stores; policy = valid-o; leave = w .leave }
 
     -- what a call answers there, whatever its status
     dumped-same : (n : Status) (b k : Bool) (buffer : Bytes) → _≡_ {A = Answer}
-        (record { beside = record { status = n; number = cond k (length (flat o)) 0; switches = none }; bytes = cond b (overwrite buffer 0 (flat o)) buffer })
-        (record {
-          beside = record { status = n; number = cond k (length (flat es)) 0; switches = none };
-          bytes = ifGranted (outcomeBy b) (over o (cond b (overwrite buffer 0 (flat es)) buffer)) (cond b (overwrite buffer 0 (flat es)) buffer);
-        })
+        (record { status = n; number = cond k (length (flat o)) 0; bytes = cond b (overwrite buffer 0 (flat o)) buffer; switches = none })
+        (record { status = n; number = cond k (length (flat es)) 0; bytes = cond b (over o (cond b (overwrite buffer 0 (flat es)) buffer)) (cond b (overwrite buffer 0 (flat es)) buffer); switches = none })
     dumped-same n true k buffer =
-        ap₂ (λ (m : ℕ) (l : Bytes). record { beside = record { status = n; number = cond k m 0; switches = none }; bytes = l }) (length-flat d) (overwrite-perm d buffer)
+        ap₂ (λ (m : ℕ) (l : Bytes). record { status = n; number = cond k m 0; bytes = l; switches = none }) (length-flat d) (overwrite-perm d buffer)
     dumped-same n false k buffer =
-        ap (λ (m : ℕ). record { beside = record { status = n; number = cond k m 0; switches = none }; bytes = buffer }) (length-flat d)
+        ap (λ (m : ℕ). record { status = n; number = cond k m 0; bytes = buffer; switches = none }) (length-flat d)
 
-    answer-same : (c : Call) (n : Status) → groupedAnswer (answer (reordered s o) c n) ≡ answerIn machine (kindOf c) o (groupedAnswer (answer s c n))
+    answer-same : (c : Call) (n : Status) → answer (withEntries s o) c n ≡ answerIn c o (answer s c n)
     answer-same (powerOn allowed) n = refl
     answer-same (restart allowed) n = refl
     answer-same (register e) n = refl
@@ -130,30 +128,30 @@ module _ (s : rules.State) (w : Sound s) (o : List Bytes) where
     refused-after dumps = refl
     refused-after keeps = refl
 
-    -- a core with the record as it is, and with its entries in the order o
-    kept : (k : Core) → _≡_ {A = State} (record { core = k; policy = packPolicy o }) (record { core = k; policy = over o (s .policy) })
-    kept k = ap (λ (p : Bytes). record { core = k; policy = p }) (sym over-o)
+    -- a state with the record as it is, and with its entries in the order o
+    kept : (nv vol : Bytes) (x : Switches) → stateOf nv vol (packPolicy o) x ≡ stateOf nv vol (over o (s .policy)) x
+    kept nv vol x = ap (λ (p : Bytes). stateOf nv vol p x) (sym over-o)
 
-    leaves-granted : (c : Call) → grouped (effect (reordered s o) c) ≡ stateIn machine (entriesAfter machine (kindOf c) granted o) (grouped (effect s c))
+    leaves-granted : (c : Call) → effect (withEntries s o) c ≡ stateIn (entriesAfter machine (kindOf c) granted o) (effect s c)
     leaves-granted (powerOn allowed) = refl
     leaves-granted (restart allowed) = refl
     leaves-granted (register e) =
         rw lists-o
-        (ap (λ (p : Bytes). record { core = grouped s .core; policy = p }) (sym (over-pack (Permᴰ·append-right (e ∷ []) d))))
-    leaves-granted (dump buffer) = kept _
-    leaves-granted lock = kept _
-    leaves-granted disable = kept _
-    leaves-granted query = kept _
-    leaves-granted (read v) = kept _
-    leaves-granted (set r) = kept _
+        (ap (λ (p : Bytes). stateOf (s .nv) (s .vol) p (s .switches)) (sym (over-pack (Permᴰ·append-right (e ∷ []) d))))
+    leaves-granted (dump buffer) = kept _ _ _
+    leaves-granted lock = kept _ _ _
+    leaves-granted disable = kept _ _ _
+    leaves-granted query = kept _ _ _
+    leaves-granted (read v) = kept _ _ _
+    leaves-granted (set r) = kept _ _ _
 
     leaves-same : (c : Call) (b : Bool)
-        → grouped (cond b (effect (reordered s o) c) (reordered s o)) ≡ stateIn machine (entriesAfter machine (kindOf c) (outcomeBy b) o) (grouped (cond b (effect s c) s))
+        → cond b (effect (withEntries s o) c) (withEntries s o) ≡ stateIn (entriesAfter machine (kindOf c) (outcomeBy b) o) (cond b (effect s c) s)
     leaves-same c true = leaves-granted c
-    leaves-same c false = kept (grouped s .core) ∙ ap (λ (l : List Bytes). stateIn machine l (grouped s)) (sym (refused-after (kindOf c)))
+    leaves-same c false = kept _ _ _ ∙ ap (λ (l : List Bytes). stateIn l s) (sym (refused-after (kindOf c)))
 
   -- the status too is the same, if the same entries are chosen
-  status-same : SameChoice machine es o → (c : Call) → status (reordered s o) c ≡ status s c
+  status-same : SameChoice machine es o → (c : Call) → status (withEntries s o) c ≡ status s c
   unfolding powerOnStatus restartStatus
   status-same l (powerOn allowed) = rw (policyValid-length (packPolicy o) (valid-o (l .perm)), policyValid-length (s .policy) (w .policy))
   status-same l (restart allowed) = rw (policyValid-length (packPolicy o) (valid-o (l .perm)), policyValid-length (s .policy) (w .policy))
@@ -168,51 +166,51 @@ module _ (s : rules.State) (w : Sound s) (o : List Bytes) where
 -- ---- THE STATES THAT ARE REACHED
 pub record Reached (t : Bool) (s : State) : Type 0 where
   pub uncut : t ≡ false
-  pub sound : Sound (rulesState s)
+  pub sound : Sound s
 
-outcome-status : (s : State) (c : Call) → outcomeOf machine s c ≡ outcomeBy (isSuccess (status (rulesState s) c))
-outcome-status s c = ap (λ (n : Status). outcomeBy (isSuccess n)) (step-status (rulesState s) c)
+outcome-status : (s : State) (c : Call) → outcomeOf machine s c ≡ outcomeBy (isSuccess (status s c))
+outcome-status s c = ap (λ (n : Status). outcomeBy (isSuccess n)) (step-status s c)
 
 uncut-after : (t b : Bool) → t ≡ false → cutAfter machine t (outcomeBy b) ≡ false
 uncut-after t true h = refl
 uncut-after t false h = h
 
-continues : {t : Bool} {s : State} (c : Call) → Reached t s → Reached (cutAfter machine t (outcomeOf machine s c)) (stepGrouped s c .1)
-continues {t} {s} c w = record { uncut = uncut-after t (isSuccess (step (rulesState s) c .0 .status)) (w .uncut); sound = step-sound (rulesState s) c (w .sound) }
+continues : {t : Bool} {s : State} (c : Call) → Reached t s → Reached (cutAfter machine t (outcomeOf machine s c)) (step s c .1)
+continues {t} {s} c w = record { uncut = uncut-after t (isSuccess (step s c .0 .status)) (w .uncut); sound = step-sound s c (w .sound) }
 
 -- the state with its entries in the order o
-reordered-in : (s : State) (o : List Bytes) → Sound (rulesState s) → List·Permᴰ (entriesOf (s .policy)) o → rulesState (stateIn machine o s) ≡ reordered (rulesState s) o
-reordered-in s o w d = ap (λ (p : Bytes). rules.stateOf (s .core .nv) (s .core .vol) p (s .core .switches)) (over-o (rulesState s) w o d)
+reordered-in : (s : State) (o : List Bytes) → Sound s → List·Permᴰ (entriesOf (s .policy)) o → stateIn o s ≡ withEntries s o
+reordered-in s o w d = ap (λ (p : Bytes). stateOf (s .nv) (s .vol) p (s .switches)) (over-o s w o d)
 
-reorders : {t : Bool} {s : State} {o : List Bytes} → Reached t s → List·Permᴰ (entriesOf (s .policy)) o → Reached t (stateIn machine o s)
-reorders {s = s} {o = o} w d = record { uncut = w .uncut; sound = subst⁻¹ Sound (reordered-in s o (w .sound) d) (reordered-sound (rulesState s) (w .sound) o d) }
+reorders : {t : Bool} {s : State} {o : List Bytes} → Reached t s → List·Permᴰ (entriesOf (s .policy)) o → Reached t (stateIn o s)
+reorders {s = s} {o = o} w d = record { uncut = w .uncut; sound = subst⁻¹ Sound (reordered-in s o (w .sound) d) (reordered-sound s (w .sound) o d) }
 
-answers-same : (s : State) (o : List Bytes) (c : Call) → Sound (rulesState s) → SameChoice machine (entriesOf (s .policy)) o
-    → stepGrouped (stateIn machine o s) c .0 ≡ answerIn machine (kindOf c) o (stepGrouped s c .0)
+answers-same : (s : State) (o : List Bytes) (c : Call) → Sound s → SameChoice machine (entriesOf (s .policy)) o
+    → step (stateIn o s) c .0 ≡ answerIn c o (step s c .0)
 unfolding step
 answers-same s o c w l =
-    ap (λ (z : rules.State). groupedAnswer (step z c .0)) (reordered-in s o w (l .perm))
-    ∙ ap (λ (n : Status). groupedAnswer (answer (reordered (rulesState s) o) c n)) (status-same (rulesState s) w o l c)
-    ∙ answer-same (rulesState s) w o (l .perm) c (status (rulesState s) c)
+    ap (λ (z : State). step z c .0) (reordered-in s o w (l .perm))
+    ∙ ap (λ (n : Status). answer (withEntries s o) c n) (status-same s w o l c)
+    ∙ answer-same s w o (l .perm) c (status s c)
 
-leaves-step : (s : State) (o : List Bytes) (c : Call) → Sound (rulesState s) → SameChoice machine (entriesOf (s .policy)) o
-    → stepGrouped (stateIn machine o s) c .1 ≡ stateIn machine (entriesAfter machine (kindOf c) (outcomeOf machine s c) o) (stepGrouped s c .1)
+leaves-step : (s : State) (o : List Bytes) (c : Call) → Sound s → SameChoice machine (entriesOf (s .policy)) o
+    → step (stateIn o s) c .1 ≡ stateIn (entriesAfter machine (kindOf c) (outcomeOf machine s c) o) (step s c .1)
 unfolding step
 leaves-step s o c w l =
-    ap (λ (z : rules.State). grouped (step z c .1)) (reordered-in s o w (l .perm))
-    ∙ ap (λ (n : Status). grouped (after (reordered (rulesState s) o) c n)) (status-same (rulesState s) w o l c)
-    ∙ leaves-same (rulesState s) w o (l .perm) c (isSuccess (status (rulesState s) c))
-    ∙ ap (λ (r : Outcome). stateIn machine (entriesAfter machine (kindOf c) r o) (stepGrouped s c .1)) (sym (outcome-status s c))
+    ap (λ (z : State). step z c .1) (reordered-in s o w (l .perm))
+    ∙ ap (λ (n : Status). after (withEntries s o) c n) (status-same s w o l c)
+    ∙ leaves-same s w o (l .perm) c (isSuccess (status s c))
+    ∙ ap (λ (r : Outcome). stateIn (entriesAfter machine (kindOf c) r o) (step s c .1)) (sym (outcome-status s c))
 
 -- ---- the entries after a call
-registered-formed : (s : rules.State) (e : Bytes) → isSuccess (status s (register e)) ≡ true → WellFormed e
+registered-formed : (s : State) (e : Bytes) → isSuccess (status s (register e)) ≡ true → WellFormed e
 registered-formed s e h = go (policyValid (s .policy)) h
   where
     go : (b : Bool) → isSuccess (cond b (registerStatus (s .switches .locked) (entriesOf (s .policy)) e) VolumeCorrupted) ≡ true → WellFormed e
     go true k = register-granted (s .switches .locked) (entriesOf (s .policy)) e k .formed
     go false k = absurd (false≢true k)
 
-lists-granted : (s : rules.State) (c : Call) → isSuccess (status s c) ≡ true → entriesOf (effect s c .policy) ≡ entriesAfter machine (kindOf c) granted (entriesOf (s .policy))
+lists-granted : (s : State) (c : Call) → isSuccess (status s c) ≡ true → entriesOf (effect s c .policy) ≡ entriesAfter machine (kindOf c) granted (entriesOf (s .policy))
 lists-granted s (powerOn allowed) h = entriesOf-pack [] nil
 lists-granted s (restart allowed) h = entriesOf-pack [] nil
 lists-granted s (register e) h = entriesOf-pack _ (all-append (entriesOf (s .policy)) (e ∷ []) (entriesOf-formed (s .policy)) (more (registered-formed s e h) nil))
@@ -229,44 +227,41 @@ refused-lists (registers e) l = refl
 refused-lists dumps l = refl
 refused-lists keeps l = refl
 
-lists-after : (s : State) (c : Call) → entriesOf (stepGrouped s c .1 .policy) ≡ entriesAfter machine (kindOf c) (outcomeOf machine s c) (entriesOf (s .policy))
+lists-after : (s : State) (c : Call) → entriesOf (step s c .1 .policy) ≡ entriesAfter machine (kindOf c) (outcomeOf machine s c) (entriesOf (s .policy))
 unfolding step
 lists-after s c =
-    go (isSuccess (status (rulesState s) c)) refl
+    go (isSuccess (status s c)) refl
     ∙ ap (λ (r : Outcome). entriesAfter machine (kindOf c) r (entriesOf (s .policy))) (sym (outcome-status s c))
   where
-    go : (b : Bool) → isSuccess (status (rulesState s) c) ≡ b
-        → entriesOf (cond b (effect (rulesState s) c) (rulesState s) .policy) ≡ entriesAfter machine (kindOf c) (outcomeBy b) (entriesOf (s .policy))
-    go true e = lists-granted (rulesState s) c e
+    go : (b : Bool) → isSuccess (status s c) ≡ b
+        → entriesOf (cond b (effect s c) s .policy) ≡ entriesAfter machine (kindOf c) (outcomeBy b) (entriesOf (s .policy))
+    go true e = lists-granted s c e
     go false e = refused-lists (kindOf c) (entriesOf (s .policy))
 
 -- ---- refused calls and dumps
-granted-refused : granted ≡ refused → ⊥
-granted-refused h = let z : _≡_ {A = ℕ} 0 1 = cc in omega arith
-
-refused-leaves : (s : State) (c : Call) → outcomeOf machine s c ≡ refused → stepGrouped s c .1 ≡ s
-refused-leaves s c h = ap grouped (refused-changes-nothing (rulesState s) c (go (isSuccess (step (rulesState s) c .0 .status)) h))
+refused-leaves : (s : State) (c : Call) → outcomeOf machine s c ≡ refused → step s c .1 ≡ s
+refused-leaves s c h = (refused-changes-nothing s c (go (isSuccess (step s c .0 .status)) h))
   where
     go : (b : Bool) → outcomeBy b ≡ refused → b ≡ false
     go true k = absurd (granted-refused k)
     go false k = refl
 
-dump-leaves : (s : State) (buffer : Bytes) → stepGrouped s (dump buffer) .1 ≡ s
+dump-leaves : (s : State) (buffer : Bytes) → step s (dump buffer) .1 ≡ s
 unfolding step
-dump-leaves s buffer = go (isSuccess (status (rulesState s) (dump buffer)))
+dump-leaves s buffer = go (isSuccess (status s (dump buffer)))
   where
-    go : (b : Bool) → grouped (cond b (rulesState s) (rulesState s)) ≡ s
+    go : (b : Bool) → cond b s s ≡ s
     go true = refl
     go false = refl
 
-dump-granted : (s : State) (buffer : Bytes) → Sound (rulesState s) → sizesSum (s .policy) ≤ length buffer → outcomeOf machine s (dump buffer) ≡ granted
+dump-granted : (s : State) (buffer : Bytes) → Sound s → sizesSum (s .policy) ≤ length buffer → outcomeOf machine s (dump buffer) ≡ granted
 unfolding dumpStatus
 dump-granted s buffer w h =
     let k : length (flat (entriesOf (s .policy))) ≤ length buffer = omega (arith, sizesSum-flat (s .policy)) in
     outcome-status s (dump buffer) ∙ rw (w .policy, le-leb (length (flat (entriesOf (s .policy)))) (length buffer) k)
 
 dump-holds : (s : State) (c : Call) → kindOf c ≡ dumps → outcomeOf machine s c ≡ granted
-    → lists.flat (entriesOf (s .policy)) ≡ take (stepGrouped s c .0 .beside .number) (stepGrouped s c .0 .bytes)
+    → lists.flat (entriesOf (s .policy)) ≡ take (step s c .0 .number) (step s c .0 .bytes)
 unfolding step
 dump-holds s (powerOn allowed) k h = let z : _≡_ {A = ℕ} 0 1 = cc in absurd (omega arith)
 dump-holds s (restart allowed) k h = let z : _≡_ {A = ℕ} 0 1 = cc in absurd (omega arith)
@@ -276,7 +271,7 @@ dump-holds s disable k h = let z : _≡_ {A = ℕ} 0 1 = cc in absurd (omega ari
 dump-holds s query k h = let z : _≡_ {A = ℕ} 0 1 = cc in absurd (omega arith)
 dump-holds s (read v) k h = let z : _≡_ {A = ℕ} 0 1 = cc in absurd (omega arith)
 dump-holds s (set r) k h = let z : _≡_ {A = ℕ} 0 1 = cc in absurd (omega arith)
-dump-holds s (dump buffer) k h = go (status (rulesState s) (dump buffer)) (isSuccess (status (rulesState s) (dump buffer))) h
+dump-holds s (dump buffer) k h = go (status s (dump buffer)) (isSuccess (status s (dump buffer))) h
   where
     go : (n : Status) (b : Bool) → outcomeBy b ≡ granted
         → lists.flat (entriesOf (s .policy))
@@ -299,11 +294,11 @@ record Runs (s : State) (cs : List Call) (z : State) : Type 0 where
 runs-nil : (s : State) → Runs s [] s
 runs-nil s = record { done = tt; ends = refl }
 
-runs-cons : (s : State) (c : Call) (z : State) (cs : List Call) (y : State) → isSuccess (status (rulesState s) c) ≡ true
-    → grouped (effect (rulesState s) c) ≡ z → Runs z cs y → Runs s (c ∷ cs) y
+runs-cons : (s : State) (c : Call) (z : State) (cs : List Call) (y : State) → isSuccess (status s c) ≡ true
+    → effect s c ≡ z → Runs z cs y → Runs s (c ∷ cs) y
 runs-cons s c z cs y h e r =
-    let k : isSuccess (step (rulesState s) c .0 .status) ≡ true = ap isSuccess (step-status (rulesState s) c) ∙ h in
-    let next : stepGrouped s c .1 ≡ z = ap grouped (granted-effect (rulesState s) c k) ∙ e in
+    let k : isSuccess (step s c .0 .status) ≡ true = ap isSuccess (step-status s c) ∙ h in
+    let next : step s c .1 ≡ z = granted-effect s c k ∙ e in
     record {
       done = (ap outcomeBy k, subst⁻¹ (λ (x : State). AllGranted machine x cs) next (r .done));
       ends = ap (λ (x : State). end machine x cs) next ∙ r .ends;
@@ -312,11 +307,8 @@ runs-cons s c z cs y h e r =
 runs-append : (s : State) (cs : List Call) (z : State) (ds : List Call) (y : State) → Runs s cs z → Runs z ds y → Runs s (cs ++ ds) y
 runs-append s [] z ds y a b = subst⁻¹ (λ (x : State). Runs x ds y) (a .ends) b
 runs-append s (c ∷ cs) z ds y a b =
-    let r = runs-append (stepGrouped s c .1) cs z ds y (record { done = a .done .1; ends = a .ends }) b in
+    let r = runs-append (step s c .1) cs z ds y (record { done = a .done .1; ends = a .ends }) b in
     record { done = (a .done .0, r .done); ends = r .ends }
-
-abbrev built : Core → List Bytes → State
-built k es = record { core = k; policy = packPolicy es }
 
 -- each entry registers behind those before it
 register-done : (es : List Bytes) (e : Bytes) (fs : List Bytes) → Entries (es ++ (e ∷ fs)) → registerStatus false es e ≡ Success
@@ -333,27 +325,24 @@ register-done es e fs a =
       le-leb (length (flat es) + length e) policyBytes room,
     )
 
-registers-run : (k : Core) (es fs : List Bytes) → k .switches .locked ≡ false → Entries (es ++ fs) → Runs (built k es) (map register fs) (built k (es ++ fs))
-registers-run k es [] u a = rw (append-nil es) (runs-nil (built k es))
+registers-run : (k : State) (es fs : List Bytes) → k .switches .locked ≡ false → Entries (es ++ fs) → Runs (withEntries k es) (map register fs) (withEntries k (es ++ fs))
+registers-run k es [] u a = rw (append-nil es) (runs-nil (withEntries k es))
 registers-run k es (e ∷ fs) u a =
     let b = entries-left es (e ∷ fs) a in
     let j : (es ++ (e ∷ [])) ++ fs ≡ es ++ (e ∷ fs) = append-assoc es (e ∷ []) fs in
-    runs-cons (built k es) (register e) (built k (es ++ (e ∷ []))) (map register fs) (built k (es ++ (e ∷ fs)))
+    runs-cons (withEntries k es) (register e) (withEntries k (es ++ (e ∷ []))) (map register fs) (withEntries k (es ++ (e ∷ fs)))
     (rw (entries-policy es b, entriesOf-pack es (b .formed), u, register-done es e fs a))
     (rw (entriesOf-pack es (b .formed)))
-    (subst (λ (l : List Bytes). Runs (built k (es ++ (e ∷ []))) (map register fs) (built k l)) j
+    (subst (λ (l : List Bytes). Runs (withEntries k (es ++ (e ∷ []))) (map register fs) (withEntries k l)) j
     (registers-run k (es ++ (e ∷ [])) fs u (subst⁻¹ Entries j a)))
 
 abbrev switchesOf : Bool → Bool → Bool → Switches
 switchesOf e l m = record { enabled = e; locked = l; «disabling_allowed» = m }
 
-abbrev coreOf : Bytes → Bytes → Switches → Core
-coreOf nv vol x = record { nv = nv; vol = vol; switches = x }
-
 -- disable, then lock, each only if the old engine was: the fresh engine gets its switches, and each call answers 0
-module _ (nv vol : Bytes) (o : List Bytes) where
+module _ (nv vol p : Bytes) (o : List Bytes) where
   closing-ends : (e l m : Bool) → (e ≡ false → m ≡ true)
-      → end machine (built (coreOf nv vol (freshSwitches m)) o) (closingOf (coreOf nv vol (switchesOf e l m))) ≡ built (coreOf nv vol (switchesOf e l m)) o
+      → end machine (stateOf nv vol (packPolicy o) (freshSwitches m)) (closingOf (stateOf nv vol p (switchesOf e l m))) ≡ stateOf nv vol (packPolicy o) (switchesOf e l m)
   unfolding step
   closing-ends true true m h = refl
   closing-ends true false m h = refl
@@ -361,40 +350,67 @@ module _ (nv vol : Bytes) (o : List Bytes) where
   closing-ends false false m h = rw (h refl)
 
   closing-done : (e l m : Bool) → (e ≡ false → m ≡ true)
-      → AllGranted machine (built (coreOf nv vol (freshSwitches m)) o) (closingOf (coreOf nv vol (switchesOf e l m)))
+      → AllGranted machine (stateOf nv vol (packPolicy o) (freshSwitches m)) (closingOf (stateOf nv vol p (switchesOf e l m)))
   unfolding step
   closing-done true true m h = (refl, tt)
   closing-done true false m h = tt
   closing-done false true m h = rw (h refl) (refl, (refl, tt))
   closing-done false false m h = rw (h refl) (refl, tt)
 
-restart-done : (s : rules.State) (allowed : Bool) → Sound s → isSuccess (status s (restart allowed)) ≡ true
+-- a sound state refuses no power-on and no restart
+pub power-on-done : (s : State) (allowed : Bool) → Sound s → isSuccess (status s (powerOn allowed)) ≡ true
+unfolding powerOnStatus _and_
+power-on-done s allowed w =
+    rw (
+      sound-alone (s .nv) (s .vol) (w .stores),
+      le-leb (length (s .vol)) maxStore (storeOk-length false (s .vol) (sound-vol (s .nv) (s .vol) (w .stores))),
+      policyValid-length (s .policy) (w .policy),
+    )
+
+pub restart-done : (s : State) (allowed : Bool) → Sound s → isSuccess (status s (restart allowed)) ≡ true
 unfolding restartStatus _and_
 restart-done s allowed w = rw (w .stores, policyValid-length (s .policy) (w .policy))
 
-rebuild-run : (s : State) (o : List Bytes) → Sound (rulesState s) → List·Permᴰ (entriesOf (s .policy)) o → Runs s (rebuilding machine s o) (built (s .core) o)
+rebuild-run : (s : State) (o : List Bytes) → Sound s → List·Permᴰ (entriesOf (s .policy)) o → Runs s (rebuilding machine s o) (withEntries s o)
 rebuild-run s o w d =
-    let k = s .core in
-    let x = k .switches in
-    let fresh : Core = coreOf (k .nv) (k .vol) (freshSwitches (x .«disabling_allowed»)) in
-    runs-cons s (restartOf k) (built fresh []) (map register o ++ closingOf k) (built k o)
-    (restart-done (rulesState s) (x .«disabling_allowed») w) refl
-    (runs-append (built fresh []) (map register o) (built fresh o) (closingOf k) (built k o)
-    (registers-run fresh [] o refl (entries-o (rulesState s) w o d))
+    let x = s .switches in
+    let fresh : State = stateOf (s .nv) (s .vol) (s .policy) (freshSwitches (x .«disabling_allowed»)) in
+    runs-cons s (restartOf s) (withEntries fresh []) (map register o ++ closingOf s) (withEntries s o)
+    (restart-done s (x .«disabling_allowed») w) refl
+    (runs-append (withEntries fresh []) (map register o) (withEntries fresh o) (closingOf s) (withEntries s o)
+    (registers-run fresh [] o refl (entries-o s w o d))
     (record {
-      done = closing-done (k .nv) (k .vol) o (x .enabled) (x .locked) (x .«disabling_allowed») (w .leave);
-      ends = closing-ends (k .nv) (k .vol) o (x .enabled) (x .locked) (x .«disabling_allowed») (w .leave);
+      done = closing-done (s .nv) (s .vol) (s .policy) o (x .enabled) (x .locked) (x .«disabling_allowed») (w .leave);
+      ends = closing-ends (s .nv) (s .vol) (s .policy) o (x .enabled) (x .locked) (x .«disabling_allowed») (w .leave);
     }))
+
+-- the entries in one order over the record of another
+ordered-again : (s : State) (x o : List Bytes) → List·Permᴰ x o → stateIn o (stateIn x s) ≡ stateIn o s
+ordered-again s x o d = ap (λ (p : Bytes). stateOf (s .nv) (s .vol) p (s .switches)) (over-over x o (s .policy) (flat-perm d))
+
+outcome-in : (c : Call) (o : List Bytes) (a : Answer) → outcomeBy (isSuccess (answerIn c o a .status)) ≡ outcomeBy (isSuccess (a .status))
+outcome-in (powerOn allowed) o a = refl
+outcome-in (restart allowed) o a = refl
+outcome-in (register e) o a = refl
+outcome-in (dump buffer) o a = refl
+outcome-in lock o a = refl
+outcome-in disable o a = refl
+outcome-in query o a = refl
+outcome-in (read v) o a = refl
+outcome-in (set r) o a = refl
 
 -- ---- THE LAWS
 pub laws : Laws machine Reached
 laws = record {
   unique = λ {ds} {es} p q h. unique p q h;
   areFormed = λ {t} {s} w. all-lists (entriesOf (s .policy)) (entriesOf-formed (s .policy));
-  atStart = λ {t} {s} w.
-      over-o (rulesState s) (w .sound) (entriesOf (s .policy)) (Permᴰ·refl (entriesOf (s .policy))) ∙ pack-entriesOf (s .policy) (w .sound .policy);
+  asListed = λ {t} {s} w.
+      ap (λ (p : Bytes). stateOf (s .nv) (s .vol) p (s .switches))
+      (over-o s (w .sound) (entriesOf (s .policy)) (Permᴰ·refl (entriesOf (s .policy))) ∙ pack-entriesOf (s .policy) (w .sound .policy));
+  orderedAgain = λ {t} {s} {o} {x} w e d. ordered-again s x o d;
+  outcomeIn = outcome-in;
   reorders = λ {t} {s} {o} w d. reorders w d;
-  relists = λ {t} {s} {o} w d. ap entriesOf (over-o (rulesState s) (w .sound) o d) ∙ lists-o (rulesState s) (w .sound) o d;
+  relists = λ {t} {s} {o} w d. ap entriesOf (over-o s (w .sound) o d) ∙ lists-o s (w .sound) o d;
   continues = λ {t} {s} c w f. continues c w;
   lists = λ {t} {s} c w f. lists-after s c;
   answersSame = λ {t} {s} {o} c w f l. answers-same s o c (w .sound) l;
@@ -406,12 +422,12 @@ laws = record {
   dumpGranted = λ {s} b w h. dump-granted s b (w .sound) h;
   rebuildGranted = λ {s} {o} w d. rebuild-run s o (w .sound) d .done;
   rebuildLeaves = λ {s} {o} w d.
-      rebuild-run s o (w .sound) d .ends ∙ ap (λ (p : Bytes). record { core = s .core; policy = p }) (sym (over-o (rulesState s) (w .sound) o d));
+      rebuild-run s o (w .sound) d .ends ∙ sym (reordered-in s o (w .sound) d);
 }
 
 -- no call is cut in this edition
 pub never-cut : (s : State) (c : Call) → outcomeOf machine s c ≡ cut → ⊥
-never-cut s c = go (isSuccess (step (rulesState s) c .0 .status))
+never-cut s c = go (isSuccess (step s c .0 .status))
   where
     go : (b : Bool) → outcomeBy b ≡ cut → ⊥
     go true h = let z : _≡_ {A = ℕ} 0 1 = cc in omega arith

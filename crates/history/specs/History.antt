@@ -1,25 +1,14 @@
 -- Demand 3 over any machine, document 01's "Histories and rebuilds": what a history with rebuilds is, and what is claimed.
--- Nothing here knows a byte, a store, a switch or a call by name. What another order of the entries may change is fixed
--- here: the policy record and the bytes of granted dumps, each by `over`. Assumes nothing: these are definitions.
+-- Nothing here knows a byte, a store, a switch or a call by name. Which order of the entries stands when is fixed here; what
+-- another order changes in a state and in an answer is the machine's, `stateIn` and `answerIn`.
+-- Assumes nothing: these are definitions.
 use mathlib.Core.Path.{_≡_}
 use mathlib.Core.List.{List, [], _∷_, _++_, map, List·Permᴰ}
 use mathlib.Core.Bool.{Bool, true, false}
 use mathlib.Core.Option.{Option, none, some}
 use mathlib.Core.Logic.{_⊎_}
 use Prim.Native.Nat.{ℕ}
-use lib.ListN.{take}
-use Rattle.lists.specs.Lists.{All, Pairs, flat, over, RanksDiffer}
-
--- "The state is the two stores, the policy record and the switches": the policy record, and all else as the core
-pub record StateRecord (Core Symbol : Type 0) : Type 0 where
-  pub core : Core
-  pub policy : List Symbol
-
--- "An answer is the status and every value beside it, with the payload of a read and the whole buffer of a dump":
--- those bytes, and all else beside them
-pub record AnswerRecord (Beside Symbol : Type 0) : Type 0 where
-  pub beside : Beside
-  pub bytes : List Symbol
+use Rattle.lists.specs.Lists.{All, Pairs, flat, RanksDiffer}
 
 -- Granted is status 0. "Refused means a status other than 0." A call that was cut (E9) is neither
 pub data Outcome : Type 0 where
@@ -60,18 +49,21 @@ pub data ItemOf (Call Symbol : Type 0) : Type 0 where
 -- The machine that demand 3 is about
 pub record Machine : Type 1 where
   pub Symbol : Type 0
-  pub Core : Type 0
-  pub Beside : Type 0
+  pub State : Type 0
+  pub Answer : Type 0
   pub Call : Type 0
   pub Variable : Type 0
-  pub step : StateRecord Core Symbol → Call → AnswerRecord Beside Symbol × StateRecord Core Symbol
-  pub outcome : Beside → Outcome
+  pub step : State → Call → Answer × State
+  pub outcome : Answer → Outcome
   pub kind : Call → Kind (List Symbol)
-  -- the length that stands beside a granted dump
-  pub dumpedLength : Beside → ℕ
-  -- well-formed entries; the entries of a policy record
+  -- of the answer of a granted dump: the bytes of the entries
+  pub dumped : Answer → List Symbol
+  -- well-formed entries; the entries of a state, in the order in which they stand
   pub formed : List Symbol → Bool
-  pub listed : List Symbol → List (List Symbol)
+  pub entries : State → List (List Symbol)
+  -- what another order changes: a state with its entries in that order; of a call's answer what it would be there
+  pub stateIn : List (List Symbol) → State → State
+  pub answerIn : Call → List (List Symbol) → Answer → Answer
   -- the variables with a name that step 1 takes; which of them an entry targets, and at which rank
   pub named : Variable → Bool
   pub targets : List Symbol → Variable → Bool
@@ -79,23 +71,17 @@ pub record Machine : Type 1 where
   -- the calls of a rebuild: its own dump into a buffer; the restart with the old engine's disable setting; the registration
   -- of an entry; disable, then lock, each only if the old engine was
   pub dump : List Symbol → Call
-  pub restart : Core → Call
+  pub restart : State → Call
   pub register : List Symbol → Call
-  pub closing : Core → List Call
+  pub closing : State → List Call
   -- where a rebuild's own dump has to be granted: the buffer has room (and, E10, it is not after exit)
-  pub CanDump : StateRecord Core Symbol → List Symbol → Type 0
+  pub CanDump : State → List Symbol → Type 0
   -- E9: the calls that may follow one that was cut
   pub startsAfterCut : Call → Bool
 
 module _ (M : Machine) where
-  open Machine M using (Symbol, Core, Beside, Call, Variable, step, outcome, kind, dumpedLength, formed, listed)
+  open Machine M using (Symbol, State, Answer, Call, Variable, step, outcome, kind, dumped, formed, entries, stateIn, answerIn)
   open Machine M using (named, targets, rank, dump, restart, register, closing, CanDump, startsAfterCut)
-
-  abbrev pub State : Type 0
-  State = StateRecord Core Symbol
-
-  abbrev pub Answer : Type 0
-  Answer = AnswerRecord Beside Symbol
 
   abbrev pub Buffer : Type 0
   Buffer = List Symbol
@@ -113,11 +99,8 @@ module _ (M : Machine) where
   abbrev pub Order : Type 0
   Order = Option Entries
 
-  abbrev pub entries : State → Entries
-  entries s = listed (s .policy)
-
   abbrev pub outcomeOf : State → Call → Outcome
-  outcomeOf s c = outcome (step s c .0 .beside)
+  outcomeOf s c = outcome (step s c .0)
 
   -- A HISTORY ALONE. Each call is lent the state "as the call before left it": the answers, the end state, and that each
   -- call is granted
@@ -135,7 +118,7 @@ module _ (M : Machine) where
 
   -- A REBUILD. "The old engine is the state just before the rebuild": restart, register each entry once, disable and lock
   abbrev pub rebuilding : State → Entries → List Call
-  rebuilding s o = restart (s .core) ∷ (map register o ++ closing (s .core))
+  rebuilding s o = restart s ∷ (map register o ++ closing s)
 
   -- the entries in the order in which a rebuild from the dump ds registers them
   abbrev pub registered : Entries → Order → Entries
@@ -193,16 +176,16 @@ module _ (M : Machine) where
   -- a dump that "answered 0", whose bytes are the well-formed entries ds end to end
   pub record DumpOf (ds : Entries) (c : Call) (a : Answer) : Type 0 where
     pub isDump : kind c ≡ dumps
-    pub isGranted : outcome (a .beside) ≡ granted
+    pub isGranted : outcome a ≡ granted
     pub areFormed : All (λ e. formed e ≡ true) ds
-    pub areDumped : flat ds ≡ take (dumpedLength (a .beside)) (a .bytes)
+    pub areDumped : flat ds ≡ dumped a
 
   -- "A complete dump answered 0 and was taken, by the history or by the rebuild itself, before the rebuild's restart and
   -- after the last registration, power-on or restart of the history that had succeeded by then"
   abbrev pub Complete : Entries → Past → Type 0
   Complete ds [] = ⊥
   Complete ds (e ∷ past) =
-      DumpOf ds (e .made) (e .got) ⊎ ((outdates (kind (e .made)) (outcome (e .got .beside)) ≡ false) × Complete ds past)
+      DumpOf ds (e .made) (e .got) ⊎ ((outdates (kind (e .made)) (outcome (e .got)) ≡ false) × Complete ds past)
 
   -- THE ORDERS. "no two of equal rank target one variable", and "a variable is here any namespace with any name that step 1
   -- takes, whether or not it exists"
@@ -234,6 +217,11 @@ module _ (M : Machine) where
   Proper t past s (rebuild ds x ∷ is) =
       (t ≡ false) × Complete ds past × Permitted ds x × Proper false past (end s (rebuilding s (registered ds x))) is
 
+  -- the same of a history alone: any list of calls, but for what may follow one that was cut
+  abbrev pub ProperHistory : Bool → State → List Call → Type 0
+  ProperHistory t s [] = Unit
+  ProperHistory t s (c ∷ cs) = MayFollow t c × ProperHistory (cutAfter t (outcomeOf s c)) (step s c .1) cs
+
   -- every rebuild registers "the entries of a complete dump in order"
   abbrev pub InOrder : Items → Type 0
   InOrder [] = Unit
@@ -244,23 +232,13 @@ module _ (M : Machine) where
 
   -- WHAT DIFFERS. "After another order the policy record and each later dump that answers 0 hold the same entries, in the
   -- order the last rebuild registered them", and "all else is equal"
-  abbrev pub stateIn : Entries → State → State
-  stateIn o s = record { core = s .core; policy = over o (s .policy) }
-
-  abbrev pub answerIn : Kind Entry → Entries → Answer → Answer
-  answerIn starts o a = a
-  answerIn (registers e) o a = a
-  answerIn dumps o a =
-      record { beside = a .beside; bytes = ifGranted (outcome (a .beside)) (over o (a .bytes)) (a .bytes) }
-  answerIn keeps o a = a
-
   abbrev pub stateBy : Order → State → State
   stateBy none s = s
   stateBy (some o) s = stateIn o s
 
-  abbrev pub answerBy : Kind Entry → Order → Answer → Answer
-  answerBy κ none a = a
-  answerBy κ (some o) a = answerIn κ o a
+  abbrev pub answerBy : Call → Order → Answer → Answer
+  answerBy c none a = a
+  answerBy c (some o) a = answerIn c o a
 
   -- "those registered since behind them"
   abbrev pub entriesAfter : Kind Entry → Outcome → Entries → Entries
@@ -280,20 +258,27 @@ module _ (M : Machine) where
   orderAfter κ r none = none
   orderAfter κ r (some o) = orderIn κ r o
 
+  -- after a rebuild from the dump ds the order in which it registered stands; but one in order, where no other order stood,
+  -- leaves none
+  abbrev pub orderRebuilt : Order → Entries → Order → Order
+  orderRebuilt w ds (some o) = some o
+  orderRebuilt none ds none = none
+  orderRebuilt (some o) ds none = some ds
+
   -- the order that stands at the end of a list, by the plain history's states; the plain history's answers, each in the
   -- order that stands at its call
   abbrev pub standingOrder : Order → State → Items → Order
   standingOrder w s [] = w
   standingOrder w s (call c ∷ is) = standingOrder (orderAfter (kind c) (outcomeOf s c) w) (step s c .1) is
   standingOrder w s (ownDump b ∷ is) = standingOrder w s is
-  standingOrder w s (rebuild ds x ∷ is) = standingOrder (some (registered ds x)) s is
+  standingOrder w s (rebuild ds x ∷ is) = standingOrder (orderRebuilt w ds x) s is
 
   abbrev pub answersInOrder : Order → State → Items → List Answer
   answersInOrder w s [] = []
   answersInOrder w s (call c ∷ is) =
-      answerBy (kind c) w (step s c .0) ∷ answersInOrder (orderAfter (kind c) (outcomeOf s c) w) (step s c .1) is
+      answerBy c w (step s c .0) ∷ answersInOrder (orderAfter (kind c) (outcomeOf s c) w) (step s c .1) is
   answersInOrder w s (ownDump b ∷ is) = answersInOrder w s is
-  answersInOrder w s (rebuild ds x ∷ is) = answersInOrder (some (registered ds x)) s is
+  answersInOrder w s (rebuild ds x ∷ is) = answersInOrder (orderRebuilt w ds x) s is
 
   -- "the same entries": whatever order stands, now and at every moment, is one of the plain history's entries
   abbrev pub SameEntries : Order → State → Type 0
@@ -305,7 +290,7 @@ module _ (M : Machine) where
   AlwaysSameEntries w s (call c ∷ is) =
       SameEntries w s × AlwaysSameEntries (orderAfter (kind c) (outcomeOf s c) w) (step s c .1) is
   AlwaysSameEntries w s (ownDump b ∷ is) = AlwaysSameEntries w s is
-  AlwaysSameEntries w s (rebuild ds x ∷ is) = SameEntries w s × AlwaysSameEntries (some (registered ds x)) s is
+  AlwaysSameEntries w s (rebuild ds x ∷ is) = SameEntries w s × AlwaysSameEntries (orderRebuilt w ds x) s is
 
   -- REFUSED CALLS STRUCK: from a list with rebuilds, from a history alone, and their answers from the answers
   abbrev pub struck : State → Items → Items
@@ -321,7 +306,7 @@ module _ (M : Machine) where
 
   abbrev pub struckAnswers : List Answer → List Answer
   struckAnswers [] = []
-  struckAnswers (a ∷ l) = ifRefused (outcome (a .beside)) (struckAnswers l) (a ∷ struckAnswers l)
+  struckAnswers (a ∷ l) = ifRefused (outcome a) (struckAnswers l) (a ∷ struckAnswers l)
 
   -- DEMAND 3, "a single claim about the whole list with its rebuilds, and not one for each call", from a state
   pub record Demand3 (s : State) (is : Items) : Type 0 where
@@ -334,9 +319,14 @@ module _ (M : Machine) where
     -- in order: answers and end state are those without the rebuilds
     pub exactAnswers : InOrder is → answersWith s is ≡ answers s (history is)
     pub exactEnd : InOrder is → endWith s is ≡ end s (history is)
-    -- every refused call struck: the list is again a proper one, of the history without its refused calls; "all other calls
-    -- get the same answers and the end state is the same"
+    -- every refused call struck: the list is again a proper one, of the history without its refused calls, and has no refused
+    -- call; "all other calls get the same answers and the end state is the same"
     pub struckProper : Proper false [] s (struck s is)
     pub struckHistory : history (struck s is) ≡ struckCalls s (history is)
+    pub struckNoneRefused : All (λ a. outcome a ≡ refused → ⊥) (answersWith s (struck s is))
     pub struckSameAnswers : answersWith s (struck s is) ≡ struckAnswers (answersWith s is)
     pub struckSameEnd : endWith s (struck s is) ≡ endWith s is
+    -- and so of the history alone, which is itself a proper one
+    pub properHistory : ProperHistory false s (history is)
+    pub plainStruckAnswers : answers s (struckCalls s (history is)) ≡ struckAnswers (answers s (history is))
+    pub plainStruckEnd : end s (struckCalls s (history is)) ≡ end s (history is)
