@@ -73,7 +73,8 @@ module _ (s : rules.State) (allowed : Bool) (answered0 : isSuccess (rules.step s
   insert-dump-rebuild xs ys buffer p room =
       moment.insert-dump-rebuild machine Reached laws (poweredOn s allowed) (start s allowed answered0) xs ys buffer p (uncut xs) room
 
-  -- a rebuild from any complete dump, in order or in any permitted other order, may stand behind a list
+  -- a rebuild from any complete dump, in order or in any permitted other order, may stand behind a list (to permit another, the
+  -- variables that are bytes are enough: UnambiguousLaws.antt)
   pub append-rebuild : (is : Items machine) (ds : List Bytes) (x : Order machine) → ProperFrom is → Complete machine ds (pastAt is)
       → Permitted machine ds x → ProperFrom (is ++ (rebuild ds x ∷ []))
   append-rebuild is ds x p d m =

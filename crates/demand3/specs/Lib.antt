@@ -1,5 +1,6 @@
 pub mod Machine
 pub mod OrderLaws
 pub mod MachineLaws
+pub mod UnambiguousLaws
 pub mod Demand3
 pub mod Example

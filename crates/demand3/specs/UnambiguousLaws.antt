@@ -1,0 +1,213 @@
+-- The condition on another order, `Unambiguous`, speaks of variables whose namespace and name are lists of any numbers. Of
+-- entries that are bytes it is enough to know it of the variables that are bytes, which are all that a caller can name.
+-- A variable that two entries target at one rank is spelled anew in bytes: its namespace is the entries' own, and each unit of
+-- its name is a unit of an entry or a hex digit. Assumes nothing.
+use Prim.Native.Nat.{ℕ, suc, _+_, _-_, _*_, _%_, _<_}
+use mathlib.Core.Path.{_≡_, refl, ap, ap₂, _∙_, subst, subst⁻¹}
+use mathlib.Core.List.{List, [], _∷_}
+use mathlib.Core.Bool.{Bool, true, false, _||_, false≢true}
+use mathlib.Core.Logic.{_⊎_, inl, inr}
+use native.Mathlib.Omega.{arith}
+use lib.ListN.{length, take, drop, take-append-drop}
+use lib.Dec.{eqb, leb}
+use borrow.Author.Tests.{eq-eqb, eqb-true, leb-true}
+use Rattle.limits.specs.Limits.{namespaceBytes, wholeNamespaceRank}
+use Rattle.lists.specs.Lists.{All, Pairs, RanksDiffer}
+use Rattle.lists.specs.ListsLaws.{all-map, all-left, all-right}
+use Rattle.slices.specs.Test.{_and_}
+use Rattle.slices.specs.TestLaws.{and-left, and-right, and-intro}
+use Rattle.slices.specs.Bytes.{Bytes, part, pairwise}
+use Rattle.slices.specs.BytesLaws.{same-eq}
+use Rattle.names.specs.Name.{Variable, units, noZero, isName, named, isHexDigit, numberSign, unitMatches}
+use Rattle.names.specs.NameLaws.{isName-length, named-namespace, named-name, units-length, wildcards-le}
+use Rattle.entry.specs.Entry.{offsetToName, namespaceOf, nameIsEmpty, nameOf, targets, rank}
+use Rattle.history.specs.History.{Unambiguous}
+use Rattle.demand3.specs.Machine.{machine}
+
+-- each number is a byte
+abbrev pub AreBytes : Bytes → Type 0
+AreBytes = All (λ b. b < 256)
+
+-- a variable as a caller can name it, by a name that step 1 takes
+pub record NamedInBytes (v : Variable) : Type 0 where
+  pub namespace : AreBytes (v .namespace)
+  pub name : AreBytes (v .name)
+  pub taken : named v ≡ true
+
+-- no two entries of equal rank target one such variable
+abbrev pub UnambiguousInBytes : List Bytes → Type 0
+UnambiguousInBytes ds = (v : Variable) → NamedInBytes v → Pairs (RanksDiffer rank (λ e. targets e v)) ds
+
+-- ---- parts of an entry
+
+bytes-part : (a e : ℕ) (s : Bytes) → AreBytes s → AreBytes (part a e s)
+bytes-part a e s h =
+    let d : AreBytes (drop a s) = all-right _ (take a s) (drop a s) (subst⁻¹ AreBytes (take-append-drop a s) h) in
+    all-left _ (take (e - a) (drop a s)) (drop (e - a) (drop a s)) (subst⁻¹ AreBytes (take-append-drop (e - a) (drop a s)) d)
+
+bytes-name : (e : Bytes) → AreBytes e → AreBytes (nameOf e)
+unfolding nameOf
+bytes-name e h = bytes-part (offsetToName e) (length e - 2) e h
+
+-- ---- a name spelled anew in bytes: the same units
+
+record Spelled (s : Bytes) : Type 0 where
+  bytes : Bytes
+  areBytes : AreBytes bytes
+  sameUnits : units bytes ≡ units s
+  sameLength : length bytes ≡ length s
+
+or-cases : (a b : Bool) → (a || b) ≡ true → (a ≡ true) ⊎ (b ≡ true)
+or-cases true b h = inl refl
+or-cases false b h = inr h
+
+hex-small : (u : ℕ) → isHexDigit u ≡ true → u < 256
+unfolding isHexDigit
+hex-small u h = go (or-cases (leb 0x30 u and leb u 0x39) (leb 0x41 u and leb u 0x46 || leb 0x61 u and leb u 0x66) h)
+  where
+    letter : ((leb 0x41 u and leb u 0x46) ≡ true) ⊎ ((leb 0x61 u and leb u 0x66) ≡ true) → u < 256
+    letter (inl k) = omega (arith, leb-true u 0x46 (and-right _ _ k))
+    letter (inr k) = omega (arith, leb-true u 0x66 (and-right _ _ k))
+
+    go : ((leb 0x30 u and leb u 0x39) ≡ true) ⊎ ((leb 0x41 u and leb u 0x46 || leb 0x61 u and leb u 0x66) ≡ true) → u < 256
+    go (inl k) = omega (arith, leb-true u 0x39 (and-right _ _ k))
+    go (inr k) = letter (or-cases (leb 0x41 u and leb u 0x46) (leb 0x61 u and leb u 0x66) k)
+
+-- a unit that an entry's unit matches is that unit, or a hex digit
+unit-cases : (p u : ℕ) → unitMatches p u ≡ true → (p ≡ u) ⊎ (u < 256)
+unfolding unitMatches
+unit-cases p u h = go (or-cases (eqb p u) (eqb p numberSign and isHexDigit u) h)
+  where
+    go : (eqb p u ≡ true) ⊎ ((eqb p numberSign and isHexDigit u) ≡ true) → (p ≡ u) ⊎ (u < 256)
+    go (inl k) = inl (eqb-true p u k)
+    go (inr k) = inr (hex-small u (and-right _ _ k))
+
+-- one unit and the rest
+spell-unit : (a b c d : ℕ) (s : Bytes) → a < 256 → b < 256 → (a + 256 * b ≡ c + 256 * d) ⊎ (c + 256 * d < 256) → Spelled s
+    → Spelled (c ∷ d ∷ s)
+unfolding units
+spell-unit a b c d s ha hb (inl e) r =
+    record {
+      bytes = a ∷ b ∷ r .bytes;
+      areBytes = (ha, (hb, r .areBytes));
+      sameUnits = ap₂ _∷_ e (r .sameUnits);
+      sameLength = ap (λ n. suc (suc n)) (r .sameLength);
+    }
+spell-unit a b c d s ha hb (inr l) r =
+    let e : c + 256 * d + 256 * 0 ≡ c + 256 * d = omega arith in
+    record {
+      bytes = (c + 256 * d) ∷ 0 ∷ r .bytes;
+      areBytes = (l, (omega arith, r .areBytes));
+      sameUnits = ap₂ _∷_ e (r .sameUnits);
+      sameLength = ap (λ n. suc (suc n)) (r .sameLength);
+    }
+
+spell : (p s : Bytes) → AreBytes p → length s % 2 ≡ 0 → pairwise unitMatches (units p) (units s) ≡ true → Spelled s
+unfolding units pairwise
+spell p [] h e m = record { bytes = []; areBytes = tt; sameUnits = refl; sameLength = refl }
+spell p (c ∷ []) h e m = absurd (omega arith)
+spell [] (c ∷ d ∷ s) h e m = absurd (false≢true m)
+spell (a ∷ []) (c ∷ d ∷ s) h e m = absurd (false≢true m)
+spell (a ∷ b ∷ p) (c ∷ d ∷ s) h e m =
+    spell-unit a b c d s (h .0) (h .1 .0) (unit-cases (a + 256 * b) (c + 256 * d) (and-left _ _ m))
+    (spell p s (h .1 .1) (omega arith) (and-right _ _ m))
+
+-- ---- what stays of a variable with its name spelled anew
+
+abbrev respelled : Variable → Bytes → Variable
+respelled v name = record { namespace = v .namespace; name = name }
+
+name-even : (s : Bytes) → isName s ≡ true → length s % 2 ≡ 0
+unfolding isName
+name-even s h = eqb-true _ _ (and-left _ _ h)
+
+named-respelled : (v : Variable) (r : Spelled (v .name)) → named (respelled v (r .bytes)) ≡ named v
+unfolding named isName
+named-respelled v r = rw (r .sameUnits, r .sameLength)
+
+targets-respelled : (e : Bytes) (v : Variable) (r : Spelled (v .name)) → targets e (respelled v (r .bytes)) ≡ targets e v
+unfolding targets
+targets-respelled e v r = rw (r .sameUnits)
+
+-- ---- two entries of equal rank
+
+target-namespace : (e : Bytes) (v : Variable) → targets e v ≡ true → namespaceOf e ≡ v .namespace
+unfolding targets
+target-namespace e v h = same-eq (namespaceOf e) (v .namespace) (and-left _ _ h)
+
+-- a name that matches has as many units, so at most 64 of them are '#'
+matches-length : (ps us : List ℕ) → pairwise unitMatches ps us ≡ true → length ps ≡ length us
+unfolding pairwise
+matches-length [] [] h = refl
+matches-length [] (u ∷ us) h = absurd (false≢true h)
+matches-length (p ∷ ps) [] h = absurd (false≢true h)
+matches-length (p ∷ ps) (u ∷ us) h = ap suc (matches-length ps us (and-right _ _ h))
+
+rank-of-name : (e : Bytes) (v : Variable) → named v ≡ true → targets e v ≡ true → nameIsEmpty e ≡ false → rank e < wholeNamespaceRank
+unfolding targets rank
+rank-of-name e v n h z =
+    let m = matches-length (units (nameOf e)) (units (v .name)) (rw z at (and-right _ _ h)) in
+    let l = isName-length (v .name) (named-name v n) in
+    rw z (omega (arith, m, l, wildcards-le (units (nameOf e)), units-length (v .name)))
+
+rank-of-namespace : (e : Bytes) → nameIsEmpty e ≡ true → rank e ≡ wholeNamespaceRank
+unfolding rank
+rank-of-namespace e z = rw z
+
+-- two entries that target one variable at one rank, the first of them bytes, so target a variable in bytes
+module _ (e f : Bytes) (v : Variable) (h : AreBytes e) (n : named v ≡ true) (p : targets e v ≡ true) (q : targets f v ≡ true)
+    (k : rank e ≡ rank f) (differ : (w : Variable) → NamedInBytes w → RanksDiffer rank (λ x. targets x w) e f) where
+  namespace-bytes : AreBytes (v .namespace)
+  namespace-bytes = subst AreBytes (target-namespace e v p) (bytes-part 8 24 e h)
+
+  -- by name: the same variable, spelled anew
+  by-name : nameIsEmpty e ≡ false → ⊥
+  unfolding targets
+  by-name z =
+      let m : pairwise unitMatches (units (nameOf e)) (units (v .name)) ≡ true = rw z at (and-right _ _ p) in
+      let r = spell (nameOf e) (v .name) (bytes-name e h) (name-even (v .name) (named-name v n)) m in
+      differ (respelled v (r .bytes)) (record { namespace = namespace-bytes; name = r .areBytes; taken = named-respelled v r ∙ n })
+      (targets-respelled e v r ∙ p) (targets-respelled f v r ∙ q) k
+
+  -- both by namespace: any name serves, as "A"
+  abbrev letterA : Bytes
+  letterA = 0x41 ∷ 0 ∷ []
+
+  targets-A : (x : Bytes) → nameIsEmpty x ≡ true → targets x v ≡ true → targets x (respelled v letterA) ≡ true
+  unfolding targets
+  targets-A x z t =
+      let y : (nameIsEmpty x || pairwise unitMatches (units (nameOf x)) (units letterA)) ≡ true = rw z in
+      and-intro _ _ (and-left _ _ t) y
+
+  named-A : named (respelled v letterA) ≡ true
+  unfolding named isName units noZero _and_
+  named-A = rw (eq-eqb (length (v .namespace)) namespaceBytes (named-namespace v n))
+
+  by-namespace : nameIsEmpty e ≡ true → nameIsEmpty f ≡ true → ⊥
+  by-namespace z y =
+      differ (respelled v letterA) (record { namespace = namespace-bytes; name = (omega arith, (omega arith, tt)); taken = named-A })
+      (targets-A e z p) (targets-A f y q) k
+
+  never-both : ⊥
+  never-both = go (nameIsEmpty e) (nameIsEmpty f) refl refl
+    where
+      go : (x y : Bool) → nameIsEmpty e ≡ x → nameIsEmpty f ≡ y → ⊥
+      go false y a b = by-name a
+      go true true a b = by-namespace a b
+      go true false a b = omega (arith, k, rank-of-namespace e a, rank-of-name f v n q b)
+
+-- ---- BYTES ARE ENOUGH
+
+-- what holds of each pair with every variable
+all-each : {A W : Type 0} (P : W → Type 0) (R : W → A → Type 0) (l : List A) → ((w : W) → P w → All (R w) l)
+    → All (λ a. (w : W) → P w → R w a) l
+all-each P R [] h = tt
+all-each P R (a ∷ l) h = (λ w p. h w p .0, all-each P R l (λ w p. h w p .1))
+
+pub unambiguous : (ds : List Bytes) → All AreBytes ds → UnambiguousInBytes ds → Unambiguous machine ds
+unambiguous [] b u v n = tt
+unambiguous (e ∷ ds) b u v n = (
+  all-map _ _ (λ f differ p q k. never-both e f v (b .0) n p q k differ) ds
+      (all-each NamedInBytes (λ w. RanksDiffer rank (λ x. targets x w) e) ds (λ w r. u w r .0)),
+  unambiguous ds (b .1) (λ w r. u w r .1) v n,
+)
