@@ -3,7 +3,7 @@
 use Prim.Native.Nat.{ℕ, zero, suc}
 use mathlib.Core.Path.{_≡_, refl, sym, ap, _∙_}
 use mathlib.Core.List.{List, [], _∷_, _++_, map, List·Permᴰ·swap}
-use mathlib.Core.Bool.{true, false}
+use mathlib.Core.Bool.{Bool, true, false}
 use mathlib.Core.Option.{none, some}
 use mathlib.Core.Logic.{inl, inr}
 use native.Mathlib.Omega.{arith}
@@ -11,7 +11,7 @@ use lib.ListN.{take, replicate, getD}
 use Rattle.lists.specs.Lists as lists
 use Rattle.lists.specs.Lists.{All, RanksDiffer}
 use Rattle.slices.specs.Test.{_and_}
-use Rattle.slices.specs.TestLaws.{and-left}
+use Rattle.slices.specs.TestLaws.{and-left, and-right}
 use Rattle.slices.specs.Bytes.{Bytes, same, le16, le32, le32Bytes, pairwise, allAre, overwrite, padded}
 use Rattle.slices.specs.BytesLaws.{same-eq}
 use Rattle.slices.specs.Chunks.{flat, chunks, chunksFrom, used, packed, contains, distinct, find, remove, replace, replaceOrAppend}
@@ -26,15 +26,19 @@ use Rattle.status.specs.Status.{isSuccess, statusNumber}
 use Rattle.switches.specs.Switches.{freshSwitches}
 use Rattle.rules.specs.Set.{exists, isEmpty, holdsValue, locks, isDeletion, sizeAllowed, attributesAllowed, requestGround, groundOf, otherAttributes, isEmptyAppend, payloadAfter, writeStatus, badRequest, unsupportedBit, needsBS, requestStatus, setStatus, setStore}
 use Rattle.rules.specs.Engine as rules
-use Rattle.rules.specs.Engine.{Answer, Call, step, powerOnStatus, restartStatus, registerStatus, dumpStatus, readStatus, setStatusBy}
+use Rattle.rules.specs.Engine.{State, Answer, Call, step, powerOnStatus, restartStatus, registerStatus, dumpStatus, readStatus, setStatusBy}
 use Rattle.rules.specs.Engine.Call.{powerOn, restart, register, dump, lock, disable, read, set}
-use Rattle.history.specs.History.{Items, Complete, DumpOf, Demand3, Permitted, Past, answers, answersWith, history, struck}
+use Rattle.history.specs.History.{Items, Order, Complete, DumpOf, Demand3, Permitted, Past, answers, end, answersWith, endWith, history, stateBy, standingOrder, struck}
 use Rattle.history.specs.AnyMoment.{pastAfter}
-use Rattle.history.specs.History.Outcome.{granted}
 use Rattle.history.specs.History.Kind.{dumps}
 use Rattle.history.specs.History.ItemOf.{call, ownDump, rebuild}
 use Rattle.demand3.specs.Machine.{outcomeBy, kindOf, machine}
 use Rattle.demand3.specs.Demand3.{poweredOn, demand-3, ProperFrom, append-calls, insert-dump, append-rebuild}
+
+-- to compute by the rules: `unfolding rulesOpened` opens every definition named here
+unfoldable rulesOpened : Bool
+unfolding _and_ le16 le32 le32Bytes pairwise allAre overwrite padded flat chunks chunksFrom used packed contains distinct find remove replace replaceOrAppend units noZero isName isTerminated named isHexDigit unitMatches wildcards headerOk lockOk nameOk wellFormed nameOf triggerOf targets rank sameTarget entryLength policyValid chosen stored.namespaceOf stored.nameOf stored.payloadOf stored.attributesOk stored.headerOk stored.bodyOk stored.recordOk stored.recordLength stored.isOf stored.encodeRecord storeOk withoutVariable hasRoom withRecord sound soundAlone lookup exists isEmpty holdsValue locks isDeletion sizeAllowed attributesAllowed requestGround groundOf otherAttributes isEmptyAppend payloadAfter writeStatus badRequest unsupportedBit needsBS requestStatus setStatus setStore step powerOnStatus restartStatus registerStatus dumpStatus readStatus setStatusBy
+rulesOpened = true
 
 -- two namespaces; the names "A#", "#A", "A1" and "AA"
 abbrev G : Bytes
@@ -74,37 +78,86 @@ setting v payload = set (record { variable = v; attributes = 3; payload = payloa
 abbrev board : rules.State
 board = record { nv = replicate 128 255; vol = replicate 8 0; policy = replicate 8192 7; switches = freshSwitches false }
 
--- the calls of the history, in four parts. Two registrations; a set that is refused by the lock; a create; a read; a dump at 5
+-- the entries in the order of the history, in another, in that with the third behind, and the third alone
+abbrev d₁₂ : List Bytes
+d₁₂ = e₁ ∷ e₂ ∷ []
+
+abbrev d₂₁ : List Bytes
+d₂₁ = e₂ ∷ e₁ ∷ []
+
+abbrev d₂₁₃ : List Bytes
+d₂₁₃ = e₂ ∷ e₁ ∷ e₃ ∷ []
+
+abbrev d₃ : List Bytes
+d₃ = e₃ ∷ []
+
+-- THE LIST, part by part: each time a rebuild, then calls of the history
+abbrev andThen : Items machine → List Bytes → Order machine → List Call → Items machine
+andThen is ds x cs = (is ++ (rebuild ds x ∷ [])) ++ map call cs
+
+-- 1. Before the first call, from an own dump of no entries. Two registrations; a set that is refused by the lock; a create; a
+-- read; a dump at 5
 abbrev calls₁ : List Call
 calls₁ =
     register e₁ ∷ register e₂ ∷ setting (variable G 0x41 0x31) (7 ∷ []) ∷ setting (variable H 0x41 0x31) (1 ∷ 2 ∷ [])
     ∷ read (variable H 0x41 0x31) ∷ dump (replicate 99 5) ∷ []
 
--- a registration that quarrels with the first entry; a set of "AA", for which the first still speaks; a dump
-abbrev calls₂ : List Call
-calls₂ = register e₃ ∷ setting (variable G 0x41 0x41) (7 ∷ []) ∷ dump (replicate 152 9) ∷ []
-
--- disabled, locked, and a refused registration
-abbrev calls₃ : List Call
-calls₃ = disable ∷ lock ∷ register e₁ ∷ []
-
--- a set that the lock refused before, and that a disabled engine takes; a restart of the history; a dump
-abbrev calls₄ : List Call
-calls₄ = setting (variable G 0x41 0x31) (7 ∷ []) ∷ restart false ∷ dump (4 ∷ []) ∷ []
-
--- with an own dump into a buffer of exact length and the entries in the other order behind the first part, a rebuild in order
--- from the history's dump behind the second, and from the same old dump behind the third
 abbrev items₁ : Items machine
-items₁ = map call calls₁ ++ (ownDump (replicate 100 5) ∷ [])
+items₁ = andThen (ownDump [] ∷ []) [] none calls₁
+
+-- 2. From an own dump into a buffer of exact length, in another order. A dump
+abbrev dumped₁ : Items machine
+dumped₁ = items₁ ++ (ownDump (replicate 100 5) ∷ [])
+
+abbrev calls₂ : List Call
+calls₂ = dump (replicate 101 8) ∷ []
 
 abbrev items₂ : Items machine
-items₂ = (items₁ ++ (rebuild (e₁ ∷ e₂ ∷ []) (some (e₂ ∷ e₁ ∷ [])) ∷ [])) ++ map call calls₂
+items₂ = andThen dumped₁ d₁₂ (some d₂₁) calls₂
+
+-- 3. From the same dump, which was taken before the other order, in order. A dump
+abbrev calls₃ : List Call
+calls₃ = dump (replicate 100 8) ∷ []
 
 abbrev items₃ : Items machine
-items₃ = (items₂ ++ (rebuild (e₂ ∷ e₁ ∷ e₃ ∷ []) none ∷ [])) ++ map call calls₃
+items₃ = andThen items₂ d₁₂ none calls₃
 
+-- 4. From the same dump, in the other order again. A registration that quarrels with the first entry; a set of "AA", for which
+-- the first still speaks; a dump
+abbrev calls₄ : List Call
+calls₄ = register e₃ ∷ setting (variable G 0x41 0x41) (7 ∷ []) ∷ dump (replicate 152 9) ∷ []
+
+abbrev items₄ : Items machine
+items₄ = andThen items₃ d₁₂ (some d₂₁) calls₄
+
+-- 5. From the history's dump, in order. Disabled, locked, and a refused registration
+abbrev calls₅ : List Call
+calls₅ = disable ∷ lock ∷ register e₁ ∷ []
+
+abbrev items₅ : Items machine
+items₅ = andThen items₄ d₂₁₃ none calls₅
+
+-- 6. From the same dump, in order, of an engine that is disabled and locked. A set that the lock refused before, and that a
+-- disabled engine takes; a restart of the history; a registration; a dump
+abbrev calls₆ : List Call
+calls₆ = setting (variable G 0x41 0x31) (7 ∷ []) ∷ restart false ∷ register e₃ ∷ dump (replicate 51 4) ∷ []
+
+abbrev items₆ : Items machine
+items₆ = andThen items₅ d₂₁₃ none calls₆
+
+-- 7. After the last call, from the history's dump, in order
 abbrev items : Items machine
-items = (items₃ ++ (rebuild (e₂ ∷ e₁ ∷ e₃ ∷ []) none ∷ [])) ++ map call calls₄
+items = andThen items₆ d₃ none []
+
+abbrev start : State
+start = poweredOn board true
+
+-- what the history's calls answer, with the rebuilds and without them
+abbrev answersGot : List Answer
+answersGot = answersWith machine start items
+
+abbrev answersWithout : List Answer
+answersWithout = answers machine start (history machine items)
 
 abbrev statusNumbers : List Answer → List ℕ
 statusNumbers [] = []
@@ -120,31 +173,118 @@ numberOf n [] = 0
 numberOf zero (a ∷ l) = a .number
 numberOf (suc n) (a ∷ l) = numberOf n l
 
--- what the history's calls answer, with the rebuilds and without them
-abbrev answersGot : List Answer
-answersGot = answersWith machine (poweredOn board true) items
+-- WHAT THE CALLS ANSWER, computed
+pub record Answers : Type 0 where
+  pub powered : isSuccess (step board (powerOn true) .0 .status) ≡ true
+  pub statuses : statusNumbers answersGot ≡ 0 ∷ 0 ∷ 8 ∷ 0 ∷ 0 ∷ 5 ∷ 0 ∷ 0 ∷ 0 ∷ 8 ∷ 0 ∷ 0 ∷ 0 ∷ 8 ∷ 0 ∷ 0 ∷ 0 ∷ 0 ∷ []
+  -- the read's attributes and payload
+  pub attributes : numberOf 4 answersGot ≡ 3
+  pub payload : bytesOf 4 answersGot ≡ 1 ∷ 2 ∷ []
+  -- the needed length at 5
+  pub needed : numberOf 5 answersGot ≡ 100
+  -- the dumps in the other order, in the older dump's, and in the other with the entry registered since behind it, each with its
+  -- buffer's old bytes; the last of them without the rebuilds
+  pub dumpedOther : bytesOf 6 answersGot ≡ e₂ ++ e₁ ++ (8 ∷ [])
+  pub dumpedOlder : bytesOf 7 answersGot ≡ e₁ ++ e₂
+  pub dumped : bytesOf 10 answersGot ≡ e₂ ++ e₁ ++ e₃ ++ (9 ∷ 9 ∷ [])
+  pub dumpedPlain : bytesOf 10 answersWithout ≡ e₁ ++ e₂ ++ e₃ ++ (9 ∷ 9 ∷ [])
+  -- the last dump, after the restart
+  pub dumpedLast : bytesOf 17 answersGot ≡ e₃ ++ (4 ∷ [])
 
-abbrev answersWithout : List Answer
-answersWithout = answers machine (poweredOn board true) (history machine items)
+pub answered : Answers
+unfolding rulesOpened
+answered = record {
+  powered = refl;
+  statuses = refl;
+  attributes = refl;
+  payload = refl;
+  needed = refl;
+  dumpedOther = same-eq (bytesOf 6 answersGot) (e₂ ++ e₁ ++ (8 ∷ [])) refl;
+  dumpedOlder = same-eq (bytesOf 7 answersGot) (e₁ ++ e₂) refl;
+  dumped = same-eq (bytesOf 10 answersGot) (e₂ ++ e₁ ++ e₃ ++ (9 ∷ 9 ∷ [])) refl;
+  dumpedPlain = same-eq (bytesOf 10 answersWithout) (e₁ ++ e₂ ++ e₃ ++ (9 ∷ 9 ∷ [])) refl;
+  dumpedLast = same-eq (bytesOf 17 answersGot) (e₃ ++ (4 ∷ [])) refl;
+}
 
--- the list without its refused calls
+-- THE ORDER THAT STANDS, computed
+pub record Orders : Type 0 where
+  -- after the third part: the older dump's
+  pub older : standingOrder machine none start items₃ ≡ some d₁₂
+  -- after the fifth: the other, the entry registered since behind it
+  pub other : standingOrder machine none start items₅ ≡ some d₂₁₃
+  -- at the end, a restart and a rebuild in order later: none
+  pub last : standingOrder machine none start items ≡ none
+
+pub orders : Orders
+unfolding rulesOpened
+orders = record { older = refl; other = refl; last = refl }
+
+-- THE REFUSED CALLS STRUCK, computed
 abbrev notRefused : Items machine
 notRefused =
-    call (register e₁) ∷ call (register e₂) ∷ call (setting (variable H 0x41 0x31) (1 ∷ 2 ∷ [])) ∷ call (read (variable H 0x41 0x31))
-    ∷ ownDump (replicate 100 5) ∷ rebuild (e₁ ∷ e₂ ∷ []) (some (e₂ ∷ e₁ ∷ []))
-    ∷ call (register e₃) ∷ call (dump (replicate 152 9)) ∷ rebuild (e₂ ∷ e₁ ∷ e₃ ∷ []) none
-    ∷ call disable ∷ call lock ∷ rebuild (e₂ ∷ e₁ ∷ e₃ ∷ []) none
-    ∷ call (setting (variable G 0x41 0x31) (7 ∷ [])) ∷ call (restart false) ∷ call (dump (4 ∷ [])) ∷ []
+    ownDump [] ∷ rebuild [] none
+    ∷ call (register e₁) ∷ call (register e₂) ∷ call (setting (variable H 0x41 0x31) (1 ∷ 2 ∷ [])) ∷ call (read (variable H 0x41 0x31))
+    ∷ ownDump (replicate 100 5) ∷ rebuild d₁₂ (some d₂₁)
+    ∷ call (dump (replicate 101 8)) ∷ rebuild d₁₂ none
+    ∷ call (dump (replicate 100 8)) ∷ rebuild d₁₂ (some d₂₁)
+    ∷ call (register e₃) ∷ call (dump (replicate 152 9)) ∷ rebuild d₂₁₃ none
+    ∷ call disable ∷ call lock ∷ rebuild d₂₁₃ none
+    ∷ call (setting (variable G 0x41 0x31) (7 ∷ [])) ∷ call (restart false) ∷ call (register e₃) ∷ call (dump (replicate 51 4))
+    ∷ rebuild d₃ none ∷ []
 
--- what counts for complete dumps after a list
+pub record Struck : Type 0 where
+  pub list : struck machine start items ≡ notRefused
+  pub statuses : statusNumbers (answersWith machine start notRefused) ≡ replicate 14 0
+
+pub strikes : Struck
+unfolding rulesOpened
+strikes = record { list = refl; statuses = refl }
+
+-- THE LIST IS PROPER: each rebuild is from a complete dump, computed
 abbrev past : Items machine → Past machine
-past is = pastAfter machine [] (poweredOn board true) is
+past is = pastAfter machine [] start is
 
 -- a dump that answered 0, whose bytes are compared one by one
-dump-of : {ds : List Bytes} {c : Call} {a : Answer} → kindOf c ≡ dumps → outcomeBy (isSuccess (a .status)) ≡ granted
-    → All (λ e. wellFormed e ≡ true) ds → same (lists.flat ds) (take (a .number) (a .bytes)) ≡ true → DumpOf machine ds c a
-dump-of {ds} {c} {a} k g f h =
-    record { isDump = k; isGranted = g; areFormed = f; areDumped = same-eq (lists.flat ds) (take (a .number) (a .bytes)) h }
+abbrev shows : List Bytes → Answer → Bool
+shows ds a = isSuccess (a .status) and same (lists.flat ds) (take (a .number) (a .bytes))
+
+dump-of : {ds : List Bytes} {c : Call} {a : Answer} → kindOf c ≡ dumps → All (λ e. wellFormed e ≡ true) ds → shows ds a ≡ true
+    → DumpOf machine ds c a
+dump-of {ds} {c} {a} k f h =
+    record {
+      isDump = k;
+      isGranted = ap outcomeBy (and-left _ _ h);
+      areFormed = f;
+      areDumped = same-eq (lists.flat ds) (take (a .number) (a .bytes)) (and-right _ _ h);
+    }
+
+complete-empty : Complete machine [] (past (ownDump [] ∷ []))
+unfolding rulesOpened
+complete-empty = inl (dump-of refl tt refl)
+
+-- the own dump; neither rebuilds nor dumps outdate it
+complete-own : Complete machine d₁₂ (past dumped₁)
+unfolding rulesOpened
+complete-own = inl (dump-of refl (refl, (refl, tt)) refl)
+
+complete-own₂ : Complete machine d₁₂ (past items₂)
+complete-own₂ = inr (refl, complete-own)
+
+complete-own₃ : Complete machine d₁₂ (past items₃)
+complete-own₃ = inr (refl, complete-own₂)
+
+-- the history's dump; a disable, a lock and a refused registration do not outdate it
+complete-new : Complete machine d₂₁₃ (past items₄)
+unfolding rulesOpened
+complete-new = inl (dump-of refl (refl, (refl, (refl, tt))) refl)
+
+complete-old : Complete machine d₂₁₃ (past items₅)
+unfolding rulesOpened
+complete-old = inr (refl, inr (refl, inr (refl, complete-new)))
+
+complete-last : Complete machine d₃ (past items₆)
+unfolding rulesOpened
+complete-last = inl (dump-of refl (refl, tt) refl)
 
 -- entries of different namespaces never target one variable
 apart : (e f : Bytes) → (namespaceOf e ≡ namespaceOf f → ⊥) → (v : Variable) → RanksDiffer rank (λ x. targets x v) e f
@@ -154,78 +294,43 @@ apart e f h v p q r = h (same-eq (namespaceOf e) (v .namespace) (and-left _ _ p)
 other-namespace : namespaceOf e₁ ≡ namespaceOf e₂ → ⊥
 other-namespace h = let z : _≡_ {A = ℕ} 0x5C 7 = ap (λ (l : Bytes). getD l 0 0) h in omega arith
 
-other-order : Permitted machine (e₁ ∷ e₂ ∷ []) (some (e₂ ∷ e₁ ∷ []))
+other-order : Permitted machine d₁₂ (some d₂₁)
 other-order = (List·Permᴰ·swap refl refl, λ v n. ((apart e₁ e₂ other-namespace v, tt), (tt, tt)))
 
--- WHAT THE CALLS ANSWER, computed
-pub record Answers : Type 0 where
-  pub powered : isSuccess (step board (powerOn true) .0 .status) ≡ true
-  pub statuses : statusNumbers answersGot ≡ 0 ∷ 0 ∷ 8 ∷ 0 ∷ 0 ∷ 5 ∷ 0 ∷ 8 ∷ 0 ∷ 0 ∷ 0 ∷ 8 ∷ 0 ∷ 0 ∷ 0 ∷ []
-  -- the read's attributes and payload
-  pub attributes : numberOf 4 answersGot ≡ 3
-  pub payload : bytesOf 4 answersGot ≡ 1 ∷ 2 ∷ []
-  -- the needed length at 5
-  pub needed : numberOf 5 answersGot ≡ 100
-  -- the dump after the reorder: in that order, the entry registered since behind it, and the buffer's old bytes; and the same
-  -- dump without the rebuilds
-  pub dumped : bytesOf 8 answersGot ≡ e₂ ++ e₁ ++ e₃ ++ (9 ∷ 9 ∷ [])
-  pub dumpedPlain : bytesOf 8 answersWithout ≡ e₁ ++ e₂ ++ e₃ ++ (9 ∷ 9 ∷ [])
-  -- the last dump: no entries, and the buffer as it was
-  pub empty : bytesOf 14 answersGot ≡ 4 ∷ []
+abbrev ProperHere : Items machine → Type 0
+ProperHere = ProperFrom board true (answered .powered)
 
-pub answered : Answers
-unfolding _and_ le16 le32 le32Bytes pairwise allAre overwrite padded flat chunks chunksFrom used packed contains distinct find remove replace replaceOrAppend units noZero isName isTerminated named isHexDigit unitMatches wildcards headerOk lockOk nameOk wellFormed nameOf triggerOf targets rank sameTarget entryLength policyValid chosen stored.namespaceOf stored.nameOf stored.payloadOf stored.attributesOk stored.headerOk stored.bodyOk stored.recordOk stored.recordLength stored.isOf stored.encodeRecord storeOk withoutVariable hasRoom withRecord sound soundAlone lookup exists isEmpty holdsValue locks isDeletion sizeAllowed attributesAllowed requestGround groundOf otherAttributes isEmptyAppend payloadAfter writeStatus badRequest unsupportedBit needsBS requestStatus setStatus setStore step powerOnStatus restartStatus registerStatus dumpStatus readStatus setStatusBy
-answered = record {
-  powered = refl;
-  statuses = refl;
-  attributes = refl;
-  payload = refl;
-  needed = refl;
-  dumped = same-eq (bytesOf 8 answersGot) (e₂ ++ e₁ ++ e₃ ++ (9 ∷ 9 ∷ [])) refl;
-  dumpedPlain = same-eq (bytesOf 8 answersWithout) (e₁ ++ e₂ ++ e₃ ++ (9 ∷ 9 ∷ [])) refl;
-  empty = refl;
-}
+then-proper : (is : Items machine) (ds : List Bytes) (x : Order machine) (cs : List Call) → ProperHere is
+    → Complete machine ds (past is) → Permitted machine ds x → ProperHere (andThen is ds x cs)
+then-proper is ds x cs p d m =
+    append-calls board true (answered .powered) (is ++ (rebuild ds x ∷ [])) cs
+    (append-rebuild board true (answered .powered) is ds x p d m)
 
--- THE REFUSED CALLS STRUCK, computed
-pub record Struck : Type 0 where
-  pub list : struck machine (poweredOn board true) items ≡ notRefused
-  pub statuses : statusNumbers (answersWith machine (poweredOn board true) notRefused) ≡ 0 ∷ 0 ∷ 0 ∷ 0 ∷ 0 ∷ 0 ∷ 0 ∷ 0 ∷ 0 ∷ 0 ∷ 0 ∷ []
+proper₁ : ProperHere items₁
+proper₁ =
+    then-proper (ownDump [] ∷ []) [] none calls₁ (insert-dump board true (answered .powered) [] [] [] tt) complete-empty tt
 
-pub strikes : Struck
-unfolding _and_ le16 le32 le32Bytes pairwise allAre overwrite padded flat chunks chunksFrom used packed contains distinct find remove replace replaceOrAppend units noZero isName isTerminated named isHexDigit unitMatches wildcards headerOk lockOk nameOk wellFormed nameOf triggerOf targets rank sameTarget entryLength policyValid chosen stored.namespaceOf stored.nameOf stored.payloadOf stored.attributesOk stored.headerOk stored.bodyOk stored.recordOk stored.recordLength stored.isOf stored.encodeRecord storeOk withoutVariable hasRoom withRecord sound soundAlone lookup exists isEmpty holdsValue locks isDeletion sizeAllowed attributesAllowed requestGround groundOf otherAttributes isEmptyAppend payloadAfter writeStatus badRequest unsupportedBit needsBS requestStatus setStatus setStore step powerOnStatus restartStatus registerStatus dumpStatus readStatus setStatusBy
-strikes = record { list = refl; statuses = refl }
-
--- THE LIST IS PROPER: each rebuild is from a complete dump, computed
-pub record CompleteDumps : Type 0 where
-  pub own : Complete machine (e₁ ∷ e₂ ∷ []) (past items₁)
-  pub new : Complete machine (e₂ ∷ e₁ ∷ e₃ ∷ []) (past items₂)
-  -- a disable, a lock and a refused registration outdate none
-  pub old : Complete machine (e₂ ∷ e₁ ∷ e₃ ∷ []) (past items₃)
-
-pub complete : CompleteDumps
-unfolding _and_ le16 le32 le32Bytes pairwise allAre overwrite padded flat chunks chunksFrom used packed contains distinct find remove replace replaceOrAppend units noZero isName isTerminated named isHexDigit unitMatches wildcards headerOk lockOk nameOk wellFormed nameOf triggerOf targets rank sameTarget entryLength policyValid chosen stored.namespaceOf stored.nameOf stored.payloadOf stored.attributesOk stored.headerOk stored.bodyOk stored.recordOk stored.recordLength stored.isOf stored.encodeRecord storeOk withoutVariable hasRoom withRecord sound soundAlone lookup exists isEmpty holdsValue locks isDeletion sizeAllowed attributesAllowed requestGround groundOf otherAttributes isEmptyAppend payloadAfter writeStatus badRequest unsupportedBit needsBS requestStatus setStatus setStore step powerOnStatus restartStatus registerStatus dumpStatus readStatus setStatusBy
-complete =
-    let new : Complete machine (e₂ ∷ e₁ ∷ e₃ ∷ []) (past items₂) = inl (dump-of refl refl (refl, (refl, (refl, tt))) refl) in
-    record { own = inl (dump-of refl refl (refl, (refl, tt)) refl); new = new; old = inr (refl, inr (refl, inr (refl, new))) }
-
-proper₁ : ProperFrom board true (answered .powered) items₁
-proper₁ = insert-dump board true (answered .powered) (map call calls₁) [] (replicate 100 5) (append-calls board true (answered .powered) [] calls₁ tt)
-
-proper₂ : ProperFrom board true (answered .powered) items₂
+proper₂ : ProperHere items₂
 proper₂ =
-    append-calls board true (answered .powered) (items₁ ++ (rebuild (e₁ ∷ e₂ ∷ []) (some (e₂ ∷ e₁ ∷ [])) ∷ [])) calls₂
-    (append-rebuild board true (answered .powered) items₁ (e₁ ∷ e₂ ∷ []) (some (e₂ ∷ e₁ ∷ [])) proper₁ (complete .own) other-order)
+    then-proper dumped₁ d₁₂ (some d₂₁) calls₂
+    (insert-dump board true (answered .powered) items₁ [] (replicate 100 5) proper₁) complete-own other-order
 
-proper₃ : ProperFrom board true (answered .powered) items₃
-proper₃ =
-    append-calls board true (answered .powered) (items₂ ++ (rebuild (e₂ ∷ e₁ ∷ e₃ ∷ []) none ∷ [])) calls₃
-    (append-rebuild board true (answered .powered) items₂ (e₂ ∷ e₁ ∷ e₃ ∷ []) none proper₂ (complete .new) tt)
+proper₄ : ProperHere items₄
+proper₄ =
+    then-proper items₃ d₁₂ (some d₂₁) calls₄ (then-proper items₂ d₁₂ none calls₃ proper₂ complete-own₂ tt) complete-own₃
+    other-order
 
-pub proper : ProperFrom board true (answered .powered) items
-proper =
-    append-calls board true (answered .powered) (items₃ ++ (rebuild (e₂ ∷ e₁ ∷ e₃ ∷ []) none ∷ [])) calls₄
-    (append-rebuild board true (answered .powered) items₃ (e₂ ∷ e₁ ∷ e₃ ∷ []) none proper₃ (complete .old) tt)
+proper₆ : ProperHere items₆
+proper₆ =
+    then-proper items₅ d₂₁₃ none calls₆ (then-proper items₄ d₂₁₃ none calls₅ proper₄ complete-new tt) complete-old tt
+
+pub proper : ProperHere items
+proper = then-proper items₆ d₃ none [] proper₆ complete-last tt
 
 -- AND SO THE CLAIM HOLDS OF IT
-pub holds : Demand3 machine (poweredOn board true) items
+pub holds : Demand3 machine start items
 holds = demand-3 board true (answered .powered) items proper
+
+-- and since no other order stands at the end, it says that the end is the very state without the rebuilds
+pub same-end : endWith machine start items ≡ end machine start (history machine items)
+same-end = holds .sameEnd ∙ ap (λ w. stateBy machine w (end machine start (history machine items))) (orders .last)
