@@ -24,85 +24,98 @@ use Rattle.demand3.specs.MachineLaws.{Reached, laws, power-on-done, rest
 
 -- "A history starts from the state that a power-on with answer 0 left, whatever the stores held and whether or not disabling
 -- is allowed"
-abbrev pub poweredOn : rules.State → Bool → State
+abbrev pub poweredOn : State → Bool → State
 poweredOn s allowed = rules.step s (powerOn allowed) .1
 
-start : (s : rules.State) (allowed : Bool) → isSuccess (rules.step s (powerOn allowed) .0 .status) ≡ true → Reached false (poweredOn s allowed)
+start : (s : State) (allowed : Bool) → isSuccess (rules.step s (powerOn allowed) .0 .status) ≡ true → Reached false (poweredOn s allowed)
 start s allowed h = record { uncut = refl; sound = power-on-sound s allowed h }
 
 -- THE CLAIM: of every list of all nine kinds of calls with any arguments, refused ones included, with rebuilds at any
 -- places, each from a complete dump and in order or in a permitted other order
-pub demand-3 : (s : rules.State) (allowed : Bool) → isSuccess (rules.step s (powerOn allowed) .0 .status) ≡ true
+pub demand-3 : (s : State) (allowed : Bool) → isSuccess (rules.step s (powerOn allowed) .0 .status) ≡ true
     → (is : Items machine) → Proper machine false [] (poweredOn s allowed) is → Demand3 machine (poweredOn s allowed) is
 demand-3 s allowed h is p = general.demand-3 machine Reached laws (poweredOn s allowed) (start s allowed h) is p
 
 -- ---- "AT ANY PLACES IN IT, AS OFTEN AS YOU LIKE": which lists are proper
 
-module _ (s : rules.State) (allowed : Bool) (answered0 : isSuccess (rules.step s (powerOn allowed) .0 .status) ≡ true) where
+module _ (s : State) (allowed : Bool) (answered0 : isSuccess (rules.step s (powerOn allowed) .0 .status) ≡ true) where
+  -- where the history starts
+  abbrev begun : State
+  begun = poweredOn s allowed
+
+  reached : Reached false begun
+  reached = start s allowed answered0
+
   -- the list is one that the claim is about
   abbrev pub ProperFrom : Items machine → Type 0
-  ProperFrom is = Proper machine false [] (poweredOn s allowed) is
+  ProperFrom is = Proper machine false [] begun is
 
   -- the entries that stand after a list, and what counts for complete dumps then
   abbrev pub entriesAt : Items machine → List Bytes
-  entriesAt xs = entriesOf (endWith machine (poweredOn s allowed) xs .policy)
+  entriesAt xs = entriesOf (endWith machine begun xs .policy)
 
   abbrev pub pastAt : Items machine → Past machine
-  pastAt xs = pastAfter machine [] (poweredOn s allowed) xs
+  pastAt xs = pastAfter machine [] begun xs
 
-  uncut : (xs : Items machine) → moment.cutAtEnd machine false (poweredOn s allowed) xs ≡ false
-  uncut xs = moment.never-cut machine never-cut xs (poweredOn s allowed)
+  uncut : (xs : Items machine) → moment.cutAtEnd machine false begun xs ≡ false
+  uncut xs = moment.never-cut machine never-cut xs begun
 
   -- any calls may stand behind a proper list, and so a list of calls alone is proper
   pub append-calls : (is : Items machine) (cs : List Call) → ProperFrom is → ProperFrom (is ++ map call cs)
-  append-calls is cs p = moment.append-calls machine never-cut is cs (poweredOn s allowed) p
+  append-calls is cs p = moment.append-calls machine never-cut is cs begun p
+
+  -- every first part of a proper list is proper, and so the claim holds at every moment of it
+  pub first-part : (xs ys : Items machine) → ProperFrom (xs ++ ys) → ProperFrom xs
+  first-part xs ys p = moment.proper-left machine xs ys false [] begun p
 
   -- an own dump into any buffer may be inserted at any place
   pub insert-dump : (xs ys : Items machine) (buffer : Bytes) → ProperFrom (xs ++ ys) → ProperFrom (xs ++ (ownDump buffer ∷ ys))
-  insert-dump xs ys buffer p = moment.insert-dump machine Reached laws (poweredOn s allowed) (start s allowed answered0) xs ys buffer p (uncut xs)
+  insert-dump xs ys buffer p = moment.insert-dump machine Reached laws begun reached xs ys buffer p (uncut xs)
 
   -- a rebuild in order from a complete dump of the entries as they stand may be inserted at any place
   pub insert-rebuild : (xs ys : Items machine) → ProperFrom (xs ++ ys) → Complete machine (entriesAt xs) (pastAt xs)
       → ProperFrom (xs ++ (rebuild (entriesAt xs) none ∷ ys))
-  insert-rebuild xs ys p d = moment.insert-rebuild machine Reached laws (poweredOn s allowed) (start s allowed answered0) xs ys p (uncut xs) d
+  insert-rebuild xs ys p d = moment.insert-rebuild machine Reached laws begun reached xs ys p (uncut xs) d
 
   -- and so may, without any condition but room for the sum of Sizes, an own dump and the rebuild from it
   pub insert-dump-rebuild : (xs ys : Items machine) (buffer : Bytes) → ProperFrom (xs ++ ys)
-      → sizesSum (endWith machine (poweredOn s allowed) xs .policy) ≤ length buffer
+      → sizesSum (endWith machine begun xs .policy) ≤ length buffer
       → ProperFrom (xs ++ (ownDump buffer ∷ rebuild (entriesAt xs) none ∷ ys))
   insert-dump-rebuild xs ys buffer p room =
-      moment.insert-dump-rebuild machine Reached laws (poweredOn s allowed) (start s allowed answered0) xs ys buffer p (uncut xs) room
+      moment.insert-dump-rebuild machine Reached laws begun reached xs ys buffer p (uncut xs) room
 
   -- a rebuild from any complete dump, in order or in any permitted other order, may stand behind a list (to permit another, the
   -- variables that are bytes are enough: UnambiguousLaws.antt)
   pub append-rebuild : (is : Items machine) (ds : List Bytes) (x : Order machine) → ProperFrom is → Complete machine ds (pastAt is)
       → Permitted machine ds x → ProperFrom (is ++ (rebuild ds x ∷ []))
   append-rebuild is ds x p d m =
-      moment.append-rebuild machine Reached laws (poweredOn s allowed) (start s allowed answered0) is ds x p (uncut is) d m
+      moment.append-rebuild machine Reached laws begun reached is ds x p (uncut is) d m
 
   -- an own dump with room serves a rebuild at any later moment, in order or in any permitted other order, unless a registration,
   -- power-on or restart of the history that succeeded outdates it
   pub dump-now-rebuild-later : (xs ys : Items machine) (buffer : Bytes) (x : Order machine) → ProperFrom (xs ++ ys)
-      → sizesSum (endWith machine (poweredOn s allowed) xs .policy) ≤ length buffer
-      → NoneOutdates machine (endWith machine (poweredOn s allowed) xs) ys → Permitted machine (entriesAt xs) x
+      → sizesSum (endWith machine begun xs .policy) ≤ length buffer
+      → NoneOutdates machine (endWith machine begun xs) ys → Permitted machine (entriesAt xs) x
       → ProperFrom ((xs ++ (ownDump buffer ∷ ys)) ++ (rebuild (entriesAt xs) x ∷ []))
   dump-now-rebuild-later xs ys buffer x p room n m =
-      moment.dump-now-rebuild-later machine Reached laws (poweredOn s allowed) (start s allowed answered0) xs ys buffer x p (uncut xs) room n
-      (moment.never-cut machine never-cut ys (endWith machine (poweredOn s allowed) xs)) m
+      moment.dump-now-rebuild-later machine Reached laws begun reached xs ys buffer x p (uncut xs) room n
+      (moment.never-cut machine never-cut ys (endWith machine begun xs)) m
 
   -- no power-on and no restart of a history is refused, with rebuilds or without: each is refused by damage alone, and no call
   -- does any
   pub starts-succeed : (is : Items machine) → ProperFrom is → (again : Bool)
-      → (isSuccess (rules.step (endWith machine (poweredOn s allowed) is) (powerOn again) .0 .status) ≡ true)
-      × (isSuccess (rules.step (endWith machine (poweredOn s allowed) is) (restart again) .0 .status) ≡ true)
+      → (isSuccess (rules.step (endWith machine begun is) (powerOn again) .0 .status) ≡ true)
+      × (isSuccess (rules.step (endWith machine begun is) (restart again) .0 .status) ≡ true)
   starts-succeed is p again =
-      let z = endWith machine (poweredOn s allowed) is in
-      let w = moment.reached machine Reached laws (poweredOn s allowed) (start s allowed answered0) is p (uncut is) .sound in
-      (ap isSuccess (step-status z (powerOn again)) ∙ power-on-done z again w, ap isSuccess (step-status z (restart again)) ∙ restart-done z again w)
+      let z = endWith machine begun is in
+      let w = moment.reached machine Reached laws begun reached is p (uncut is) .sound in (
+        ap isSuccess (step-status z (powerOn again)) ∙ power-on-done z again w,
+        ap isSuccess (step-status z (restart again)) ∙ restart-done z again w,
+      )
 
   -- ONE REBUILD between any two lists of calls
-  pub one-rebuild : (cs₁ cs₂ : List Call) → OneRebuild machine (poweredOn s allowed) cs₁ cs₂
-  one-rebuild cs₁ cs₂ = moment.one-rebuild machine Reached laws (poweredOn s allowed) (start s allowed answered0) never-cut cs₁ cs₂
+  pub one-rebuild : (cs₁ cs₂ : List Call) → OneRebuild machine begun cs₁ cs₂
+  one-rebuild cs₁ cs₂ = moment.one-rebuild machine Reached laws begun reached never-cut cs₁ cs₂
 
 -- a complete dump stays complete across own dumps, rebuilds and every call that does not outdate it, in any state
 pub stays-complete : (is : Items machine) (ds : List Bytes) (past : Past machine) (s : State) → NoneOutdates machine s is

@@ -53,7 +53,7 @@ module _ (M : Machine) where
     pub sameEnd : end M s (cs₁ ++ (rebuildAfter s cs₁ ++ cs₂)) ≡ end M s (cs₁ ++ cs₂)
 
   -- A PROPER LIST in two parts
-  proper-left : (xs ys : Items M) (t : Bool) (past : Past M) (s : State) → Proper M t past s (xs ++ ys)
+  pub proper-left : (xs ys : Items M) (t : Bool) (past : Past M) (s : State) → Proper M t past s (xs ++ ys)
       → Proper M t past s xs
   proper-left [] ys t past s p = tt
   proper-left (call c ∷ xs) ys t past s p = (p .0, proper-left xs ys _ _ _ (p .1))
