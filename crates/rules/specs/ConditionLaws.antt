@@ -1,10 +1,10 @@
 -- Each test of the rules holds exactly if its proposition in Grounds.antt does: bits, names, targets, the choice, requests.
 -- Assumes nothing.
-use Prim.Native.Nat.{ℕ, zero, suc, _+_, _-_, _*_, _/_, _%_, _≤_, _<_, min}
+use Prim.Native.Nat.{ℕ, zero, suc, _-_, _/_, _%_, _≤_, _<_, min}
 use mathlib.Core.Path.{_≡_, refl, sym, ap, ap₂, subst, subst⁻¹, _∙_}
-use mathlib.Core.List.{List, [], _∷_, _++_}
+use mathlib.Core.List.{List, [], _∷_}
 use mathlib.Core.Bool.{Bool, true, false, not, _||_, or-true, true≢false, false≢true}
-use mathlib.Core.Option.{Option, none, some}
+use mathlib.Core.Option.{some}
 use mathlib.Core.Logic.{_⊎_, inl, inr, _↔_}
 use native.Mathlib.Omega.{arith}
 use native.Mathlib.Nat.{min-le-left, zero-min}
@@ -13,18 +13,18 @@ use lib.Dec.{eqb, leb, ltb}
 use lib.Arith.{bin-ind}
 use lib.Bits.{bitAnd, and-step}
 use borrow.Author.Tests.{eq-eqb, eqb-true, eqb-false, le-leb, leb-true, lt-ltb, ltb-true}
-use Rattle.limits.specs.Limits.{maxUnits, maxNameBytes}
+use Rattle.limits.specs.Limits.{maxNameBytes}
 use Rattle.lists.specs.Lists as lists
-use Rattle.lists.specs.Lists.{All, Among}
+use Rattle.lists.specs.Lists.{Among}
 use Rattle.lists.specs.ListsLaws as choice
-use Rattle.lists.specs.ListsLaws.{all-among, among-all, all-map}
+use Rattle.lists.specs.ListsLaws.{all-among, among-all}
 use Rattle.slices.specs.Test.{_and_}
 use Rattle.slices.specs.TestLaws.{and-left, and-right, and-intro}
 use Rattle.slices.specs.Bytes.{Bytes, pairwise}
 use Rattle.slices.specs.BytesLaws.{same-eq, same-of}
-use Rattle.names.specs.Name.{Variable, units, noZero, isName, named, isHexDigit, unitMatches, numberSign}
+use Rattle.names.specs.Name.{Variable, units, noZero, isName, named, unitMatches, numberSign}
 use Rattle.names.specs.NameLaws.{units-length, units-at, hex-digits}
-use Rattle.entry.specs.Entry.{namespaceOf, nameIsEmpty, nameOf, targets, rank}
+use Rattle.entry.specs.Entry.{namespaceOf, nameOf, targets, rank}
 use Rattle.policy.specs.Choice.{chosen}
 use Rattle.store.specs.Record.{hasNV, hasBS, hasRT, hasAppend}
 use Rattle.rules.specs.Set.{Request, isEmpty, isDeletion, unsupportedBit, needsBS, isEmptyAppend}

@@ -1,18 +1,16 @@
 -- The computed answer and state afterwards, and the cases of Effects.antt, agree both ways. Assumes nothing.
-use Prim.Native.Nat.{ℕ, suc, _+_, _%_, _≤_, _<_}
+use Prim.Native.Nat.{ℕ, _+_}
 use mathlib.Core.Path.{_≡_, refl, sym, ap, ap₂, subst, subst⁻¹, _∙_}
 use mathlib.Core.List.{List, [], _∷_, _++_}
-use mathlib.Core.Bool.{Bool, true, false, not, cond, or-true, true≢false, false≢true}
+use mathlib.Core.Bool.{Bool, true, false, cond, true≢false}
 use mathlib.Core.Option.{Option, none, some}
-use mathlib.Core.Logic.{_⊎_, inl, inr, _↔_}
+use mathlib.Core.Logic.{_↔_}
 use native.Mathlib.Omega.{arith}
 use lib.ListN.{length, drop, replicate}
 use lib.Dec.{eqb, leb}
 use Rattle.limits.specs.Limits.{policyBytes}
-use Rattle.lists.specs.Lists.{Among}
-use Rattle.lists.specs.ListsLaws.{among-middle}
 use Rattle.slices.specs.Test.{_and_}
-use Rattle.slices.specs.TestLaws.{and-left, and-right, forced-off}
+use Rattle.slices.specs.TestLaws.{and-left}
 use Rattle.slices.specs.Bytes.{Bytes, overwrite, padded}
 use Rattle.slices.specs.OverwriteLaws.{overwrite-seam}
 use Rattle.slices.specs.Chunks.{flat, packed, remove, replaceOrAppend}
@@ -25,7 +23,7 @@ use Rattle.pair.specs.Pair.{sound, lookup}
 use Rattle.status.specs.declared.Status.{Status}
 use Rattle.status.specs.declared.Status.the-variants.{Success, InvalidParameter, Unsupported, BufferTooSmall, WriteProtected, OutOfResources, VolumeCorrupted, NotFound, AlreadyStarted}
 use Rattle.status.specs.Status.{isSuccess, statusNumber}
-use Rattle.store.specs.Record.{hasNV, attributesOf, payloadOf, isOf, sameVariable, recordOk}
+use Rattle.store.specs.Record.{hasNV, attributesOf, isOf, sameVariable, recordOk}
 use Rattle.store.specs.Store.{recordsOf, packStore, withoutVariable, hasRoom, withRecord}
 use Rattle.store.specs.StoreLaws as store
 use Rattle.store.specs.StoreLaws.{records-without, length-without, records-with, length-with}

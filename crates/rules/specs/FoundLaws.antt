@@ -1,24 +1,23 @@
 -- What a state holds, by the tests of the rules and by the propositions of Grounds.antt: soundness, the entries, a variable's record,
 -- and a store's records with one written. Assumes nothing.
-use Prim.Native.Nat.{ℕ}
 use mathlib.Core.Path.{_≡_, refl, sym, ap, ap₂, subst, subst⁻¹, _∙_}
 use mathlib.Core.List.{List, [], _∷_, _++_}
 use mathlib.Core.Bool.{Bool, true, false, _||_, cond, or-true, true≢false, false≢true}
 use mathlib.Core.Option.{Option, none, some}
-use mathlib.Core.Logic.{_⊎_, inl, inr, _↔_}
+use mathlib.Core.Logic.{inl, inr}
 use Rattle.lists.specs.Lists.{Among}
 use Rattle.lists.specs.ListsLaws.{among-middle}
 use Rattle.slices.specs.TestLaws.{and-left, and-right, and-intro, forced-off}
 use Rattle.slices.specs.Bytes.{Bytes}
 use Rattle.slices.specs.Chunks.{contains, distinct, find, remove, replace, replaceOrAppend}
-use Rattle.slices.specs.ChunksLaws.{All, nil, more}
-use Rattle.slices.specs.ItemsLaws.{contains-middle, contains-none, distinct-across, distinct-apart, distinct-left, distinct-right, find-takes, or-left-off, or-right-off, remove-none}
+use Rattle.slices.specs.ChunksLaws.{All, more}
+use Rattle.slices.specs.ItemsLaws.{contains-middle, contains-none, distinct-across, distinct-apart, find-takes, or-left-off, or-right-off, remove-none}
 use Rattle.names.specs.Name.{Variable}
 use Rattle.policy.specs.Policy.{entriesOf, policyValid}
 use Rattle.policy.specs.PolicyLaws as policy
 use Rattle.store.specs.Record.{isOf, sameVariable, variableOf}
 use Rattle.store.specs.VariableLaws.{isOf-self, isOf-variable, isOf-like}
-use Rattle.store.specs.Store.{recordsOf, storeOk, recordsWith}
+use Rattle.store.specs.Store.{recordsOf, storeOk}
 use Rattle.store.specs.StoreLaws as store
 use Rattle.pair.specs.Pair.{allRecords, sound, soundAlone, lookup}
 use Rattle.pair.specs.PairLaws.{sound-nv, sound-vol, sound-distinct, sound-of}

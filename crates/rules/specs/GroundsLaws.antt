@@ -1,13 +1,12 @@
 -- The computed status and the grounds of Grounds.antt agree, both ways, for every state and call. Assumes nothing.
-use Prim.Native.Nat.{ℕ, suc, _+_, _≤_, _<_}
+use Prim.Native.Nat.{ℕ, suc, _+_, _<_}
 use mathlib.Core.Path.{_≡_, refl, sym, ap, ap₂, subst, subst⁻¹, _∙_}
 use mathlib.Core.List.{List, [], _∷_}
-use mathlib.Core.Bool.{Bool, true, false, not, _||_, cond, or-true, true≢false, false≢true}
-use mathlib.Core.Option.{Option, none, some}
-use mathlib.Core.Logic.{_⊎_, inl, inr, _↔_}
+use mathlib.Core.Bool.{Bool, true, false, not, cond, true≢false, false≢true}
+use mathlib.Core.Logic.{inl, inr, _↔_}
 use native.Mathlib.Omega.{arith}
 use lib.ListN.{length}
-use lib.Dec.{eqb, leb, ltb}
+use lib.Dec.{eqb, leb, ltb, lit<}
 use borrow.Author.Tests.{not-true, not-false}
 use Rattle.limits.specs.Limits.{maxEntries, policyBytes, maxStore}
 use Rattle.lists.specs.Lists.{Among}
@@ -34,12 +33,12 @@ use Rattle.rules.specs.Grounds.{Entries, SoundStores, Applies, Answers, 
 use Rattle.rules.specs.Grounds.Applies.{powerOnStore, powerOnLength, powerOnRecord, powerOnDone, restartStores, restartRecord, restartDone}
 use Rattle.rules.specs.Grounds.Applies.{registerRecord, registerLocked, registerMalformed, registerRepeated, registerCount, registerSum, registerDone, dumpRecord, dumpShort, dumpDone}
 use Rattle.rules.specs.Grounds.Applies.{lockLocked, lockDone, disableDisabled, disableLocked, disableNotAllowed, disableDone, queryDone, readStores, readName, readAbsent, readDone}
-use Rattle.rules.specs.ConditionLaws.{Tells, tells-not, tells-eq, tells-le, tells-lt, tells-off, tells-named}
+use Rattle.rules.specs.ConditionLaws.{tells-not, tells-eq, tells-le, tells-more, tells-off, tells-named}
 use Rattle.rules.specs.FoundLaws.{tells-sound, tells-alone, tells-entries, tells-exists, among-contains, contains-among}
 use Rattle.rules.specs.Grounds.Applies.{setStores, setRecord, setName, setPayload, setBit, setRuntime, setAppend, setShort, setLong, setMissing, setProhibited, setLocked}
 use Rattle.rules.specs.Grounds.Applies.{setAbsent, setDeleted, setOther, setNothing, setJoined, setFullNV, setFullVol, setDone}
 use Rattle.rules.specs.SetGroundsLaws.{set-answers}
-use Rattle.rules.specs.OrderedLaws.{Row, row, firstOf, NoneBefore, Grounds, NoGrounds, first-answers}
+use Rattle.rules.specs.OrderedLaws.{Row, row, firstOf, NoneBefore, Grounds, last, _then_, NoGrounds, first-answers}
 
 -- ---- power-on and restart
 
@@ -58,16 +57,12 @@ module _ (s : State) (allowed : Bool) where
       ∷ row 0 (not (eqb (length (s .policy)) policyBytes)) VolumeCorrupted ∷ row 1 true Success ∷ []
 
   power-on-grounds : Grounds s (powerOn allowed) power-on-rows power-on-rows
-  power-on-grounds = (
-    (λ n t. powerOnStore (tells-not _ (tells-alone (s .nv)) .0 t)),
-    (
-      (λ n t. powerOnLength (let h = tells-not _ (tells-le (length (s .vol)) maxStore) .0 t in omega arith)),
-      (
-        (λ n t. powerOnRecord (tells-not _ (tells-eq (length (s .policy)) policyBytes) .0 t)),
-        ((λ n t. powerOnDone), tt),
-      ),
-    ),
-  )
+  power-on-grounds =
+      (λ n t. powerOnStore (tells-not _ (tells-alone (s .nv)) .0 t))
+      then (λ n t. powerOnLength (tells-more (length (s .vol)) maxStore .0 t))
+      then (λ n t. powerOnRecord (tells-not _ (tells-eq (length (s .policy)) policyBytes) .0 t))
+      then (λ n t. powerOnDone)
+      then last
 
   no-power-on : NoGrounds s (powerOn allowed) power-on-rows
   no-power-on p n k m l (powerOnStore h) = tells-off _ (tells-not _ (tells-alone (s .nv))) (n 0 l) h
@@ -91,10 +86,11 @@ module _ (s : State) (allowed : Bool) where
   restart-rows = row 0 (not (sound (s .nv) (s .vol))) VolumeCorrupted ∷ row 0 (not (eqb (length (s .policy)) policyBytes)) VolumeCorrupted ∷ row 1 true Success ∷ []
 
   restart-grounds : Grounds s (restart allowed) restart-rows restart-rows
-  restart-grounds = (
-    (λ n t. restartStores (tells-not _ (tells-sound (s .nv) (s .vol)) .0 t)),
-    ((λ n t. restartRecord (tells-not _ (tells-eq (length (s .policy)) policyBytes) .0 t)), ((λ n t. restartDone), tt)),
-  )
+  restart-grounds =
+      (λ n t. restartStores (tells-not _ (tells-sound (s .nv) (s .vol)) .0 t))
+      then (λ n t. restartRecord (tells-not _ (tells-eq (length (s .policy)) policyBytes) .0 t))
+      then (λ n t. restartDone)
+      then last
 
   no-restart : NoGrounds s (restart allowed) restart-rows
   no-restart p n k m l (restartStores h) = tells-off _ (tells-not _ (tells-sound (s .nv) (s .vol))) (n 0 l) h
@@ -143,32 +139,22 @@ module _ (s : State) (e : Bytes) where
     register-sum l = ap₂ _+_ (sizes-sum es (entriesOf-formed (s .policy))) (sym (sized e (register-formed l) .stated))
 
   register-grounds : Grounds s (register e) register-rows register-rows
-  register-grounds = (
-    (λ n t. registerRecord (λ x k. tells-not _ (tells-entries s) .0 t (x, k))),
-    (
-      (λ n t. registerLocked t),
-      (
-        (λ n t. registerMalformed (λ h. false≢true (sym (not-true _ t) ∙ h))),
-        (
-          (λ n t.
-              let w = contains-among (sameTarget e) es t in
-              let q = sameTarget-same e (w .0) (w .2) in
-              registerRepeated es (w .0) (register-listed 3 n (omega arith)) (w .1) (q .namespace) (q .name)),
-          (
-            (λ n t.
-                let h = tells-not _ (tells-le (suc (length es)) maxEntries) .0 t in
-                registerCount es (register-listed 4 n (omega arith)) (omega arith)),
-            (
-              (λ n t.
-                  let h = tells-not _ (tells-le (length (flat es) + length e) policyBytes) .0 t in
-                  registerSum {e = e} es (register-listed 4 n (omega arith)) (let q = register-sum 4 n (omega arith) in omega arith)),
-              ((λ n t. registerDone), tt),
-            ),
-          ),
-        ),
-      ),
-    ),
-  )
+  register-grounds =
+      (λ n t. registerRecord (λ x k. tells-not _ (tells-entries s) .0 t (x, k)))
+      then (λ n t. registerLocked t)
+      then (λ n t. registerMalformed (λ h. false≢true (sym (not-true _ t) ∙ h)))
+      then (λ n t.
+      let w = contains-among (sameTarget e) es t in
+      let q = sameTarget-same e (w .0) (w .2) in
+      registerRepeated es (w .0) (register-listed 3 n (lit< tt)) (w .1) (q .namespace) (q .name))
+      then (λ n t.
+      let h = tells-not _ (tells-le (suc (length es)) maxEntries) .0 t in
+      registerCount es (register-listed 4 n (lit< tt)) (omega arith))
+      then (λ n t.
+      let h = tells-not _ (tells-le (length (flat es) + length e) policyBytes) .0 t in
+      registerSum {e = e} es (register-listed 4 n (lit< tt)) (let q = register-sum 4 n (lit< tt) in omega arith))
+      then (λ n t. registerDone)
+      then last
 
   no-register : NoGrounds s (register e) register-rows
   no-register p n k m l (registerRecord h) = h es (register-listed p n l)
@@ -210,19 +196,20 @@ module _ (s : State) (buffer : Bytes) where
   dump-sum : length (flat listed) ≡ sumOfSizes listed
   dump-sum = sizes-sum listed (entriesOf-formed (s .policy))
 
+  dump-listed : (p : ℕ) → NoneBefore dump-rows p → 0 < p → Entries s listed
+  dump-listed p n l = policy.policy-entries (s .policy) (not-false _ (n 0 l))
+
   dump-grounds : Grounds s (dump buffer) dump-rows dump-rows
-  dump-grounds = (
-    (λ n t. dumpRecord (λ x k. tells-not _ (tells-entries s) .0 t (x, k))),
-    (
-      (λ n t.
-          let h = tells-not _ (tells-le (length (flat listed)) (length buffer)) .0 t in
-          dumpShort {buffer = buffer} listed (policy.policy-entries (s .policy) (not-false _ (n 0 (omega arith)))) (let q = dump-sum in omega arith)),
-      ((λ n t. dumpDone), tt),
-    ),
-  )
+  dump-grounds =
+      (λ n t. dumpRecord (λ x k. tells-not _ (tells-entries s) .0 t (x, k)))
+      then (λ n t.
+      let h = tells-not _ (tells-le (length (flat listed)) (length buffer)) .0 t in
+      dumpShort {buffer = buffer} listed (dump-listed 1 n (lit< tt)) (let q = dump-sum in omega arith))
+      then (λ n t. dumpDone)
+      then last
 
   no-dump : NoGrounds s (dump buffer) dump-rows
-  no-dump p n k m l (dumpRecord h) = h listed (policy.policy-entries (s .policy) (not-false _ (n 0 l)))
+  no-dump p n k m l (dumpRecord h) = h listed (dump-listed p n l)
   no-dump p n k m l (dumpShort xs w h) =
       let o = ap sumOfSizes (policy.packs-only xs (s .policy) w) in
       let q = dump-sum in
@@ -252,7 +239,7 @@ module _ (s : State) where
 
   lock-answers : Answers s lock (status s lock)
   unfolding _and_
-  lock-answers = first-answers s lock lock-rows refl refl refl ((λ n t. lockLocked t), ((λ n t. lockDone), tt)) no-lock
+  lock-answers = first-answers s lock lock-rows refl refl refl ((λ n t. lockLocked t) then (λ n t. lockDone) then last) no-lock
 
   abbrev disable-rows : List Row
   disable-rows =
@@ -260,10 +247,12 @@ module _ (s : State) where
       ∷ row 1 (not (s .switches .«disabling_allowed»)) WriteProtected ∷ row 2 true Success ∷ []
 
   disable-grounds : Grounds s disable disable-rows disable-rows
-  disable-grounds = (
-    (λ n t. disableDisabled (not-true _ t)),
-    ((λ n t. disableLocked t), ((λ n t. disableNotAllowed (not-true _ t)), ((λ n t. disableDone), tt))),
-  )
+  disable-grounds =
+      (λ n t. disableDisabled (not-true _ t))
+      then (λ n t. disableLocked t)
+      then (λ n t. disableNotAllowed (not-true _ t))
+      then (λ n t. disableDone)
+      then last
 
   no-disable : NoGrounds s disable disable-rows
   no-disable p n k m l (disableDisabled h) = true≢false (sym (not-false _ (n 0 l)) ∙ h)
@@ -281,7 +270,7 @@ module _ (s : State) where
 
   query-answers : Answers s query (status s query)
   unfolding _and_
-  query-answers = first-answers s query (row 0 true Success ∷ []) refl refl refl ((λ n t. queryDone), tt) no-query
+  query-answers = first-answers s query (row 0 true Success ∷ []) refl refl refl ((λ n t. queryDone) then last) no-query
 
 -- ---- read
 
@@ -302,16 +291,12 @@ module _ (s : State) (v : Variable) where
   read-sound p n l = tells-sound (s .nv) (s .vol) .0 (not-false _ (n 0 l))
 
   read-grounds : Grounds s (read v) read-rows read-rows
-  read-grounds = (
-    (λ n t. readStores (tells-not _ (tells-sound (s .nv) (s .vol)) .0 t)),
-    (
-      (λ n t. readName (tells-not _ (tells-named v) .0 t)),
-      (
-        (λ n t. let k = read-sound 2 n (omega arith) in readAbsent (λ r f. tells-not _ (tells-exists s v k) .0 t (r, f))),
-        ((λ n t. readDone), tt),
-      ),
-    ),
-  )
+  read-grounds =
+      (λ n t. readStores (tells-not _ (tells-sound (s .nv) (s .vol)) .0 t))
+      then (λ n t. readName (tells-not _ (tells-named v) .0 t))
+      then (λ n t. let k = read-sound 2 n (lit< tt) in readAbsent (λ r f. tells-not _ (tells-exists s v k) .0 t (r, f)))
+      then (λ n t. readDone)
+      then last
 
   no-read : NoGrounds s (read v) read-rows
   no-read p n k m l (readStores h) = h (read-sound p n l)

@@ -1,8 +1,8 @@
 -- From a list of tests in their order to the first ground that applies: what the proofs for the calls share. Assumes nothing.
 use Prim.Native.Nat.{ℕ, zero, suc, _≤_, _<_}
-use mathlib.Core.Path.{_≡_, refl, sym, subst, subst⁻¹, _∙_}
+use mathlib.Core.Path.{_≡_, refl, sym, subst, _∙_}
 use mathlib.Core.List.{List, [], _∷_}
-use mathlib.Core.Bool.{Bool, true, false, _||_, cond, or-true, true≢false, false≢true}
+use mathlib.Core.Bool.{Bool, true, false, _||_, cond, or-true, false≢true}
 use native.Mathlib.Omega.{arith}
 use lib.ListN.{getD}
 use lib.Dec.{leb}
@@ -89,22 +89,25 @@ hit low (r ∷ rows) o t = go (r .test) refl t (hit (r .place) rows above)
         later k zero l = e
         later k (suc i) l = k .none i l
 
-module _ (s : State) (c : Call) (rows : List Row) where
-  -- a test that holds, none before it, is its ground
-  abbrev pub Grounds : List Row → Type 0
-  Grounds [] = Unit
-  Grounds (r ∷ rest) = (NoneBefore rows (r .place) → r .test ≡ true → Applies s c (r .place) (r .gives)) × Grounds rest
+-- a test that holds, none before it, is its ground: of each test of a call
+infixr 20 _then_
+pub data Grounds (s : State) (c : Call) (rows : List Row) : List Row → Type 0 where
+  last : Grounds s c rows []
+  _then_ : {r : Row} {rest : List Row} → (NoneBefore rows (r .place) → r .test ≡ true → Applies s c (r .place) (r .gives)) → Grounds s c rows rest
+      → Grounds s c rows (r ∷ rest)
 
-  ground-at : (rest : List Row) → Grounds rest → (i : ℕ) → NoneBefore rows (at rest i .place) → at rest i .test ≡ true → Applies s c (at rest i .place) (at rest i .gives)
-  ground-at [] g i n t = absurd (false≢true t)
-  ground-at (r ∷ rest) g zero n t = g .0 n t
-  ground-at (r ∷ rest) g (suc i) n t = ground-at rest (g .1) i n t
+module _ (s : State) (c : Call) (rows : List Row) where
+  ground-at : (rest : List Row) → Grounds s c rows rest → (i : ℕ) → NoneBefore rows (at rest i .place) → at rest i .test ≡ true
+      → Applies s c (at rest i .place) (at rest i .gives)
+  ground-at rest last i n t = absurd (false≢true t)
+  ground-at rest (g then h) zero n t = g n t
+  ground-at rest (_then_ {rest = more} g h) (suc i) n t = ground-at more h i n t
 
   -- where every test before p fails, no ground before p applies
   abbrev pub NoGrounds : Type 0
   NoGrounds = (p : ℕ) → NoneBefore rows p → (k : ℕ) (m : Status) → k < p → Applies s c k m → ⊥
 
-  pub first-answers : ordered 0 rows ≡ true → lastHolds rows ≡ true → status s c ≡ firstOf rows → Grounds rows → NoGrounds → Answers s c (status s c)
+  pub first-answers : ordered 0 rows ≡ true → lastHolds rows ≡ true → status s c ≡ firstOf rows → Grounds s c rows rows → NoGrounds → Answers s c (status s c)
   first-answers o t e g n =
       let h = hit 0 rows o (last-some rows t) in
       record {

@@ -1,22 +1,19 @@
 -- The computed status of a set and its grounds agree. Assumes nothing.
-use Prim.Native.Nat.{ℕ, suc, _+_, _*_, _%_, _/_, _≤_, _<_}
-use mathlib.Core.Path.{_≡_, refl, sym, ap, ap₂, subst, subst⁻¹, _∙_}
+use Prim.Native.Nat.{ℕ, _+_, _*_, _%_, _/_, _≤_, _<_}
+use mathlib.Core.Path.{_≡_, refl, sym, ap, subst, subst⁻¹, _∙_}
 use mathlib.Core.List.{List, [], _∷_, _++_}
-use mathlib.Core.Bool.{Bool, true, false, not, _||_, cond, or-true, true≢false, false≢true}
+use mathlib.Core.Bool.{Bool, true, false, not, _||_, cond, true≢false, false≢true}
 use mathlib.Core.Option.{Option, none, some}
 use mathlib.Core.Logic.{_⊎_, inl, inr, _↔_}
 use native.Mathlib.Omega.{arith}
 use lib.ListN.{length, length-append}
-use lib.Dec.{eqb, leb, ltb}
+use lib.Dec.{eqb, ltb, lit<}
 use lib.Arith.{mod-mul}
-use lib.Bits.{bitAnd}
 use native.Mathlib.Nat.{mod-eq-of-lt}
-use borrow.Author.Tests.{not-true, not-false, eqb-true, eq-eqb, leb-true, le-leb, lt-ltb, ltb-true}
+use borrow.Author.Tests.{not-true, not-false, eqb-true, leb-true, lt-ltb, ltb-true}
 use Rattle.limits.specs.Limits.{maxPayload}
-use Rattle.lists.specs.Lists.{Among}
 use Rattle.slices.specs.Test.{_and_}
-use Rattle.slices.specs.TestLaws.{and-left, and-right, and-intro, and-no, and-off, forced-off}
-use Rattle.slices.specs.Bytes.{Bytes, same}
+use Rattle.slices.specs.Bytes.{Bytes}
 use Rattle.slices.specs.Chunks.{flat, distinct, replaceOrAppend}
 use Rattle.slices.specs.ItemsLaws.{all-append, all-map, distinct-left, distinct-right}
 use Rattle.names.specs.Name.{Variable, named}
@@ -27,21 +24,21 @@ use Rattle.policy.specs.Choice.{chosen}
 use Rattle.store.specs.Record.{hasNV, hasAppend, attributesOf, payloadOf, recordOk, isOf, sameVariable, encodeRecord}
 use Rattle.store.specs.EncodeLaws.{attributesOk-small}
 use Rattle.store.specs.AttributeLaws.{record-attributes}
-use Rattle.store.specs.Store.{recordsOf, recordsWith, hasRoom}
+use Rattle.store.specs.Store.{recordsOf, hasRoom}
 use Rattle.pair.specs.Pair.{sound, lookup}
 use Rattle.status.specs.declared.Status.{Status}
 use Rattle.status.specs.declared.Status.the-variants.{Success, InvalidParameter, Unsupported, WriteProtected, OutOfResources, VolumeCorrupted, NotFound}
 use Rattle.rules.specs.declared.Ground.{Ground}
 use Rattle.rules.specs.declared.Ground.the-variants.{NoGround, SizeGround, AttributeGround, LockGround}
 use Rattle.rules.specs.Set.{Request, Lookup, orElse, orGround, exists, badRequest, unsupportedBit, needsBS, requestStatus, holdsValue, locks, isDeletion, sizeAllowed, attributesAllowed, requestGround, groundOf, groundBy, groundStatus, otherAttributes, isEmptyAppend, payloadAfter, recordAfter, storeOf, writeStatus, setStatus}
-use Rattle.rules.specs.Engine.{State, Call, speaking, setStatusBy, status}
+use Rattle.rules.specs.Engine.{State, speaking, setStatusBy, status}
 use Rattle.rules.specs.Engine.Call.{set}
-use Rattle.rules.specs.Grounds.{Not, Bit, NV, BS, RT, Append, Entries, Records, SoundStores, Found, Absent, Locks, Deletion, SameKind, Enforced, PayloadAfter, Storing, Applies, Answers}
+use Rattle.rules.specs.Grounds.{Not, Bit, BS, RT, Append, Entries, SoundStores, Found, Locks, Deletion, SameKind, Enforced, PayloadAfter, Storing, Applies, Answers}
 use Rattle.rules.specs.Grounds.Applies.{setStores, setRecord, setName, setPayload, setBit, setRuntime, setAppend, setShort, setLong, setMissing, setProhibited, setLocked}
 use Rattle.rules.specs.Grounds.Applies.{setAbsent, setDeleted, setOther, setNothing, setJoined, setFullNV, setFullVol, setDone}
-use Rattle.rules.specs.ConditionLaws.{Tells, tells-not, tells-and, tells-nand, tells-eq, tells-le, tells-lt, tells-more, tells-same, tells-off, off-tells, tells-missing, tells-prohibited, tells-unsupported, tells-nv, tells-bs, tells-rt, tells-append, tells-deletion, tells-nothing, tells-needs-bs, tells-named, chosen-speaks, speaks-chosen}
+use Rattle.rules.specs.ConditionLaws.{Tells, tells-not, tells-and, tells-nand, tells-eq, tells-le, tells-lt, tells-more, tells-same, tells-off, off-tells, tells-missing, tells-prohibited, tells-unsupported, tells-nv, tells-append, tells-deletion, tells-nothing, tells-needs-bs, tells-named, chosen-speaks, speaks-chosen}
 use Rattle.rules.specs.FoundLaws.{none-some, slices-among, tells-sound, tells-entries, tells-exists, first-records, second-records, found-lookup, lookup-found, lookup-absent, with-put, put-with}
-use Rattle.rules.specs.OrderedLaws.{Row, row, firstOf, NoneBefore, Grounds, NoGrounds, first-answers}
+use Rattle.rules.specs.OrderedLaws.{Row, row, firstOf, NoneBefore, Grounds, last, _then_, NoGrounds, first-answers}
 
 -- ---- the tests in their order
 
@@ -459,64 +456,36 @@ module _ (s : State) (r : Request) where
           (full s r k false (s .vol) (k .inVol) (second-records (k .records)) h)
 
   set-grounds : Grounds s (set r) set-rows set-rows
-  set-grounds = (
-    (λ n t. setStores (tells-not _ (tells-sound (s .nv) (s .vol)) .0 t)),
-    (
-      (λ n t. setRecord (λ x k. tells-not _ (tells-entries s) .0 t (x, k))),
-      (
-        (λ n t. setName (tells-not _ (tells-named (r .variable)) .0 t)),
-        (
-          (λ n t. setPayload (ltb-true maxPayload (length (r .payload)) t)),
-          (
-            (λ n t. let w = tells-unsupported (r .attributes) .0 t in setBit (w .0) (w .1) (w .2)),
-            (
-              (λ n t. needs-ground (tells-needs-bs (r .attributes) .0 t)),
-              (
-                (λ n t.
-                    let w = asked isSize refl t in
-                    let q = size-says _ (spoken-of (w .0)) (w .2) in
-                    size-ground (w .0) (entry-enforced (set-listed 41 n (omega arith)) (w .0) (w .1)) (tells-off _ (tells-deletion r) (q .0)) (tells-size (w .0) (length (r .payload)) .0 (ap not (q .1)))),
-                (
-                  (λ n t.
-                      let w = asked isAttribute refl t in
-                      let q = attribute-says _ (spoken-of (w .0)) (w .2) in
-                      attribute-ground (w .0) (entry-enforced (set-listed 42 n (omega arith)) (w .0) (w .1)) (tells-off _ (tells-deletion r) (q .0)) (tells-attributes (w .0) (r .attributes) .0 (ap not (q .1)))),
-                  (
-                    (λ n t.
-                        let w = asked isLock refl t in
-                        let q = lock-says _ (spoken-of (w .0)) (w .2) in
-                        setLocked (w .0) (entry-enforced (set-listed 43 n (omega arith)) (w .0) (w .1)) (tells-locks s (set-stores 43 n (omega arith)) (w .0) (r .variable) .0 q)),
-                    (
-                      (λ n t.
-                          let k = set-stores 51 n (omega arith) in
-                          let w = tells-and _ _ (tells-deletion r) (tells-not _ (tells-exists s (r .variable) k)) .0 t in
-                          setAbsent (w .0) (λ q f. w .1 (q, f))),
-                      (
-                        (λ n t. setDeleted (tells-deletion r .0 t)),
-                        (
-                          (λ n t. let w = tells-other s r (set-stores 60 n (omega arith)) .0 t in setOther (w .0) (w .1) (w .2)),
-                          (
-                            (λ n t. setNothing (tells-nothing r .0 t)),
-                            (
-                              (λ n t. let w = tells-joined s r (set-stores 80 n (omega arith)) (set-short 80 n (omega arith)) .0 t in setJoined (w .0) (w .1) (w .2) (w .3)),
-                              (
-                                (λ n t. room-ground (set-stores 90 n (omega arith)) (not-true _ t)),
-                                ((λ n t. setDone), tt),
-                              ),
-                            ),
-                          ),
-                        ),
-                      ),
-                    ),
-                  ),
-                ),
-              ),
-            ),
-          ),
-        ),
-      ),
-    ),
-  )
+  set-grounds =
+      (λ n t. setStores (tells-not _ (tells-sound (s .nv) (s .vol)) .0 t))
+      then (λ n t. setRecord (λ x k. tells-not _ (tells-entries s) .0 t (x, k)))
+      then (λ n t. setName (tells-not _ (tells-named (r .variable)) .0 t))
+      then (λ n t. setPayload (ltb-true maxPayload (length (r .payload)) t))
+      then (λ n t. let w = tells-unsupported (r .attributes) .0 t in setBit (w .0) (w .1) (w .2))
+      then (λ n t. needs-ground (tells-needs-bs (r .attributes) .0 t))
+      then (λ n t.
+      let w = asked isSize refl t in
+      let q = size-says _ (spoken-of (w .0)) (w .2) in
+      size-ground (w .0) (entry-enforced (set-listed 41 n (lit< tt)) (w .0) (w .1)) (tells-off _ (tells-deletion r) (q .0)) (tells-size (w .0) (length (r .payload)) .0 (ap not (q .1))))
+      then (λ n t.
+      let w = asked isAttribute refl t in
+      let q = attribute-says _ (spoken-of (w .0)) (w .2) in
+      attribute-ground (w .0) (entry-enforced (set-listed 42 n (lit< tt)) (w .0) (w .1)) (tells-off _ (tells-deletion r) (q .0)) (tells-attributes (w .0) (r .attributes) .0 (ap not (q .1))))
+      then (λ n t.
+      let w = asked isLock refl t in
+      let q = lock-says _ (spoken-of (w .0)) (w .2) in
+      setLocked (w .0) (entry-enforced (set-listed 43 n (lit< tt)) (w .0) (w .1)) (tells-locks s (set-stores 43 n (lit< tt)) (w .0) (r .variable) .0 q))
+      then (λ n t.
+      let k = set-stores 51 n (lit< tt) in
+      let w = tells-and _ _ (tells-deletion r) (tells-not _ (tells-exists s (r .variable) k)) .0 t in
+      setAbsent (w .0) (λ q f. w .1 (q, f)))
+      then (λ n t. setDeleted (tells-deletion r .0 t))
+      then (λ n t. let w = tells-other s r (set-stores 60 n (lit< tt)) .0 t in setOther (w .0) (w .1) (w .2))
+      then (λ n t. setNothing (tells-nothing r .0 t))
+      then (λ n t. let w = tells-joined s r (set-stores 80 n (lit< tt)) (set-short 80 n (lit< tt)) .0 t in setJoined (w .0) (w .1) (w .2) (w .3))
+      then (λ n t. room-ground (set-stores 90 n (lit< tt)) (not-true _ t))
+      then (λ n t. setDone)
+      then last
 
   no-set : NoGrounds s (set r) set-rows
   no-set p n k m l (setStores h) = h (set-stores p n l)
