@@ -19,6 +19,7 @@ use Rattle.entry.specs.Entry.{
   attributesCantHave,
   lockPolicyType,
   nameOf,
+  triggerOf,
   triggerValue,
 }
 
@@ -87,7 +88,7 @@ pub record InRange (f : Fields) : Type 0 where
 unfoldable pub lockFields : Bytes → Lock
 lockFields e =
     cond (leb (lockPolicyType e) 2) (plain (lockPolicyType e))
-    (onVarState (part 44 60 e) (triggerValue e) (getD e 61 0) (part 62 (offsetToName e - 2) e))
+    (onVarState (triggerOf e .namespace) (triggerValue e) (getD e 61 0) (triggerOf e .name))
 
 unfoldable pub fieldsOf : Bytes → Fields
 fieldsOf e =

@@ -20,7 +20,7 @@ use Rattle.slices.specs.PartLaws.{drop-step, drop-take, part-take, part-rest, p
 use Rattle.slices.specs.NumberLaws.{le16-drop, le32-drop, le16-bytes, le32-bytes, bytes-le16, bytes-le32}
 use Rattle.names.specs.Name.{isName, isTerminated}
 use Rattle.names.specs.NameLaws.{isName-length, isTerminated-length, isTerminated-zeros, name-terminated}
-use Rattle.entry.specs.Entry.{version, sizeField, offsetToName, namespaceOf, minSize, maxSize, attributesMustHave, attributesCantHave, lockPolicyType, headerOk, lockOk, nameOk, nameIsEmpty, wellFormed, nameOf, triggerValue}
+use Rattle.entry.specs.Entry.{version, sizeField, offsetToName, namespaceOf, minSize, maxSize, attributesMustHave, attributesCantHave, lockPolicyType, headerOk, lockOk, nameOk, nameIsEmpty, wellFormed, nameOf, triggerOf, triggerValue}
 use Rattle.entry.specs.EntryLaws.{
   sized,
   nameOf-name,
@@ -119,7 +119,7 @@ module _ (e : Bytes) (w : wellFormed e ≡ true) where
   plain-offset q = eqb-true (offsetToName e) 44 (rw q at (lock e w))
 
   lock-type : typeOf (lockFields e) ≡ lockPolicyType e
-  unfolding lockFields
+  unfolding lockFields triggerOf
   lock-type = go (leb (lockPolicyType e) 2) refl
     where
       go : (t : Bool) → leb (lockPolicyType e) 2 ≡ t
@@ -128,7 +128,7 @@ module _ (e : Bytes) (w : wellFormed e ≡ true) where
       go false q = sym (type-3 e w q)
 
   lock-part : lockBytes (lockFields e) ≡ part 44 (offsetToName e) e
-  unfolding lockFields
+  unfolding lockFields triggerOf
   lock-part = go (leb (lockPolicyType e) 2) refl
     where
       go : (t : Bool) → leb (lockPolicyType e) 2 ≡ t
@@ -137,7 +137,7 @@ module _ (e : Bytes) (w : wellFormed e ≡ true) where
       go false q = trigger-bytes e w q
 
   lock-range : LockInRange (lockFields e)
-  unfolding lockFields
+  unfolding lockFields triggerOf
   lock-range = go (leb (lockPolicyType e) 2) refl
     where
       go : (t : Bool) → leb (lockPolicyType e) 2 ≡ t
@@ -314,7 +314,7 @@ module _ (f : Fields) (r : InRange f) where
       rw (le-leb (lockPolicyType (encodeEntry f)) 2 (omega arith)) (eq-eqb (offsetToName (encodeEntry f)) 44 o)
 
   plain-fields : (k : ℕ) → f .lock ≡ plain k → k ≤ 2 → lockFields (encodeEntry f) ≡ plain k
-  unfolding lockFields
+  unfolding lockFields triggerOf
   plain-fields k q h =
       let t : lockPolicyType (encodeEntry f) ≡ k = get-type ∙ ap typeOf q in
       rw (le-leb (lockPolicyType (encodeEntry f)) 2 (omega arith)) (ap plain t)
@@ -361,7 +361,7 @@ module _ (f : Fields) (r : InRange f) where
         ∙ drop-at n (v ∷ c ∷ ((m ++ (0 ∷ 0 ∷ [])) ++ terminated (f .name))) 16 l
 
     trigger-fields : lockFields (encodeEntry f) ≡ onVarState n v c m
-    unfolding lockFields
+    unfolding lockFields triggerOf
     trigger-fields =
         let t : lockPolicyType (encodeEntry f) ≡ 3 = get-type ∙ ap typeOf q in
         let a : part 44 60 (encodeEntry f) ≡ n = ap (take 16) drop-trigger ∙ take-at n (v ∷ c ∷ ((m ++ (0 ∷ 0 ∷ [])) ++ terminated (f .name))) 16 l in

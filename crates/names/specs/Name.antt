@@ -46,6 +46,13 @@ numberSign = 0x23
 unfoldable pub isHexDigit : ℕ → Bool
 isHexDigit u = leb 0x30 u and leb u 0x39 || (leb 0x41 u and leb u 0x46 || leb 0x61 u and leb u 0x66)
 
+-- the same as a list: these 22 and no others (NameLaws.antt)
+abbrev pub hexDigits : List ℕ
+hexDigits =
+    0x30 ∷ 0x31 ∷ 0x32 ∷ 0x33 ∷ 0x34 ∷ 0x35 ∷ 0x36 ∷ 0x37 ∷ 0x38 ∷ 0x39
+    ∷ 0x41 ∷ 0x42 ∷ 0x43 ∷ 0x44 ∷ 0x45 ∷ 0x46
+    ∷ 0x61 ∷ 0x62 ∷ 0x63 ∷ 0x64 ∷ 0x65 ∷ 0x66 ∷ []
+
 -- one unit of an entry's name against one of a variable's: equal, or '#' over a hex digit
 unfoldable pub unitMatches : ℕ → ℕ → Bool
 unitMatches p u = eqb p u || eqb p numberSign and isHexDigit u

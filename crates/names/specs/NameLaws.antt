@@ -19,7 +19,7 @@ use Rattle.slices.specs.TestLaws.{and-left, and-right, and-intro, and-assoc, an
 use Rattle.slices.specs.Bytes.{Bytes, le16, pairwise}
 use Rattle.slices.specs.BytesLaws.{pairwise-refl, pairwise-hit, same-eq}
 use Rattle.slices.specs.PartLaws.{drop-step, getD-middle}
-use Rattle.names.specs.Name.{units, noZero, isName, isTerminated, Variable, named, isHexDigit, unitMatches, wildcards, numberSign, oneIf}
+use Rattle.names.specs.Name.{units, noZero, isName, isTerminated, Variable, named, hexDigits, isHexDigit, unitMatches, wildcards, numberSign, oneIf}
 
 pub units-length : (s : Bytes) → length (units s) ≡ length s / 2
 unfolding units
@@ -174,13 +174,6 @@ unfolding unitMatches
 matches-refl = pairwise-refl unitMatches (λ u. unitMatches-same u u refl)
 
 -- ---- which units are hex digits
-
--- the 22 of them: 0-9, A-F, a-f
-abbrev pub hexDigits : List ℕ
-hexDigits =
-    0x30 ∷ 0x31 ∷ 0x32 ∷ 0x33 ∷ 0x34 ∷ 0x35 ∷ 0x36 ∷ 0x37 ∷ 0x38 ∷ 0x39
-    ∷ 0x41 ∷ 0x42 ∷ 0x43 ∷ 0x44 ∷ 0x45 ∷ 0x46
-    ∷ 0x61 ∷ 0x62 ∷ 0x63 ∷ 0x64 ∷ 0x65 ∷ 0x66 ∷ []
 
 -- n numbers from a on
 abbrev run : ℕ → ℕ → List ℕ

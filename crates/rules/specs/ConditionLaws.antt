@@ -1,9 +1,9 @@
 -- Each test of the rules holds exactly if its proposition in Grounds.antt does: bits, names, targets, the choice, requests.
 -- Assumes nothing.
-use Prim.Native.Nat.{ℕ, zero, suc, _-_, _/_, _%_, _≤_, _<_, min}
+use Prim.Native.Nat.{ℕ, zero, suc, _+_, _-_, _/_, _%_, _≤_, _<_, min}
 use mathlib.Core.Path.{_≡_, refl, sym, ap, ap₂, subst, subst⁻¹, _∙_}
 use mathlib.Core.List.{List, [], _∷_}
-use mathlib.Core.Bool.{Bool, true, false, not, _||_, or-true, true≢false, false≢true}
+use mathlib.Core.Bool.{Bool, true, false, not, _||_, cond, or-true, true≢false, false≢true}
 use mathlib.Core.Option.{some}
 use mathlib.Core.Logic.{_⊎_, inl, inr, _↔_}
 use native.Mathlib.Omega.{arith}
@@ -13,7 +13,7 @@ use lib.Dec.{eqb, leb, ltb}
 use lib.Arith.{bin-ind}
 use lib.Bits.{bitAnd, and-step}
 use borrow.Author.Tests.{eq-eqb, eqb-true, eqb-false, le-leb, leb-true, lt-ltb, ltb-true}
-use Rattle.limits.specs.Limits.{maxNameBytes}
+use Rattle.limits.specs.Limits.{maxNameBytes, wholeNamespaceRank}
 use Rattle.lists.specs.Lists as lists
 use Rattle.lists.specs.Lists.{Among}
 use Rattle.lists.specs.ListsLaws as choice
@@ -22,13 +22,13 @@ use Rattle.slices.specs.Test.{_and_}
 use Rattle.slices.specs.TestLaws.{and-left, and-right, and-intro}
 use Rattle.slices.specs.Bytes.{Bytes, pairwise}
 use Rattle.slices.specs.BytesLaws.{same-eq, same-of}
-use Rattle.names.specs.Name.{Variable, units, noZero, isName, named, unitMatches, numberSign}
+use Rattle.names.specs.Name.{Variable, units, noZero, isName, named, unitMatches, numberSign, wildcards, oneIf}
 use Rattle.names.specs.NameLaws.{units-length, units-at, hex-digits}
-use Rattle.entry.specs.Entry.{namespaceOf, nameOf, targets, rank}
+use Rattle.entry.specs.Entry.{namespaceOf, nameIsEmpty, nameOf, targets, rank}
 use Rattle.policy.specs.Choice.{chosen}
 use Rattle.store.specs.Record.{hasNV, hasBS, hasRT, hasAppend}
 use Rattle.rules.specs.Set.{Request, isEmpty, isDeletion, unsupportedBit, needsBS, isEmptyAppend}
-use Rattle.rules.specs.Grounds.{Not, Bit, NV, BS, RT, Append, knownBits, Name, Named, UnitMatches, Matches, Targets, Speaks, Deletion, EmptyAppend}
+use Rattle.rules.specs.Grounds.{Not, Bit, NV, BS, RT, Append, knownBits, Name, Named, UnitMatches, Matches, Targets, Signs, Ranks, IsChosen, Deletion, EmptyAppend}
 
 -- ---- a test and its proposition
 
@@ -302,28 +302,74 @@ tells-targets e v =
     tells-and _ _ (tells-same (namespaceOf e) (v .namespace))
     (tells-or _ _ (tells-eq _ _) (tells-matches (units (nameOf e)) (units (v .name))))
 
--- the chosen entry is the one that speaks
-pub chosen-speaks : (es : List Bytes) (v : Variable) (e : Bytes) → chosen es v ≡ some e → Speaks es v e
+-- the number of '#', and the rank
+wildcards-signs : (us : List ℕ) → Signs us (wildcards us)
+unfolding wildcards
+wildcards-signs [] = Signs.none
+wildcards-signs (u ∷ us) = go (eqb u numberSign) refl (wildcards-signs us)
+  where
+    go : (b : Bool) → eqb u numberSign ≡ b → Signs us (wildcards us) → Signs (u ∷ us) (oneIf b + wildcards us)
+    go true e h = subst (λ k. Signs (u ∷ us) k) one (subst⁻¹ (λ x. Signs (x ∷ us) (suc (wildcards us))) (eqb-true u numberSign e) (Signs.sign h))
+      where
+        one : suc (wildcards us) ≡ 1 + wildcards us
+        one = omega arith
+    go false e h = subst (λ k. Signs (u ∷ us) k) none (Signs.other (tells-off _ (tells-eq u numberSign) e) h)
+      where
+        none : wildcards us ≡ 0 + wildcards us
+        none = omega arith
+
+signs-one : (us : List ℕ) (m n : ℕ) → Signs us m → Signs us n → m ≡ n
+signs-one us m n Signs.none Signs.none = refl
+signs-one us m n (Signs.sign {us = vs} {n = x} h) (Signs.sign {n = y} k) = ap suc (signs-one vs x y h k)
+signs-one us m n (Signs.sign h) (Signs.other e k) = absurd (e refl)
+signs-one us m n (Signs.other e h) (Signs.sign k) = absurd (e refl)
+signs-one us m n (Signs.other {us = vs} {n = x} e h) (Signs.other {n = y} f k) = signs-one vs x y h k
+
+rank-ranks : (e : Bytes) → Ranks e (rank e)
+unfolding rank
+rank-ranks e = go (nameIsEmpty e) refl
+  where
+    go : (b : Bool) → nameIsEmpty e ≡ b → Ranks e (cond b wholeNamespaceRank (wildcards (units (nameOf e))))
+    go true h = Ranks.whole (eqb-true _ _ h)
+    go false h = Ranks.named (tells-off _ (tells-eq _ _) h) (wildcards-signs (units (nameOf e)))
+
+pub tells-rank : (e : Bytes) (n : ℕ) → (rank e ≡ n) ↔ Ranks e n
+tells-rank e n = ((λ h. subst (Ranks e) h (rank-ranks e)), one (rank e) n (rank-ranks e))
+  where
+    one : (m n : ℕ) → Ranks e m → Ranks e n → m ≡ n
+    one m n (Ranks.whole h) (Ranks.whole k) = refl
+    one m n (Ranks.whole h) (Ranks.named k s) = absurd (k h)
+    one m n (Ranks.named h s) (Ranks.whole k) = absurd (h k)
+    one m n (Ranks.named {n = x} h s) (Ranks.named {n = y} k t) = signs-one (units (nameOf e)) x y s t
+
+-- the chosen entry
+pub chosen-is : (es : List Bytes) (v : Variable) (e : Bytes) → chosen es v ≡ some e → IsChosen es v e
 unfolding chosen
-chosen-speaks es v e h =
+chosen-is es v e h =
     let c = choice.chosen-some rank (λ f. targets f v) es e h in
     record {
       before = c .before;
       after = c .after;
       place = c .place;
       target = tells-targets e v .0 (c .target);
-      lowest = λ f k t. all-among _ es (c .lowest) f k (tells-targets f v .1 t);
-      first = λ f k t. all-among _ (c .before) (c .first) f k (tells-targets f v .1 t);
+      lowest = λ f m n k t x y.
+          let p = tells-rank e m .1 x in
+          let q = tells-rank f n .1 y in
+          let l = all-among _ es (c .lowest) f k (tells-targets f v .1 t) in omega arith;
+      first = λ f m n k t x y.
+          let p = tells-rank e m .1 x in
+          let q = tells-rank f n .1 y in
+          let l = all-among _ (c .before) (c .first) f k (tells-targets f v .1 t) in omega arith;
     }
 
-pub speaks-chosen : (es : List Bytes) (v : Variable) (e : Bytes) → Speaks es v e → chosen es v ≡ some e
+pub is-chosen : (es : List Bytes) (v : Variable) (e : Bytes) → IsChosen es v e → chosen es v ≡ some e
 unfolding chosen
-speaks-chosen es v e c =
+is-chosen es v e c =
     choice.some-chosen rank (λ f. targets f v) es e (record {
       before = c .before;
       after = c .after;
       place = c .place;
       target = tells-targets e v .1 (c .target);
-      lowest = among-all _ es (λ f k t. c .lowest f k (tells-targets f v .0 t));
-      first = among-all _ (c .before) (λ f k t. c .first f k (tells-targets f v .0 t));
+      lowest = among-all _ es (λ f k t. c .lowest f (rank e) (rank f) k (tells-targets f v .0 t) (rank-ranks e) (rank-ranks f));
+      first = among-all _ (c .before) (λ f k t. c .first f (rank e) (rank f) k (tells-targets f v .0 t) (rank-ranks e) (rank-ranks f));
     })

@@ -14,7 +14,6 @@ use Rattle.slices.specs.TestLaws.{and-left}
 use Rattle.slices.specs.Bytes.{Bytes, overwrite, padded}
 use Rattle.slices.specs.OverwriteLaws.{overwrite-seam}
 use Rattle.slices.specs.Chunks.{flat, packed, remove, replaceOrAppend}
-use Rattle.slices.specs.ItemsLaws.{distinct-left, distinct-right}
 use Rattle.names.specs.Name.{Variable, named}
 use Rattle.policy.specs.Policy.{entriesOf, packPolicy, emptyPolicy, policyValid}
 use Rattle.policy.specs.PolicyLaws as policy
@@ -23,7 +22,7 @@ use Rattle.pair.specs.Pair.{sound, lookup}
 use Rattle.status.specs.declared.Status.{Status}
 use Rattle.status.specs.declared.Status.the-variants.{Success, InvalidParameter, Unsupported, BufferTooSmall, WriteProtected, OutOfResources, VolumeCorrupted, NotFound, AlreadyStarted}
 use Rattle.status.specs.Status.{isSuccess, statusNumber}
-use Rattle.store.specs.Record.{hasNV, attributesOf, isOf, sameVariable, recordOk}
+use Rattle.store.specs.Record.{hasNV, attributesOf, isOf, recordOk}
 use Rattle.store.specs.Store.{recordsOf, packStore, withoutVariable, hasRoom, withRecord}
 use Rattle.store.specs.StoreLaws as store
 use Rattle.store.specs.StoreLaws.{records-without, length-without, records-with, length-with}
@@ -33,14 +32,14 @@ use Rattle.policy.specs.Choice.{chosen}
 use Rattle.rules.specs.Set.{Request, exists, isDeletion, isEmptyAppend, recordAfter, storeOf, setStatus, setStore}
 use Rattle.rules.specs.Engine.{State, Call, Answer, stateOf, dumpStatus, readStatus, status, answer, started, dumped, queried, readAnswer, registerStatus, speaking, setStatusBy, erased, effect, after, step}
 use Rattle.rules.specs.Engine.Call.{powerOn, restart, register, dump, lock, disable, query, read, set}
-use Rattle.rules.specs.LentLaws.{sumOfSizes, sizes-sum}
-use Rattle.rules.specs.Grounds.{Not, Entries, Records, SoundStores, Found, PayloadAfter, Answers}
+use Rattle.rules.specs.LentLaws.{sizes-sum}
+use Rattle.rules.specs.Grounds.{Not, sumOfSizes, StoreRecords, PairRecords, SoundStores, RecordOf, PayloadAfter, Answers}
 use Rattle.rules.specs.GroundsLaws.{status-exactly}
 use Rattle.rules.specs.EngineLaws.{answer-status, step-status, granted-effect}
 use Rattle.rules.specs.StateLaws.{register-granted}
-use Rattle.rules.specs.Effects.{Other, answerOf, Beside, SetLeaves, SetByName, Leaves}
+use Rattle.rules.specs.Effects.{Refusal, answerOf, Beside, SetLeaves, SetByName, Leaves}
 use Rattle.rules.specs.ConditionLaws.{tells-off, off-tells, tells-nv, tells-deletion, tells-nothing}
-use Rattle.rules.specs.FoundLaws.{tells-sound, first-records, second-records, found-lookup, lookup-found, lookup-absent, without-taken, taken-without}
+use Rattle.rules.specs.FoundLaws.{sound-records, tells-sound, packs-entries, valid-entries, entries-read, first-records, second-records, distinct-first, distinct-second, found-lookup, lookup-found, lookup-absent, without-taken, taken-without}
 use Rattle.rules.specs.SetGroundsLaws.{kind-same, payload-is, stored, storing, storing-only}
 use Rattle.rules.specs.SetLaws as set
 use Rattle.rules.specs.SetLaws.{set-sound, set-formed}
@@ -49,9 +48,9 @@ use Rattle.rules.specs.SetLaws.{set-sound, set-formed}
 
 pub data Kind (n : Status) : Type 0 where
   done : n ≡ Success → Kind n
-  other : Other n → isSuccess n ≡ false → Kind n
+  other : Refusal n → isSuccess n ≡ false → Kind n
 
-other-than : (n : Status) → isSuccess n ≡ false → Other n
+other-than : (n : Status) → isSuccess n ≡ false → Refusal n
 other-than n h e = true≢false (sym (ap isSuccess e) ∙ h)
 
 pub kind : (n : Status) → Kind n
@@ -65,7 +64,7 @@ kind VolumeCorrupted = Kind.other (other-than VolumeCorrupted refl) refl
 kind NotFound = Kind.other (other-than NotFound refl) refl
 kind AlreadyStarted = Kind.other (other-than AlreadyStarted refl) refl
 
-refused-test : (n : Status) → Other n → isSuccess n ≡ false
+refused-test : (n : Status) → Refusal n → isSuccess n ≡ false
 refused-test n o = go (kind n)
   where
     go : Kind n → isSuccess n ≡ false
@@ -92,10 +91,10 @@ module _ (s : State) (buffer : Bytes) where
       go : (v f : Bool) → policyValid (s .policy) ≡ v → Beside s (dump buffer) (dumped (cond v (cond f Success BufferTooSmall) VolumeCorrupted) listed buffer)
       go true true e =
           subst⁻¹ (λ k. Beside s (dump buffer) (answerOf Success k (overwrite buffer 0 (flat listed)) none)) sum-is
-          (subst⁻¹ (λ b. Beside s (dump buffer) (answerOf Success (sumOfSizes listed) b none)) written (Beside.dumped listed (policy.policy-entries (s .policy) e)))
+          (subst⁻¹ (λ b. Beside s (dump buffer) (answerOf Success (sumOfSizes listed) b none)) written (Beside.dumped listed (valid-entries s e)))
       go true false e =
-          subst⁻¹ (λ x. Beside s (dump buffer) (answerOf BufferTooSmall x buffer none)) sum-is (Beside.needed listed (policy.policy-entries (s .policy) e))
-      go false f e = Beside.notDumped VolumeCorrupted (other-than VolumeCorrupted refl) (λ h. let z : _≡_ {A = ℕ} 10 5 = ap statusNumber h in omega arith)
+          subst⁻¹ (λ x. Beside s (dump buffer) (answerOf BufferTooSmall x buffer none)) sum-is (Beside.dumpShort listed (valid-entries s e))
+      go false f e = Beside.dumpRefused VolumeCorrupted (other-than VolumeCorrupted refl) (λ h. let z : _≡_ {A = ℕ} 10 5 = ap statusNumber h in omega arith)
 
 read-beside : (s : State) (v : Variable) → Beside s (read v) (answer s (read v) (status s (read v)))
 unfolding readStatus exists
@@ -103,10 +102,10 @@ read-beside s v = go (sound (s .nv) (s .vol)) (named v) (lookup (s .nv) (s .vol)
   where
     go : (b n : Bool) (o : Option Bytes) → sound (s .nv) (s .vol) ≡ b → lookup (s .nv) (s .vol) v ≡ o
         → Beside s (read v) (readAnswer (cond b (cond n (cond (exists o) Success NotFound) InvalidParameter) VolumeCorrupted) o)
-    go true true (some r) e f = Beside.found r (lookup-found s v r (tells-sound (s .nv) (s .vol) .0 e) f)
-    go true true none e f = Beside.notFound NotFound (other-than NotFound refl)
-    go true false o e f = Beside.notFound InvalidParameter (other-than InvalidParameter refl)
-    go false n o e f = Beside.notFound VolumeCorrupted (other-than VolumeCorrupted refl)
+    go true true (some r) e f = Beside.wasRead r (lookup-found s v r (tells-sound (s .nv) (s .vol) .0 e) f)
+    go true true none e f = Beside.readRefused NotFound (other-than NotFound refl)
+    go true false o e f = Beside.readRefused InvalidParameter (other-than InvalidParameter refl)
+    go false n o e f = Beside.readRefused VolumeCorrupted (other-than VolumeCorrupted refl)
 
 query-beside : (s : State) → Beside s query (answer s query Success)
 query-beside s = go (s .switches .enabled) refl
@@ -120,42 +119,39 @@ power-on-beside s allowed n = go (kind n)
   where
     go : Kind n → Beside s (powerOn allowed) (started n allowed)
     go (Kind.done e) = subst⁻¹ (λ m. Beside s (powerOn allowed) (started m allowed)) e Beside.poweredOn
-    go (Kind.other o h) = rw h (Beside.notPoweredOn n o)
+    go (Kind.other o h) = rw h (Beside.powerOnRefused n o)
 
 restart-beside : (s : State) (allowed : Bool) (n : Status) → Beside s (restart allowed) (started n allowed)
 restart-beside s allowed n = go (kind n)
   where
     go : Kind n → Beside s (restart allowed) (started n allowed)
     go (Kind.done e) = subst⁻¹ (λ m. Beside s (restart allowed) (started m allowed)) e Beside.restarted
-    go (Kind.other o h) = rw h (Beside.notRestarted n o)
+    go (Kind.other o h) = rw h (Beside.restartRefused n o)
 
 -- the computed answer is one of them
 pub answer-beside : (s : State) (c : Call) → Beside s c (answer s c (status s c))
 answer-beside s (powerOn allowed) = power-on-beside s allowed (status s (powerOn allowed))
 answer-beside s (restart allowed) = restart-beside s allowed (status s (restart allowed))
-answer-beside s (register e) = Beside.registered (status s (register e))
+answer-beside s (register e) = Beside.ofRegister (status s (register e))
 answer-beside s (dump buffer) = dump-beside s buffer
-answer-beside s lock = Beside.locked (status s lock)
-answer-beside s disable = Beside.disabled (status s disable)
+answer-beside s lock = Beside.ofLock (status s lock)
+answer-beside s disable = Beside.ofDisable (status s disable)
 answer-beside s query = query-beside s
 answer-beside s (read v) = read-beside s v
-answer-beside s (set r) = Beside.setting (status s (set r))
+answer-beside s (set r) = Beside.ofSet (status s (set r))
 
 -- and the only one with its status
-dumped-entries : (s : State) (es : List Bytes) → Entries s es → es ≡ entriesOf (s .policy)
-dumped-entries s es w = sym (policy.packs-only es (s .policy) w)
-
 pub beside-answer : (s : State) (c : Call) (a : Answer) → Beside s c a → a ≡ answer s c (a .status)
 beside-answer s c a Beside.poweredOn = refl
-beside-answer s c a (Beside.notPoweredOn n o) = rw (refused-test n o)
+beside-answer s c a (Beside.powerOnRefused n o) = rw (refused-test n o)
 beside-answer s c a Beside.restarted = refl
-beside-answer s c a (Beside.notRestarted n o) = rw (refused-test n o)
+beside-answer s c a (Beside.restartRefused n o) = rw (refused-test n o)
 beside-answer s c a (Beside.dumped {buffer} es w) =
-    ap (λ x. answerOf Success (sumOfSizes x) (flat x ++ drop (sumOfSizes x) buffer) none) (dumped-entries s es w)
+    ap (λ x. answerOf Success (sumOfSizes x) (flat x ++ drop (sumOfSizes x) buffer) none) (entries-read s es w)
     ∙ ap₂ (λ (k : ℕ) (b : Bytes). answerOf Success k b none) (sym (sum-is s buffer)) (sym (written s buffer))
-beside-answer s c a (Beside.needed {buffer} es w) =
-    ap (λ x. answerOf BufferTooSmall (sumOfSizes x) buffer none) (dumped-entries s es w) ∙ ap (λ (k : ℕ). answerOf BufferTooSmall k buffer none) (sym (sum-is s buffer))
-beside-answer s c a (Beside.notDumped {buffer} n o p) = rw (refused-test n o, not-five n p)
+beside-answer s c a (Beside.dumpShort {buffer} es w) =
+    ap (λ x. answerOf BufferTooSmall (sumOfSizes x) buffer none) (entries-read s es w) ∙ ap (λ (k : ℕ). answerOf BufferTooSmall k buffer none) (sym (sum-is s buffer))
+beside-answer s c a (Beside.dumpRefused {buffer} n o p) = rw (refused-test n o, not-five n p)
   where
     not-five : (n : Status) → Not (n ≡ BufferTooSmall) → eqb (statusNumber n) 5 ≡ false
     not-five Success h = refl
@@ -169,12 +165,12 @@ beside-answer s c a (Beside.notDumped {buffer} n o p) = rw (refused-test n o, no
     not-five AlreadyStarted h = refl
 beside-answer s c a (Beside.isEnabled e) = rw e
 beside-answer s c a (Beside.isDisabled e) = rw e
-beside-answer s c a (Beside.found {v} r f) = rw (found-lookup s v r f)
-beside-answer s c a (Beside.notFound n o) = rw (refused-test n o)
-beside-answer s c a (Beside.registered n) = refl
-beside-answer s c a (Beside.locked n) = refl
-beside-answer s c a (Beside.disabled n) = refl
-beside-answer s c a (Beside.setting n) = refl
+beside-answer s c a (Beside.wasRead {v} r f) = rw (found-lookup s v r f)
+beside-answer s c a (Beside.readRefused n o) = rw (refused-test n o)
+beside-answer s c a (Beside.ofRegister n) = refl
+beside-answer s c a (Beside.ofLock n) = refl
+beside-answer s c a (Beside.ofDisable n) = refl
+beside-answer s c a (Beside.ofSet n) = refl
 
 -- ---- what a call leaves
 
@@ -185,84 +181,75 @@ zeros : emptyPolicy ≡ replicate policyBytes 0
 unfolding packed padded flat
 zeros = refl
 
--- the records of a sound pair, as the rules read them
-sound-records : (nv vol : Bytes) → sound nv vol ≡ true → Records nv vol (recordsOf true nv) (recordsOf false vol)
-sound-records nv vol e =
-    let k = tells-sound nv vol .0 e in
-    subst (λ qs. Records nv vol (recordsOf true nv) qs) (second-records (k .records)) (subst (λ rs. Records nv vol rs (k .inVol)) (first-records (k .records)) (k .records))
-
 -- a set that answers 0
 module _ (s : State) (r : Request) (ok : sound (s .nv) (s .vol) ≡ true) (e : Option Bytes) (granted : isSuccess (setStatus e (s .nv) (s .vol) r) ≡ true) where
-  abbrev t : State
-  t = effect s (set r)
+  abbrev left : State
+  left = effect s (set r)
 
-  abbrev v : Variable
-  v = r .variable
-
-  before : Records (s .nv) (s .vol) (recordsOf true (s .nv)) (recordsOf false (s .vol))
+  before : PairRecords (s .nv) (s .vol) (recordsOf true (s .nv)) (recordsOf false (s .vol))
   before = sound-records (s .nv) (s .vol) ok
 
-  later : Records (t .nv) (t .vol) (recordsOf true (t .nv)) (recordsOf false (t .vol))
-  later = sound-records (t .nv) (t .vol) (set-sound e (s .nv) (s .vol) r ok granted)
+  later : PairRecords (left .nv) (left .vol) (recordsOf true (left .nv)) (recordsOf false (left .vol))
+  later = sound-records (left .nv) (left .vol) (set-sound e (s .nv) (s .vol) r ok granted)
 
   abbrev stands : SoundStores (s .nv) (s .vol)
   stands = record { inNV = recordsOf true (s .nv); inVol = recordsOf false (s .vol); records = before }
 
-  set-deletes : isDeletion (r .attributes) (r .payload) ≡ true → SetLeaves s r t
+  set-deletes : isDeletion (r .attributes) (r .payload) ≡ true → SetLeaves s r left
   unfolding setStore
   set-deletes d =
-      SetLeaves.removed (recordsOf true (s .nv)) (recordsOf false (s .vol)) (remove (isOf v) (recordsOf true (s .nv))) (remove (isOf v) (recordsOf false (s .vol)))
-      (tells-deletion r .0 d) before (without-taken v (recordsOf true (s .nv))) (without-taken v (recordsOf false (s .vol)))
-      (subst (λ rs. Records (t .nv) (t .vol) rs (remove (isOf v) (recordsOf false (s .vol)))) (ap (recordsOf true) nv-is ∙ records-without true (s .nv) v)
-      (subst (λ qs. Records (t .nv) (t .vol) (recordsOf true (t .nv)) qs) (ap (recordsOf false) vol-is ∙ records-without false (s .vol) v) later))
-      (record { nv = ap length nv-is ∙ length-without true (s .nv) v; vol = ap length vol-is ∙ length-without false (s .vol) v; policy = refl; switches = refl })
+      SetLeaves.removed (recordsOf true (s .nv)) (recordsOf false (s .vol)) (remove (isOf (r .variable)) (recordsOf true (s .nv))) (remove (isOf (r .variable)) (recordsOf false (s .vol)))
+      (tells-deletion r .0 d) before (without-taken (r .variable) (recordsOf true (s .nv))) (without-taken (r .variable) (recordsOf false (s .vol)))
+      (subst (λ rs. PairRecords (left .nv) (left .vol) rs (remove (isOf (r .variable)) (recordsOf false (s .vol)))) (ap (recordsOf true) nv-is ∙ records-without true (s .nv) (r .variable))
+      (subst (λ qs. PairRecords (left .nv) (left .vol) (recordsOf true (left .nv)) qs) (ap (recordsOf false) vol-is ∙ records-without false (s .vol) (r .variable)) later))
+      (record { nv = ap length nv-is ∙ length-without true (s .nv) (r .variable); vol = ap length vol-is ∙ length-without false (s .vol) (r .variable); policy = refl; switches = refl })
     where
-      nv-is : t .nv ≡ withoutVariable true (s .nv) v
+      nv-is : left .nv ≡ withoutVariable true (s .nv) (r .variable)
       nv-is = rw d
 
-      vol-is : t .vol ≡ withoutVariable false (s .vol) v
+      vol-is : left .vol ≡ withoutVariable false (s .vol) (r .variable)
       vol-is = rw d
 
-  set-keeps : isDeletion (r .attributes) (r .payload) ≡ false → isEmptyAppend (r .attributes) (r .payload) ≡ true → SetLeaves s r t
+  set-keeps : isDeletion (r .attributes) (r .payload) ≡ false → isEmptyAppend (r .attributes) (r .payload) ≡ true → SetLeaves s r left
   unfolding setStore
-  set-keeps d n = SetLeaves.unchanged (tells-nothing r .0 n) (same-state t (s .nv) (s .vol) (s .policy) (s .switches) (rw (d, n)) (rw (d, n)) refl refl)
+  set-keeps d n = SetLeaves.unchanged (tells-nothing r .0 n) (same-state left (s .nv) (s .vol) (s .policy) (s .switches) (rw (d, n)) (rw (d, n)) refl refl)
 
-  set-stores : isDeletion (r .attributes) (r .payload) ≡ false → isEmptyAppend (r .attributes) (r .payload) ≡ false → SetLeaves s r t
+  set-stores : isDeletion (r .attributes) (r .payload) ≡ false → isEmptyAppend (r .attributes) (r .payload) ≡ false → SetLeaves s r left
   unfolding setStore
   set-stores d n = go (hasNV (r .attributes)) refl
     where
       q : Bytes
       q = stored s r stands
 
-      fits : (recordOk (hasNV (r .attributes)) (stored s r stands) ≡ true) × (hasRoom (hasNV (r .attributes)) (storeOf (r .attributes) (s .nv) (s .vol)) v (stored s r stands) ≡ true)
+      fits : (recordOk (hasNV (r .attributes)) (stored s r stands) ≡ true) × (hasRoom (hasNV (r .attributes)) (storeOf (r .attributes) (s .nv) (s .vol)) (r .variable) (stored s r stands) ≡ true)
       fits = set-formed e (s .nv) (s .vol) r ok granted d n
 
-      go : (b : Bool) → hasNV (r .attributes) ≡ b → SetLeaves s r t
+      go : (b : Bool) → hasNV (r .attributes) ≡ b → SetLeaves s r left
       go true h =
-          let nv-is : t .nv ≡ withRecord true (s .nv) v (stored s r stands) = rw (d, n, h) in
-          let vol-is : t .vol ≡ s .vol = rw (d, n, h) in
+          let nv-is : left .nv ≡ withRecord true (s .nv) (r .variable) (stored s r stands) = rw (d, n, h) in
+          let vol-is : left .vol ≡ s .vol = rw (d, n, h) in
           let formed : recordOk true (stored s r stands) ≡ true = subst (λ b. recordOk b (stored s r stands) ≡ true) h (fits .0) in
-          let room : hasRoom true (s .nv) v (stored s r stands) ≡ true = subst (λ b. hasRoom b (cond b (s .nv) (s .vol)) v (stored s r stands) ≡ true) h (fits .1) in
+          let room : hasRoom true (s .nv) (r .variable) (stored s r stands) ≡ true = subst (λ b. hasRoom b (cond b (s .nv) (s .vol)) (r .variable) (stored s r stands) ≡ true) h (fits .1) in
           SetLeaves.storedNV (recordsOf true (s .nv)) (recordsOf false (s .vol)) (tells-off _ (tells-deletion r) d) (tells-off _ (tells-nothing r) n) (tells-nv (r .attributes) .0 h)
           before (storing s r stands (recordsOf true (s .nv)))
-          (subst (λ rs. Records (t .nv) (t .vol) rs (recordsOf false (s .vol))) (ap (recordsOf true) nv-is ∙ records-with true (s .nv) v (stored s r stands) formed)
-          (subst (λ qs. Records (t .nv) (t .vol) (recordsOf true (t .nv)) qs) (ap (recordsOf false) vol-is) later))
-          vol-is (record { nv = ap length nv-is ∙ length-with true (s .nv) v (stored s r stands) room; vol = ap length vol-is; policy = refl; switches = refl })
+          (subst (λ rs. PairRecords (left .nv) (left .vol) rs (recordsOf false (s .vol))) (ap (recordsOf true) nv-is ∙ records-with true (s .nv) (r .variable) (stored s r stands) formed)
+          (subst (λ qs. PairRecords (left .nv) (left .vol) (recordsOf true (left .nv)) qs) (ap (recordsOf false) vol-is) later))
+          vol-is (record { nv = ap length nv-is ∙ length-with true (s .nv) (r .variable) (stored s r stands) room; vol = ap length vol-is; policy = refl; switches = refl })
       go false h =
-          let nv-is : t .nv ≡ s .nv = rw (d, n, h) in
-          let vol-is : t .vol ≡ withRecord false (s .vol) v (stored s r stands) = rw (d, n, h) in
+          let nv-is : left .nv ≡ s .nv = rw (d, n, h) in
+          let vol-is : left .vol ≡ withRecord false (s .vol) (r .variable) (stored s r stands) = rw (d, n, h) in
           let formed : recordOk false (stored s r stands) ≡ true = subst (λ b. recordOk b (stored s r stands) ≡ true) h (fits .0) in
-          let room : hasRoom false (s .vol) v (stored s r stands) ≡ true = subst (λ b. hasRoom b (cond b (s .nv) (s .vol)) v (stored s r stands) ≡ true) h (fits .1) in
+          let room : hasRoom false (s .vol) (r .variable) (stored s r stands) ≡ true = subst (λ b. hasRoom b (cond b (s .nv) (s .vol)) (r .variable) (stored s r stands) ≡ true) h (fits .1) in
           SetLeaves.storedVol (recordsOf true (s .nv)) (recordsOf false (s .vol)) (tells-off _ (tells-deletion r) d) (tells-off _ (tells-nothing r) n) (tells-off _ (tells-nv (r .attributes)) h)
           before (storing s r stands (recordsOf false (s .vol)))
-          (subst (λ rs. Records (t .nv) (t .vol) rs (storing s r stands (recordsOf false (s .vol)) .records)) (ap (recordsOf true) nv-is)
-          (subst (λ qs. Records (t .nv) (t .vol) (recordsOf true (t .nv)) qs) (ap (recordsOf false) vol-is ∙ records-with false (s .vol) v (stored s r stands) formed) later))
-          nv-is (record { nv = ap length nv-is; vol = ap length vol-is ∙ length-with false (s .vol) v (stored s r stands) room; policy = refl; switches = refl })
+          (subst (λ rs. PairRecords (left .nv) (left .vol) rs (storing s r stands (recordsOf false (s .vol)) .records)) (ap (recordsOf true) nv-is)
+          (subst (λ qs. PairRecords (left .nv) (left .vol) (recordsOf true (left .nv)) qs) (ap (recordsOf false) vol-is ∙ records-with false (s .vol) (r .variable) (stored s r stands) formed) later))
+          nv-is (record { nv = ap length nv-is; vol = ap length vol-is ∙ length-with false (s .vol) (r .variable) (stored s r stands) room; policy = refl; switches = refl })
 
-  set-leaves : SetLeaves s r t
+  set-leaves : SetLeaves s r left
   set-leaves = go (isDeletion (r .attributes) (r .payload)) (isEmptyAppend (r .attributes) (r .payload)) refl refl
     where
-      go : (d n : Bool) → isDeletion (r .attributes) (r .payload) ≡ d → isEmptyAppend (r .attributes) (r .payload) ≡ n → SetLeaves s r t
+      go : (d n : Bool) → isDeletion (r .attributes) (r .payload) ≡ d → isEmptyAppend (r .attributes) (r .payload) ≡ n → SetLeaves s r left
       go true n e f = set-deletes e
       go false true e f = set-keeps e f
       go false false e f = set-stores e f
@@ -283,8 +270,8 @@ granted-leaves s (register e) h =
     let w = policy.policy-entries (s .policy) (k .0) in
     let g = register-granted (s .switches .locked) es e (ap isSuccess (k .1)) in
     let few = g .few in
-    Leaves.registers es (packPolicy (es ++ (e ∷ []))) w
-    (record { entries = policy.entries-append es e (w .entries) (g .formed) (g .new) (omega arith) (g .room); packs = refl })
+    Leaves.registers es (packPolicy (es ++ (e ∷ []))) (valid-entries s (k .0))
+    (packs-entries _ _ (record { entries = policy.entries-append es e (w .entries) (g .formed) (g .new) (omega arith) (g .room); packs = refl }))
 granted-leaves s (dump buffer) h = Leaves.dumps
 granted-leaves s lock h = Leaves.locks
 granted-leaves s disable h = Leaves.disables
@@ -304,15 +291,16 @@ state-leaves s c = go (kind (status s c))
     go (Kind.other o h) = rw h (Leaves.refused o)
 
 -- and the only one with its status
-packed-as : (b : Bool) (s t : Bytes) (rs : List Bytes) → store.Packs b t rs → length t ≡ length s → t ≡ packStore (length s) rs
-packed-as b s t rs k e = sym (k .is) ∙ ap (λ n. packStore n rs) e
+packed-as : (b : Bool) (s t : Bytes) (rs : List Bytes) → StoreRecords b t rs → length t ≡ length s → t ≡ packStore (length s) rs
+unfolding packed padded
+packed-as b s t rs k e = k .is ∙ ap (λ n. packStore n rs) e
 
 set-only : (s : State) (r : Request) (t : State) → SetLeaves s r t → t ≡ effect s (set r)
 unfolding setStore withoutVariable withRecord
 set-only s r t (SetLeaves.removed rs qs rs′ qs′ d k x y k′ o) =
     let a = tells-deletion r .1 d in
-    let nv-is = packed-as true (s .nv) (t .nv) rs′ (k′ .first) (o .nv) ∙ ap (packStore (length (s .nv))) (taken-without (r .variable) rs (distinct-left sameVariable rs qs (k .apart)) rs′ x ∙ ap (remove (isOf (r .variable))) (first-records k)) in
-    let vol-is = packed-as false (s .vol) (t .vol) qs′ (k′ .second) (o .vol) ∙ ap (packStore (length (s .vol))) (taken-without (r .variable) qs (distinct-right sameVariable rs qs (k .apart)) qs′ y ∙ ap (remove (isOf (r .variable))) (second-records k)) in
+    let nv-is = packed-as true (s .nv) (t .nv) rs′ (k′ .first) (o .nv) ∙ ap (packStore (length (s .nv))) (taken-without (r .variable) rs (distinct-first k) rs′ x ∙ ap (remove (isOf (r .variable))) (first-records k)) in
+    let vol-is = packed-as false (s .vol) (t .vol) qs′ (k′ .second) (o .vol) ∙ ap (packStore (length (s .vol))) (taken-without (r .variable) qs (distinct-second k) qs′ y ∙ ap (remove (isOf (r .variable))) (second-records k)) in
     same-state t _ _ (s .policy) (s .switches) (rw a nv-is) (rw a vol-is) (o .policy) (o .switches)
 set-only s r t (SetLeaves.unchanged n e) =
     let d = off-tells _ (tells-deletion r) (λ d. d .0 (n .0)) in
@@ -324,7 +312,7 @@ set-only s r t (SetLeaves.storedNV rs qs d n h k w k′ vol-is o) =
     let c = tells-nv (r .attributes) .1 h in
     let j : SoundStores (s .nv) (s .vol) = record { inNV = rs; inVol = qs; records = k } in
     let nv-is = packed-as true (s .nv) (t .nv) (w .records) (k′ .first) (o .nv)
-    ∙ ap (packStore (length (s .nv))) (storing-only s r j rs (distinct-left sameVariable rs qs (k .apart)) w ∙ ap (replaceOrAppend (isOf (r .variable)) (stored s r j)) (first-records k)) in
+    ∙ ap (packStore (length (s .nv))) (storing-only s r j rs (distinct-first k) w ∙ ap (replaceOrAppend (isOf (r .variable)) (stored s r j)) (first-records k)) in
     same-state t _ _ (s .policy) (s .switches) (rw (a, b, c) nv-is) (rw (a, b, c) vol-is) (o .policy) (o .switches)
 set-only s r t (SetLeaves.storedVol rs qs d n h k w k′ nv-is o) =
     let a = off-tells _ (tells-deletion r) d in
@@ -332,15 +320,16 @@ set-only s r t (SetLeaves.storedVol rs qs d n h k w k′ nv-is o) =
     let c = off-tells _ (tells-nv (r .attributes)) h in
     let j : SoundStores (s .nv) (s .vol) = record { inNV = rs; inVol = qs; records = k } in
     let vol-is = packed-as false (s .vol) (t .vol) (w .records) (k′ .second) (o .vol)
-    ∙ ap (packStore (length (s .vol))) (storing-only s r j qs (distinct-right sameVariable rs qs (k .apart)) w ∙ ap (replaceOrAppend (isOf (r .variable)) (stored s r j)) (second-records k)) in
+    ∙ ap (packStore (length (s .vol))) (storing-only s r j qs (distinct-second k) w ∙ ap (replaceOrAppend (isOf (r .variable)) (stored s r j)) (second-records k)) in
     same-state t _ _ (s .policy) (s .switches) (rw (a, b, c) nv-is) (rw (a, b, c) vol-is) (o .policy) (o .switches)
 
 pub leaves-state : (s : State) (c : Call) (n : Status) (t : State) → Leaves s c n t → t ≡ after s c n
+unfolding packed padded
 leaves-state s c n t (Leaves.refused o) = rw (refused-test n o)
 leaves-state s c n t (Leaves.powersOn {allowed}) = ap (λ p. stateOf (s .nv) (erased (s .vol)) p (freshSwitches allowed)) (sym zeros)
 leaves-state s c n t (Leaves.restarts {allowed}) = ap (λ p. stateOf (s .nv) (s .vol) p (freshSwitches allowed)) (sym zeros)
 leaves-state s c n t (Leaves.registers {e} es p w w′) =
-    ap (λ x. stateOf (s .nv) (s .vol) x (s .switches)) (sym (w′ .packs) ∙ ap (λ l. packPolicy (l ++ (e ∷ []))) (dumped-entries s es w))
+    ap (λ x. stateOf (s .nv) (s .vol) x (s .switches)) (w′ .is ∙ ap (λ l. packPolicy (l ++ (e ∷ []))) (entries-read s es w))
 leaves-state s c n t Leaves.locks = refl
 leaves-state s c n t Leaves.disables = refl
 leaves-state s c n t Leaves.dumps = refl
@@ -348,8 +337,8 @@ leaves-state s c n t Leaves.queries = refl
 leaves-state s c n t Leaves.reads = refl
 leaves-state s c n t (Leaves.sets {r} x h) = set-only s r x h
 
--- THE ENGINE IN PROPOSITIONS: a call answers a and leaves t exactly if the status is the first that applies, and the answer and the state
--- are those of its case
+-- THE ENGINE IN PROPOSITIONS: a call answers a and leaves t exactly if a's status is the first that applies, and with it a is an answer of
+-- `Beside` and t a state of `Leaves`
 pub step-exactly : (s : State) (c : Call) (a : Answer) (t : State) → (step s c ≡ (a, t)) ↔ (Answers s c (a .status) × Beside s c a × Leaves s c (a .status) t)
 unfolding step
 step-exactly s c a t = (
@@ -365,7 +354,7 @@ step-exactly s c a t = (
 
 -- ---- a set by names
 
-same-found : (s t : State) (w : Variable) → SoundStores (t .nv) (t .vol) → lookup (t .nv) (t .vol) w ≡ lookup (s .nv) (s .vol) w → (q : Bytes) → Found s w q → Found t w q
+same-found : (s t : State) (w : Variable) → SoundStores (t .nv) (t .vol) → lookup (t .nv) (t .vol) w ≡ lookup (s .nv) (s .vol) w → (q : Bytes) → RecordOf s w q → RecordOf t w q
 same-found s t w k e q f = lookup-found t w q k (e ∙ found-lookup s w q f)
 
 module _ (s : State) (r : Request) (ok : sound (s .nv) (s .vol) ≡ true) (e : Option Bytes) (granted : isSuccess (setStatus e (s .nv) (s .vol) r) ≡ true) where
@@ -378,6 +367,7 @@ module _ (s : State) (r : Request) (ok : sound (s .nv) (s .vol) ≡ true) (e : O
   by-name : SetByName s r (effect s (set r))
   by-name =
       record {
+        sound = soundAfter;
         others = λ w d q.
             let same = set.set-others e (s .nv) (s .vol) r ok granted w d in
             (same-found s (effect s (set r)) w soundAfter same q, same-found (effect s (set r)) s w soundBefore (sym same) q);
@@ -398,7 +388,7 @@ module _ (s : State) (r : Request) (ok : sound (s .nv) (s .vol) ≡ true) (e : O
             );
       }
 
--- A SET THAT ANSWERS 0 CHANGES ITS VARIABLE AS THE REQUEST SAYS, AND NO OTHER
+-- A SET THAT ANSWERS 0 CHANGES ITS VARIABLE AS THE REQUEST SAYS, AND NO OTHER (in which order records then stand, `SetLeaves` says)
 pub set-by-name : (s : State) (r : Request) → isSuccess (step s (set r) .0 .status) ≡ true → SetByName s r (step s (set r) .1)
 unfolding setStatusBy
 set-by-name s r h =

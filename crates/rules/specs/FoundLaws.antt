@@ -5,14 +5,17 @@ use mathlib.Core.List.{List, [], _∷_, _++_}
 use mathlib.Core.Bool.{Bool, true, false, _||_, cond, or-true, true≢false, false≢true}
 use mathlib.Core.Option.{Option, none, some}
 use mathlib.Core.Logic.{inl, inr}
-use Rattle.lists.specs.Lists.{Among}
+use Rattle.lists.specs.Lists as lists
+use Rattle.lists.specs.Lists.{Among, Pairs}
 use Rattle.lists.specs.ListsLaws.{among-middle}
 use Rattle.slices.specs.TestLaws.{and-left, and-right, and-intro, forced-off}
-use Rattle.slices.specs.Bytes.{Bytes}
-use Rattle.slices.specs.Chunks.{contains, distinct, find, remove, replace, replaceOrAppend}
-use Rattle.slices.specs.ChunksLaws.{All, more}
-use Rattle.slices.specs.ItemsLaws.{contains-middle, contains-none, distinct-across, distinct-apart, find-takes, or-left-off, or-right-off, remove-none}
+use Rattle.slices.specs.Bytes.{Bytes, padded}
+use Rattle.slices.specs.Chunks.{packed, contains, distinct, find, remove, replace, replaceOrAppend}
+use Rattle.slices.specs.ChunksLaws.{All, nil, more}
+use Rattle.slices.specs.ItemsLaws.{all-map, contains-middle, contains-none, distinct-across, distinct-apart, distinct-cons, distinct-left, distinct-right, find-takes, or-left-off, or-off, or-right-off, remove-none}
 use Rattle.names.specs.Name.{Variable}
+use Rattle.entry.specs.Entry.{namespaceOf, nameOf, sameTarget}
+use Rattle.entry.specs.EntryLaws.{sameTarget-same, sameTarget-of}
 use Rattle.policy.specs.Policy.{entriesOf, policyValid}
 use Rattle.policy.specs.PolicyLaws as policy
 use Rattle.store.specs.Record.{isOf, sameVariable, variableOf}
@@ -23,8 +26,9 @@ use Rattle.pair.specs.Pair.{allRecords, sound, soundAlone, lookup}
 use Rattle.pair.specs.PairLaws.{sound-nv, sound-vol, sound-distinct, sound-of}
 use Rattle.rules.specs.Set.{exists}
 use Rattle.rules.specs.Engine.{State}
-use Rattle.rules.specs.Grounds.{Not, Entries, Records, SoundStores, SoundAlone, Found, Absent, Put, Taken}
-use Rattle.rules.specs.ConditionLaws.{Tells}
+use Rattle.rules.specs.Grounds.{Not, PolicyEntries, HasEntries, StoreRecords, Apart, PairRecords, SoundStores, SoundAlone, RecordOf, Absent, Put}
+use Rattle.rules.specs.Effects.{Taken}
+use Rattle.rules.specs.ConditionLaws.{Tells, tells-off, off-tells}
 
 -- ---- members of a list, and tests
 
@@ -53,53 +57,149 @@ find-among p (x ∷ l) a e = go (p x) e (find-among p l a)
     go true h f = inl (let z : x ≡ a = cc in sym z)
     go false h f = inr (f h)
 
+-- ---- the lists of `slices`, and those of `lists`
+
+pub all-lists : {P : Bytes → Type 0} (l : List Bytes) → All P l → lists.All P l
+all-lists [] nil = tt
+all-lists (x ∷ l) (more h w) = (h, all-lists l w)
+
+pub lists-all : {P : Bytes → Type 0} (l : List Bytes) → lists.All P l → All P l
+lists-all [] h = nil
+lists-all (x ∷ l) h = more (h .0) (lists-all l (h .1))
+
+-- no item is like a later one, by the test and by the pairs
+module _ (like : Bytes → Bytes → Bool) (Like : Bytes → Bytes → Type 0) (tells : (a b : Bytes) → Tells (like a b) (Like a b)) where
+  distinct-pairs : (l : List Bytes) → distinct like l ≡ true → Pairs (λ a b. Not (Like a b)) l
+  distinct-pairs [] e = tt
+  distinct-pairs (x ∷ l) e =
+      let w = distinct-apart like x l e in
+      (all-lists l (all-map (λ c h. tells-off _ (tells x c) h) l (contains-none (like x) l (w .here))), distinct-pairs l (w .rest))
+
+  none-like : (x : Bytes) (l : List Bytes) → lists.All (λ c. Not (Like x c)) l → contains (like x) l ≡ false
+  unfolding contains
+  none-like x [] h = refl
+  none-like x (c ∷ l) h = or-off (like x c) (contains (like x) l) (off-tells _ (tells x c) (h .0)) (none-like x l (h .1))
+
+  pairs-distinct : (l : List Bytes) → Pairs (λ a b. Not (Like a b)) l → distinct like l ≡ true
+  unfolding distinct
+  pairs-distinct [] h = refl
+  pairs-distinct (x ∷ l) h = distinct-cons like x l (none-like x l (h .0)) (pairs-distinct l (h .1))
+
+-- ---- records and entries end to end, then filler
+
+tells-variable : (a b : Bytes) → Tells (sameVariable a b) (variableOf a ≡ variableOf b)
+tells-variable a b = ((λ e. isOf-variable (variableOf a) b e), λ e. subst⁻¹ (λ v. isOf v b ≡ true) e (isOf-self b))
+
+tells-target : (e f : Bytes) → Tells (sameTarget e f) ((namespaceOf e ≡ namespaceOf f) × (nameOf e ≡ nameOf f))
+tells-target e f = (
+  (λ h. let w = sameTarget-same e f h in (w .namespace, w .name)),
+  λ w. sameTarget-of e f (record { namespace = w .0; name = w .1 }),
+)
+
+pub apart-distinct : (l : List Bytes) → Apart l → distinct sameVariable l ≡ true
+apart-distinct = pairs-distinct sameVariable (λ a b. variableOf a ≡ variableOf b) tells-variable
+
+distinct-apart-all : (l : List Bytes) → distinct sameVariable l ≡ true → Apart l
+distinct-apart-all = distinct-pairs sameVariable (λ a b. variableOf a ≡ variableOf b) tells-variable
+
+records-packs : (b : Bool) (s : Bytes) (rs : List Bytes) → StoreRecords b s rs → store.Packs b s rs
+unfolding packed padded
+records-packs b s rs k = record { small = k .small; records = lists-all rs (k .formed); fits = k .room; is = sym (k .is) }
+
+packs-records : (b : Bool) (s : Bytes) (rs : List Bytes) → store.Packs b s rs → StoreRecords b s rs
+unfolding packed padded
+packs-records b s rs k = record { formed = all-lists rs (k .records); small = k .small; room = k .fits; is = sym (k .is) }
+
+entries-packs : (p : Bytes) (es : List Bytes) → PolicyEntries p es → policy.Packs es p
+unfolding packed padded
+entries-packs p es k =
+    record {
+      entries = record { formed = lists-all es (k .formed); few = k .few; room = k .room; apart = pairs-distinct sameTarget _ tells-target es (k .apart) };
+      packs = sym (k .is);
+    }
+
+pub packs-entries : (p : Bytes) (es : List Bytes) → policy.Packs es p → PolicyEntries p es
+unfolding packed padded
+packs-entries p es k =
+    record {
+      formed = all-lists es (k .entries .formed);
+      few = k .entries .few;
+      apart = distinct-pairs sameTarget _ tells-target es (k .entries .apart);
+      room = k .entries .room;
+      is = sym (k .packs);
+    }
+
 -- ---- soundness and the entries
+
+store-read : (b : Bool) (s : Bytes) (rs : List Bytes) → StoreRecords b s rs → rs ≡ recordsOf b s
+store-read b s rs k = store.packs-unique b s rs (records-packs b s rs k)
+
+store-sound : (b : Bool) (s : Bytes) (rs : List Bytes) → StoreRecords b s rs → storeOk b s ≡ true
+store-sound b s rs k = store.packs-storeOk b s rs (records-packs b s rs k)
+
+sound-read : (b : Bool) (s : Bytes) → storeOk b s ≡ true → StoreRecords b s (recordsOf b s)
+sound-read b s e = packs-records b s (recordsOf b s) (store.storeOk-packs b s e)
+
+-- the records and the entries are those that the rules read
+module _ {nv vol : Bytes} {rs qs : List Bytes} (k : PairRecords nv vol rs qs) where
+  pub first-records : rs ≡ recordsOf true nv
+  first-records = store-read true nv rs (k .first)
+
+  pub second-records : qs ≡ recordsOf false vol
+  second-records = store-read false vol qs (k .second)
+
+  pub all-records : rs ++ qs ≡ allRecords nv vol
+  all-records = ap₂ _++_ first-records second-records
+
+  pub distinct-records : distinct sameVariable (rs ++ qs) ≡ true
+  distinct-records = apart-distinct (rs ++ qs) (k .apart)
+
+  pub distinct-first : distinct sameVariable rs ≡ true
+  distinct-first = distinct-left sameVariable rs qs distinct-records
+
+  pub distinct-second : distinct sameVariable qs ≡ true
+  distinct-second = distinct-right sameVariable rs qs distinct-records
+
+  records-sound : sound nv vol ≡ true
+  records-sound =
+      sound-of nv vol (store-sound true nv rs (k .first)) (store-sound false vol qs (k .second))
+      (subst (λ l. distinct sameVariable l ≡ true) all-records distinct-records)
+
+pub sound-records : (nv vol : Bytes) → sound nv vol ≡ true → PairRecords nv vol (recordsOf true nv) (recordsOf false vol)
+sound-records nv vol e =
+    record {
+      first = sound-read true nv (sound-nv nv vol e);
+      second = sound-read false vol (sound-vol nv vol e);
+      apart = distinct-apart-all (allRecords nv vol) (sound-distinct nv vol e);
+    }
 
 pub tells-sound : (nv vol : Bytes) → Tells (sound nv vol) (SoundStores nv vol)
 tells-sound nv vol = (
-  (λ e. record {
-    inNV = recordsOf true nv;
-    inVol = recordsOf false vol;
-    records = record {
-      first = store.storeOk-packs true nv (sound-nv nv vol e);
-      second = store.storeOk-packs false vol (sound-vol nv vol e);
-      apart = sound-distinct nv vol e;
-    };
-  }),
-  λ s. records-sound nv vol (s .inNV) (s .inVol) (s .records),
+  (λ e. record { inNV = recordsOf true nv; inVol = recordsOf false vol; records = sound-records nv vol e }),
+  λ s. records-sound (s .records),
 )
-  where
-    records-sound : (nv vol : Bytes) (rs qs : List Bytes) → Records nv vol rs qs → sound nv vol ≡ true
-    records-sound nv vol rs qs k =
-        sound-of nv vol (store.packs-storeOk true nv rs (k .first)) (store.packs-storeOk false vol qs (k .second))
-        (subst (λ l. distinct sameVariable l ≡ true) (ap₂ _++_ (store.packs-unique true nv rs (k .first)) (store.packs-unique false vol qs (k .second))) (k .apart))
 
 pub tells-alone : (nv : Bytes) → Tells (soundAlone nv) (SoundAlone nv)
 unfolding soundAlone
 tells-alone nv = (
   (λ e. record {
     inNV = recordsOf true nv;
-    records = store.storeOk-packs true nv (and-left _ _ e);
-    apart = and-right (storeOk true nv) _ e;
+    records = sound-read true nv (and-left _ _ e);
+    apart = distinct-apart-all (recordsOf true nv) (and-right (storeOk true nv) _ e);
   }),
   λ s.
-      and-intro _ _ (store.packs-storeOk true nv (s .inNV) (s .records))
-      (subst (λ l. distinct sameVariable l ≡ true) (store.packs-unique true nv (s .inNV) (s .records)) (s .apart)),
+      and-intro _ _ (store-sound true nv (s .inNV) (s .records))
+      (subst (λ l. distinct sameVariable l ≡ true) (store-read true nv (s .inNV) (s .records)) (apart-distinct (s .inNV) (s .apart))),
 )
 
-pub tells-entries : (s : State) → Tells (policyValid (s .policy)) ((es : List Bytes) × Entries s es)
-tells-entries s = ((λ e. (entriesOf (s .policy), policy.policy-entries (s .policy) e)), λ w. policy.packs-policy (w .0) (s .policy) (w .1))
+pub valid-entries : (s : State) → policyValid (s .policy) ≡ true → HasEntries s (entriesOf (s .policy))
+valid-entries s e = packs-entries (s .policy) (entriesOf (s .policy)) (policy.policy-entries (s .policy) e)
 
--- the records and the entries are those that the rules read
-module _ {nv vol : Bytes} {rs qs : List Bytes} (k : Records nv vol rs qs) where
-  pub first-records : rs ≡ recordsOf true nv
-  first-records = store.packs-unique true nv rs (k .first)
+pub entries-read : (s : State) (es : List Bytes) → HasEntries s es → es ≡ entriesOf (s .policy)
+entries-read s es w = sym (policy.packs-only es (s .policy) (entries-packs (s .policy) es w))
 
-  pub second-records : qs ≡ recordsOf false vol
-  second-records = store.packs-unique false vol qs (k .second)
-
-  pub all-records : rs ++ qs ≡ allRecords nv vol
-  all-records = ap₂ _++_ first-records second-records
+pub tells-entries : (s : State) → Tells (policyValid (s .policy)) ((es : List Bytes) × HasEntries s es)
+tells-entries s = ((λ e. (entriesOf (s .policy), valid-entries s e)), λ w. policy.packs-policy (w .0) (s .policy) (entries-packs (s .policy) (w .0) (w .1)))
 
 -- ---- a variable's record
 
@@ -119,13 +219,13 @@ found-only (c ∷ cs) d v r k o = go (isOf v c) refl k (found-only cs (distinct-
     go false e (inr h) f = f h o
 
 module _ (s : State) (v : Variable) where
-  pub found-lookup : (r : Bytes) → Found s v r → lookup (s .nv) (s .vol) v ≡ some r
+  pub found-lookup : (r : Bytes) → RecordOf s v r → lookup (s .nv) (s .vol) v ≡ some r
   unfolding lookup
   found-lookup r f =
-      found-only (allRecords (s .nv) (s .vol)) (subst (λ l. distinct sameVariable l ≡ true) (all-records (f .records)) (f .records .apart)) v r
+      found-only (allRecords (s .nv) (s .vol)) (subst (λ l. distinct sameVariable l ≡ true) (all-records (f .records)) (distinct-records (f .records))) v r
       (subst (Among r) (all-records (f .records)) (f .stands)) (own-of v r (f .own))
 
-  pub lookup-found : (r : Bytes) → SoundStores (s .nv) (s .vol) → lookup (s .nv) (s .vol) v ≡ some r → Found s v r
+  pub lookup-found : (r : Bytes) → SoundStores (s .nv) (s .vol) → lookup (s .nv) (s .vol) v ≡ some r → RecordOf s v r
   unfolding lookup
   lookup-found r k e = record {
     inNV = k .inNV;
@@ -138,11 +238,11 @@ module _ (s : State) (v : Variable) where
   pub lookup-absent : lookup (s .nv) (s .vol) v ≡ none → Absent s v
   lookup-absent e r f = none-some r (sym e ∙ found-lookup r f)
 
-  pub tells-exists : SoundStores (s .nv) (s .vol) → Tells (exists (lookup (s .nv) (s .vol) v)) ((r : Bytes) × Found s v r)
+  pub tells-exists : SoundStores (s .nv) (s .vol) → Tells (exists (lookup (s .nv) (s .vol) v)) ((r : Bytes) × RecordOf s v r)
   unfolding exists
   tells-exists k = (go (lookup (s .nv) (s .vol) v) refl, λ w. rw (found-lookup (w .0) (w .1)))
     where
-      go : (o : Option Bytes) → lookup (s .nv) (s .vol) v ≡ o → exists o ≡ true → (r : Bytes) × Found s v r
+      go : (o : Option Bytes) → lookup (s .nv) (s .vol) v ≡ o → exists o ≡ true → (r : Bytes) × RecordOf s v r
       go none e h = absurd (false≢true h)
       go (some r) e h = (r, lookup-found r k e)
 

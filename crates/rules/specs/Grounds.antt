@@ -1,27 +1,22 @@
--- When a call answers which status, a second time: each ground by itself, as a proposition with its place in the call's order. A call
--- answers the first that applies. What Engine.antt and Set.antt compute is proved to agree with this, both ways, in GroundsLaws.antt, so a
--- reader may believe either.
--- Assumes nothing: these are definitions.
-use Prim.Native.Nat.{ℕ, zero, suc, _+_, _*_, _/_, _%_, _≤_, _<_}
+-- The status of every call, said a second time: each ground as a proposition on numbers, lists and records, with its place in the
+-- call's order. A call answers the first that applies. Engine.antt and Set.antt compute the same (GroundsLaws.antt), so a reader may believe
+-- either. Assumes nothing: these are definitions.
+use Prim.Native.Nat.{ℕ, zero, suc, _+_, _-_, _*_, _/_, _%_, _≤_, _<_}
 use mathlib.Core.Path.{_≡_}
 use mathlib.Core.List.{List, [], _∷_, _++_}
 use mathlib.Core.Bool.{Bool, true, false}
 use mathlib.Core.Logic.{_⊎_, _↔_}
-use lib.ListN.{length, getD}
-use Rattle.limits.specs.Limits.{maxUnits, namespaceBytes, maxEntries, policyBytes, maxPayload, maxStore}
-use Rattle.lists.specs.Lists.{Among}
+use lib.ListN.{length, getD, replicate}
+use Rattle.limits.specs.Limits.{maxUnits, wholeNamespaceRank, namespaceBytes, maxEntries, policyBytes, maxPayload, maxStore}
+use Rattle.lists.specs.Lists.{All, Among, Pairs}
 use Rattle.slices.specs.Bytes.{Bytes}
-use Rattle.slices.specs.Chunks.{flat, distinct}
-use Rattle.names.specs.Name.{Variable, units, numberSign}
-use Rattle.names.specs.NameLaws.{hexDigits}
-use Rattle.entry.specs.Entry.{offsetToName, namespaceOf, minSize, maxSize, attributesMustHave, attributesCantHave, lockPolicyType, nameOf, wellFormed, triggerOf, triggerValue, rank, sizeField}
-use Rattle.policy.specs.PolicyLaws as policy
-use Rattle.store.specs.Record.{attributesOf, payloadOf, sameVariable, variableOf, encodeRecord}
-use Rattle.store.specs.StoreLaws as store
+use Rattle.slices.specs.Chunks.{flat}
+use Rattle.names.specs.Name.{Variable, units, numberSign, hexDigits}
+use Rattle.entry.specs.Entry.{offsetToName, namespaceOf, minSize, maxSize, attributesMustHave, attributesCantHave, lockPolicyType, nameOf, wellFormed, triggerOf, triggerValue, sizeField}
+use Rattle.store.specs.Record.{attributesOf, payloadOf, recordOk, variableOf, encodeRecord}
 use Rattle.status.specs.declared.Status.{Status}
 use Rattle.status.specs.declared.Status.the-variants.{Success, InvalidParameter, Unsupported, BufferTooSmall, WriteProtected, OutOfResources, VolumeCorrupted, NotFound, AlreadyStarted}
 use Rattle.rules.specs.Set.{Request}
-use Rattle.rules.specs.LentLaws.{sumOfSizes}
 use Rattle.rules.specs.Engine.{State, Call}
 use Rattle.rules.specs.Engine.Call.{powerOn, restart, register, dump, lock, disable, query, read, set}
 
@@ -78,58 +73,98 @@ Matches [] (u ∷ us) = ⊥
 Matches (p ∷ ps) [] = ⊥
 Matches (p ∷ ps) (u ∷ us) = UnitMatches p u × Matches ps us
 
+-- the entry's name is empty: it is for the whole namespace
+abbrev pub WholeNamespace : Bytes → Type 0
+WholeNamespace e = offsetToName e ≡ length e
+
 -- an entry targets a variable: the namespaces are equal, and its name is empty or matches
 abbrev pub Targets : Bytes → Variable → Type 0
-Targets e v = (namespaceOf e ≡ v .namespace) × ((offsetToName e ≡ length e) ⊎ Matches (units (nameOf e)) (units (v .name)))
+Targets e v = (namespaceOf e ≡ v .namespace) × (WholeNamespace e ⊎ Matches (units (nameOf e)) (units (v .name)))
+
+-- n of the units are '#'
+pub data Signs : List ℕ → ℕ → Type 0 where
+  none : Signs [] 0
+  sign : {us : List ℕ} {n : ℕ} → Signs us n → Signs (numberSign ∷ us) (suc n)
+  other : {u : ℕ} {us : List ℕ} {n : ℕ} → Not (u ≡ numberSign) → Signs us n → Signs (u ∷ us) n
+
+-- the rank of an entry: the number of '#' in its name; an empty name ranks behind all others
+pub data Ranks (e : Bytes) : ℕ → Type 0 where
+  whole : WholeNamespace e → Ranks e wholeNamespaceRank
+  named : {n : ℕ} → Not (WholeNamespace e) → Signs (units (nameOf e)) n → Ranks e n
 
 -- the chosen entry of a list: it targets the variable, none that does ranks lower, and none before it that does ranks equal
-pub record Speaks (es : List Bytes) (v : Variable) (e : Bytes) : Type 0 where
+pub record IsChosen (es : List Bytes) (v : Variable) (e : Bytes) : Type 0 where
   pub before : List Bytes
   pub after : List Bytes
   pub place : es ≡ before ++ (e ∷ after)
   pub target : Targets e v
-  pub lowest : (f : Bytes) → Among f es → Targets f v → rank e ≤ rank f
-  pub first : (f : Bytes) → Among f before → Targets f v → rank e < rank f
+  pub lowest : (f : Bytes) (m n : ℕ) → Among f es → Targets f v → Ranks e m → Ranks f n → m ≤ n
+  pub first : (f : Bytes) (m n : ℕ) → Among f before → Targets f v → Ranks e m → Ranks f n → m < n
 
 -- ---- what a state holds
 
--- es are the entries of the policy record: distinct, well formed, within the limits, end to end, then only zeros
-abbrev pub Entries : State → List Bytes → Type 0
-Entries s es = policy.Packs es (s .policy)
+-- es are the entries of the policy record: well formed (EncodingLaws.antt says it again: the encoding of fields in range), within the limits, no
+-- two of one namespace and name, end to end, then only zeros
+pub record PolicyEntries (policy : Bytes) (es : List Bytes) : Type 0 where
+  pub formed : All (λ e. wellFormed e ≡ true) es
+  pub few : length es ≤ maxEntries
+  pub apart : Pairs (λ e f. Not ((namespaceOf e ≡ namespaceOf f) × (nameOf e ≡ nameOf f))) es
+  pub room : length (flat es) ≤ policyBytes
+  pub is : policy ≡ flat es ++ replicate (policyBytes - length (flat es)) 0
 
--- the two stores are sound, and these are their records: well formed, end to end, then only 0xFF, no variable twice
-pub record Records (nv vol : Bytes) (rs qs : List Bytes) : Type 0 where
-  pub first : store.Packs true nv rs
-  pub second : store.Packs false vol qs
-  pub apart : distinct sameVariable (rs ++ qs) ≡ true
+abbrev pub HasEntries : State → List Bytes → Type 0
+HasEntries s es = PolicyEntries (s .policy) es
+
+-- the sum of Sizes
+abbrev pub sumOfSizes : List Bytes → ℕ
+sumOfSizes [] = 0
+sumOfSizes (e ∷ es) = sizeField e + sumOfSizes es
+
+-- rs are the records of a store: well formed (EncodeLaws.antt says it again), end to end, then only 0xFF, in at most 32,768 bytes
+pub record StoreRecords (nonVolatile : Bool) (store : Bytes) (rs : List Bytes) : Type 0 where
+  pub formed : All (λ r. recordOk nonVolatile r ≡ true) rs
+  pub small : length store ≤ maxStore
+  pub room : length (flat rs) ≤ length store
+  pub is : store ≡ flat rs ++ replicate (length store - length (flat rs)) 255
+
+-- no variable stands twice
+abbrev pub Apart : List Bytes → Type 0
+Apart = Pairs (λ q r. Not (variableOf q ≡ variableOf r))
+
+-- the two stores are sound, and these are their records
+pub record PairRecords (nv vol : Bytes) (rs qs : List Bytes) : Type 0 where
+  pub first : StoreRecords true nv rs
+  pub second : StoreRecords false vol qs
+  pub apart : Apart (rs ++ qs)
 
 pub record SoundStores (nv vol : Bytes) : Type 0 where
   pub inNV : List Bytes
   pub inVol : List Bytes
-  pub records : Records nv vol inNV inVol
+  pub records : PairRecords nv vol inNV inVol
 
 -- the non-volatile store by itself
 pub record SoundAlone (nv : Bytes) : Type 0 where
   pub inNV : List Bytes
-  pub records : store.Packs true nv inNV
-  pub apart : distinct sameVariable inNV ≡ true
+  pub records : StoreRecords true nv inNV
+  pub apart : Apart inNV
 
 -- the variable exists: r is its record, in whichever store
-pub record Found (s : State) (v : Variable) (r : Bytes) : Type 0 where
+pub record RecordOf (s : State) (v : Variable) (r : Bytes) : Type 0 where
   pub inNV : List Bytes
   pub inVol : List Bytes
-  pub records : Records (s .nv) (s .vol) inNV inVol
+  pub records : PairRecords (s .nv) (s .vol) inNV inVol
   pub stands : Among r (inNV ++ inVol)
   pub own : variableOf r ≡ v
 
+-- it does not exist; in unsound stores nothing does
 abbrev pub Absent : State → Variable → Type 0
-Absent s v = (r : Bytes) → Not (Found s v r)
+Absent s v = (r : Bytes) → Not (RecordOf s v r)
 
--- the chosen entry locks its variable
+-- the chosen entry locks its variable: now, on create, or on its trigger's one payload byte
 pub data Locks (s : State) (e : Bytes) (v : Variable) : Type 0 where
   now : lockPolicyType e ≡ 1 → Locks s e v
-  onCreate : (r : Bytes) → lockPolicyType e ≡ 2 → Found s v r → Locks s e v
-  onVarState : (r : Bytes) → lockPolicyType e ≡ 3 → Found s (triggerOf e) r → payloadOf r ≡ triggerValue e ∷ [] → Locks s e v
+  onCreate : (r : Bytes) → lockPolicyType e ≡ 2 → RecordOf s v r → Locks s e v
+  onVarState : (r : Bytes) → lockPolicyType e ≡ 3 → RecordOf s (triggerOf e) r → payloadOf r ≡ triggerValue e ∷ [] → Locks s e v
 
 -- ---- requests
 
@@ -142,65 +177,63 @@ abbrev pub EmptyAppend : Request → Type 0
 EmptyAppend r = Append (r .attributes) × (r .payload ≡ [])
 
 -- equal NV, BS and RT
-pub record SameKind (a b : ℕ) : Type 0 where
+pub record SameAttributes (a b : ℕ) : Type 0 where
   pub nv : NV a ↔ NV b
   pub bs : BS a ↔ BS b
   pub rt : RT a ↔ RT b
 
--- an enabled engine's chosen entry for the request's variable
+-- the entry is enforced on the request: the engine is enabled, and it is the chosen one for the request's variable
 pub record Enforced (s : State) (r : Request) (e : Bytes) : Type 0 where
   pub enabled : s .switches .enabled ≡ true
   pub entries : List Bytes
-  pub listed : Entries s entries
-  pub speaks : Speaks entries (r .variable) e
+  pub listed : HasEntries s entries
+  pub choice : IsChosen entries (r .variable) e
 
 -- p is the payload as it would be afterwards: an append joins what is stored, any other request and an append to an absent variable
 -- have the request's own
 pub data PayloadAfter (s : State) (r : Request) (p : Bytes) : Type 0 where
-  joined : (q : Bytes) → Append (r .attributes) → Found s (r .variable) q → p ≡ payloadOf q ++ r .payload → PayloadAfter s r p
+  joined : (q : Bytes) → Append (r .attributes) → RecordOf s (r .variable) q → p ≡ payloadOf q ++ r .payload → PayloadAfter s r p
   own : (Append (r .attributes) → Absent s (r .variable)) → p ≡ r .payload → PayloadAfter s r p
 
--- ps are the records rs with q for the variable's: in its place, or behind the last
+-- ps is rs with the record q in place of the variable's record, or behind the last where it has none
 pub data Put (v : Variable) (q : Bytes) (rs ps : List Bytes) : Type 0 where
   inPlace : (xs : List Bytes) (x : Bytes) (ys : List Bytes) → rs ≡ xs ++ (x ∷ ys) → variableOf x ≡ v → ps ≡ xs ++ (q ∷ ys) → Put v q rs ps
   behind : ((x : Bytes) → Among x rs → Not (variableOf x ≡ v)) → ps ≡ rs ++ (q ∷ []) → Put v q rs ps
 
--- ps are the records rs without the variable's, the gap closed
-pub data Taken (v : Variable) (rs ps : List Bytes) : Type 0 where
-  out : (xs : List Bytes) (x : Bytes) (ys : List Bytes) → rs ≡ xs ++ (x ∷ ys) → variableOf x ≡ v → ps ≡ xs ++ ys → Taken v rs ps
-  absent : ((x : Bytes) → Among x rs → Not (variableOf x ≡ v)) → ps ≡ rs → Taken v rs ps
-
--- what the request would store, in the store whose records are rs: its record, and that store's records afterwards
+-- what the request would store in the store whose records are rs: the payload, and that store's records afterwards
 pub record Storing (s : State) (r : Request) (rs : List Bytes) : Type 0 where
   pub payload : Bytes
-  pub is : PayloadAfter s r payload
+  pub after : PayloadAfter s r payload
   pub records : List Bytes
   pub put : Put (r .variable) (encodeRecord (r .attributes % 8) (r .variable) payload) rs records
 
--- ---- THE GROUNDS of each call, each with its place in the call's order and the status that it gives. Grounds at one place give one
--- status. A set's places are its steps times ten; in step 4 size is 41, attributes 42 and the lock 43, in step 5 absent is 51
+-- ---- THE GROUNDS of each call, each with its place in the call's order and the status that it gives.
+-- Place 0 is 10 wherever something is lent, and the last place of each call applies always: done. A set's places are its steps
+-- times ten; of step 4, 41 is size, 42 attributes and 43 the lock; of step 5, 51 is absent and 52 removed.
+-- Grounds at one place give one status
 pub data Applies (s : State) : Call → ℕ → Status → Type 0 where
   -- Power-on
-  powerOnStore : {allowed : Bool} → Not (SoundAlone (s .nv)) → Applies s (powerOn allowed) 0 VolumeCorrupted
-  powerOnLength : {allowed : Bool} → maxStore < length (s .vol) → Applies s (powerOn allowed) 0 VolumeCorrupted
-  powerOnRecord : {allowed : Bool} → Not (length (s .policy) ≡ policyBytes) → Applies s (powerOn allowed) 0 VolumeCorrupted
+  powerOnUnsound : {allowed : Bool} → Not (SoundAlone (s .nv)) → Applies s (powerOn allowed) 0 VolumeCorrupted
+  powerOnVolatileTooLong : {allowed : Bool} → maxStore < length (s .vol) → Applies s (powerOn allowed) 0 VolumeCorrupted
+  powerOnBadRecord : {allowed : Bool} → Not (length (s .policy) ≡ policyBytes) → Applies s (powerOn allowed) 0 VolumeCorrupted
   powerOnDone : {allowed : Bool} → Applies s (powerOn allowed) 1 Success
   -- Restart
-  restartStores : {allowed : Bool} → Not (SoundStores (s .nv) (s .vol)) → Applies s (restart allowed) 0 VolumeCorrupted
-  restartRecord : {allowed : Bool} → Not (length (s .policy) ≡ policyBytes) → Applies s (restart allowed) 0 VolumeCorrupted
+  restartUnsound : {allowed : Bool} → Not (SoundStores (s .nv) (s .vol)) → Applies s (restart allowed) 0 VolumeCorrupted
+  restartBadRecord : {allowed : Bool} → Not (length (s .policy) ≡ policyBytes) → Applies s (restart allowed) 0 VolumeCorrupted
   restartDone : {allowed : Bool} → Applies s (restart allowed) 1 Success
   -- Register
-  registerRecord : {e : Bytes} → ((es : List Bytes) → Not (Entries s es)) → Applies s (register e) 0 VolumeCorrupted
+  registerBadRecord : {e : Bytes} → ((es : List Bytes) → Not (HasEntries s es)) → Applies s (register e) 0 VolumeCorrupted
   registerLocked : {e : Bytes} → s .switches .locked ≡ true → Applies s (register e) 1 WriteProtected
   registerMalformed : {e : Bytes} → Not (wellFormed e ≡ true) → Applies s (register e) 2 InvalidParameter
-  registerRepeated : {e : Bytes} (es : List Bytes) (f : Bytes) → Entries s es → Among f es → namespaceOf e ≡ namespaceOf f → nameOf e ≡ nameOf f
-      → Applies s (register e) 3 AlreadyStarted
-  registerCount : {e : Bytes} (es : List Bytes) → Entries s es → maxEntries < length es + 1 → Applies s (register e) 4 OutOfResources
-  registerSum : {e : Bytes} (es : List Bytes) → Entries s es → policyBytes < sumOfSizes es + sizeField e → Applies s (register e) 4 OutOfResources
+  registerRepeated : {e : Bytes} (es : List Bytes) (f : Bytes) → HasEntries s es → Among f es
+      → namespaceOf e ≡ namespaceOf f → nameOf e ≡ nameOf f → Applies s (register e) 3 AlreadyStarted
+  registerTooMany : {e : Bytes} (es : List Bytes) → HasEntries s es → maxEntries < length es + 1 → Applies s (register e) 4 OutOfResources
+  registerTooLong : {e : Bytes} (es : List Bytes) → HasEntries s es → policyBytes < sumOfSizes es + sizeField e
+      → Applies s (register e) 4 OutOfResources
   registerDone : {e : Bytes} → Applies s (register e) 5 Success
   -- Dump
-  dumpRecord : {buffer : Bytes} → ((es : List Bytes) → Not (Entries s es)) → Applies s (dump buffer) 0 VolumeCorrupted
-  dumpShort : {buffer : Bytes} (es : List Bytes) → Entries s es → length buffer < sumOfSizes es → Applies s (dump buffer) 1 BufferTooSmall
+  dumpBadRecord : {buffer : Bytes} → ((es : List Bytes) → Not (HasEntries s es)) → Applies s (dump buffer) 0 VolumeCorrupted
+  dumpShort : {buffer : Bytes} (es : List Bytes) → HasEntries s es → length buffer < sumOfSizes es → Applies s (dump buffer) 1 BufferTooSmall
   dumpDone : {buffer : Bytes} → Applies s (dump buffer) 2 Success
   -- Lock
   lockLocked : s .switches .locked ≡ true → Applies s lock 0 WriteProtected
@@ -213,43 +246,46 @@ pub data Applies (s : State) : Call → ℕ → Status → Type 0 where
   -- State query
   queryDone : Applies s query 0 Success
   -- Read
-  readStores : {v : Variable} → Not (SoundStores (s .nv) (s .vol)) → Applies s (read v) 0 VolumeCorrupted
-  readName : {v : Variable} → Not (Named v) → Applies s (read v) 1 InvalidParameter
+  readUnsound : {v : Variable} → Not (SoundStores (s .nv) (s .vol)) → Applies s (read v) 0 VolumeCorrupted
+  readBadName : {v : Variable} → Not (Named v) → Applies s (read v) 1 InvalidParameter
   readAbsent : {v : Variable} → Absent s v → Applies s (read v) 2 NotFound
   readDone : {v : Variable} → Applies s (read v) 3 Success
   -- Set
-  setStores : {r : Request} → Not (SoundStores (s .nv) (s .vol)) → Applies s (set r) 0 VolumeCorrupted
-  setRecord : {r : Request} → ((es : List Bytes) → Not (Entries s es)) → Applies s (set r) 0 VolumeCorrupted
+  setUnsound : {r : Request} → Not (SoundStores (s .nv) (s .vol)) → Applies s (set r) 0 VolumeCorrupted
+  setBadRecord : {r : Request} → ((es : List Bytes) → Not (HasEntries s es)) → Applies s (set r) 0 VolumeCorrupted
   -- 1
-  setName : {r : Request} → Not (Named (r .variable)) → Applies s (set r) 10 InvalidParameter
-  setPayload : {r : Request} → maxPayload < length (r .payload) → Applies s (set r) 10 InvalidParameter
+  setBadName : {r : Request} → Not (Named (r .variable)) → Applies s (set r) 10 InvalidParameter
+  setLongPayload : {r : Request} → maxPayload < length (r .payload) → Applies s (set r) 10 InvalidParameter
   -- 2
-  setBit : {r : Request} (i : ℕ) → Bit i (r .attributes) → Not (Among i knownBits) → Applies s (set r) 20 Unsupported
+  setUnknownBit : {r : Request} (i : ℕ) → Bit i (r .attributes) → Not (Among i knownBits) → Applies s (set r) 20 Unsupported
   -- 3
-  setRuntime : {r : Request} → RT (r .attributes) → Not (BS (r .attributes)) → Applies s (set r) 30 InvalidParameter
-  setAppend : {r : Request} → Append (r .attributes) → Not (BS (r .attributes)) → Applies s (set r) 30 InvalidParameter
+  setRuntimeWithoutBS : {r : Request} → RT (r .attributes) → Not (BS (r .attributes)) → Applies s (set r) 30 InvalidParameter
+  setAppendWithoutBS : {r : Request} → Append (r .attributes) → Not (BS (r .attributes)) → Applies s (set r) 30 InvalidParameter
   -- 4
-  setShort : {r : Request} (e : Bytes) → Enforced s r e → Not (Deletion r) → length (r .payload) < minSize e → Applies s (set r) 41 InvalidParameter
-  setLong : {r : Request} (e : Bytes) → Enforced s r e → Not (Deletion r) → maxSize e < length (r .payload) → Applies s (set r) 41 InvalidParameter
-  setMissing : {r : Request} (e : Bytes) (i : ℕ) → Enforced s r e → Not (Deletion r) → Bit i (attributesMustHave e) → Not (Bit i (r .attributes))
-      → Applies s (set r) 42 InvalidParameter
-  setProhibited : {r : Request} (e : Bytes) (i : ℕ) → Enforced s r e → Not (Deletion r) → Bit i (attributesCantHave e) → Bit i (r .attributes)
-      → Applies s (set r) 42 InvalidParameter
+  setTooShort : {r : Request} (e : Bytes) → Enforced s r e → Not (Deletion r) → length (r .payload) < minSize e
+      → Applies s (set r) 41 InvalidParameter
+  setTooLong : {r : Request} (e : Bytes) → Enforced s r e → Not (Deletion r) → maxSize e < length (r .payload)
+      → Applies s (set r) 41 InvalidParameter
+  setBitMissing : {r : Request} (e : Bytes) (i : ℕ) → Enforced s r e → Not (Deletion r)
+      → Bit i (attributesMustHave e) → Not (Bit i (r .attributes)) → Applies s (set r) 42 InvalidParameter
+  setBitProhibited : {r : Request} (e : Bytes) (i : ℕ) → Enforced s r e → Not (Deletion r)
+      → Bit i (attributesCantHave e) → Bit i (r .attributes) → Applies s (set r) 42 InvalidParameter
   setLocked : {r : Request} (e : Bytes) → Enforced s r e → Locks s e (r .variable) → Applies s (set r) 43 WriteProtected
   -- 5
   setAbsent : {r : Request} → Deletion r → Absent s (r .variable) → Applies s (set r) 51 NotFound
   setDeleted : {r : Request} → Deletion r → Applies s (set r) 52 Success
   -- 6
-  setOther : {r : Request} (q : Bytes) → Found s (r .variable) q → Not (SameKind (attributesOf q) (r .attributes)) → Applies s (set r) 60 InvalidParameter
+  setOtherAttributes : {r : Request} (q : Bytes) → RecordOf s (r .variable) q → Not (SameAttributes (attributesOf q) (r .attributes))
+      → Applies s (set r) 60 InvalidParameter
   -- 7
-  setNothing : {r : Request} → EmptyAppend r → Applies s (set r) 70 Success
+  setEmptyAppend : {r : Request} → EmptyAppend r → Applies s (set r) 70 Success
   -- 8
-  setJoined : {r : Request} (q : Bytes) → Append (r .attributes) → Found s (r .variable) q → maxPayload < length (payloadOf q) + length (r .payload)
-      → Applies s (set r) 80 OutOfResources
+  setAppendTooLong : {r : Request} (q : Bytes) → Append (r .attributes) → RecordOf s (r .variable) q
+      → maxPayload < length (payloadOf q) + length (r .payload) → Applies s (set r) 80 OutOfResources
   -- 9
-  setFullNV : {r : Request} (rs qs : List Bytes) → NV (r .attributes) → Records (s .nv) (s .vol) rs qs → (t : Storing s r rs)
+  setNoRoomNV : {r : Request} (rs qs : List Bytes) → NV (r .attributes) → PairRecords (s .nv) (s .vol) rs qs → (t : Storing s r rs)
       → length (s .nv) < length (flat (t .records)) → Applies s (set r) 90 OutOfResources
-  setFullVol : {r : Request} (rs qs : List Bytes) → Not (NV (r .attributes)) → Records (s .nv) (s .vol) rs qs → (t : Storing s r qs)
+  setNoRoomVol : {r : Request} (rs qs : List Bytes) → Not (NV (r .attributes)) → PairRecords (s .nv) (s .vol) rs qs → (t : Storing s r qs)
       → length (s .vol) < length (flat (t .records)) → Applies s (set r) 90 OutOfResources
   -- 10
   setDone : {r : Request} → Applies s (set r) 100 Success
@@ -260,7 +296,7 @@ pub record Answers (s : State) (c : Call) (n : Status) : Type 0 where
   pub applies : Applies s c place n
   pub first : (k : ℕ) (m : Status) → k < place → Not (Applies s c k m)
 
--- the rules give a ground to refuse: the first that applies gives another status than 0
+-- the rules give a ground to refuse: the first that applies gives a status other than 0
 pub record Refused (s : State) (c : Call) : Type 0 where
   pub gives : Status
   pub answers : Answers s c gives

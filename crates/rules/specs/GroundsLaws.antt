@@ -1,6 +1,6 @@
 -- The computed status and the grounds of Grounds.antt agree, both ways, for every state and call. Assumes nothing.
 use Prim.Native.Nat.{ℕ, suc, _+_, _<_}
-use mathlib.Core.Path.{_≡_, refl, sym, ap, ap₂, subst, subst⁻¹, _∙_}
+use mathlib.Core.Path.{_≡_, refl, sym, ap, ap₂, subst, _∙_}
 use mathlib.Core.List.{List, [], _∷_}
 use mathlib.Core.Bool.{Bool, true, false, not, cond, true≢false, false≢true}
 use mathlib.Core.Logic.{inl, inr, _↔_}
@@ -19,24 +19,23 @@ use Rattle.pair.specs.Pair.{sound, soundAlone, lookup}
 use Rattle.entry.specs.Entry.{sizeField, wellFormed, sameTarget}
 use Rattle.entry.specs.EntryLaws.{sized, sameTarget-same, sameTarget-of}
 use Rattle.policy.specs.Policy.{entriesOf, policyValid}
-use Rattle.policy.specs.PolicyLaws as policy
 use Rattle.policy.specs.PolicyLaws.{entriesOf-formed}
 use Rattle.status.specs.declared.Status.{Status}
 use Rattle.status.specs.declared.Status.the-variants.{Success, InvalidParameter, Unsupported, BufferTooSmall, WriteProtected, OutOfResources, VolumeCorrupted, NotFound, AlreadyStarted}
 use Rattle.status.specs.Status.{isSuccess}
 use Rattle.rules.specs.Set.{Request, exists}
-use Rattle.rules.specs.LentLaws.{sumOfSizes, sizes-sum}
+use Rattle.rules.specs.LentLaws.{sizes-sum}
 use Rattle.rules.specs.Engine.{State, Call, powerOnStatus, restartStatus, registerStatus, dumpStatus, readStatus, status, step}
 use Rattle.rules.specs.EngineLaws.{step-status}
 use Rattle.rules.specs.Engine.Call.{powerOn, restart, register, dump, lock, disable, query, read, set}
-use Rattle.rules.specs.Grounds.{Entries, SoundStores, Applies, Answers, Refused}
-use Rattle.rules.specs.Grounds.Applies.{powerOnStore, powerOnLength, powerOnRecord, powerOnDone, restartStores, restartRecord, restartDone}
-use Rattle.rules.specs.Grounds.Applies.{registerRecord, registerLocked, registerMalformed, registerRepeated, registerCount, registerSum, registerDone, dumpRecord, dumpShort, dumpDone}
-use Rattle.rules.specs.Grounds.Applies.{lockLocked, lockDone, disableDisabled, disableLocked, disableNotAllowed, disableDone, queryDone, readStores, readName, readAbsent, readDone}
+use Rattle.rules.specs.Grounds.{HasEntries, sumOfSizes, SoundStores, Applies, Answers, Refused}
+use Rattle.rules.specs.Grounds.Applies.{powerOnUnsound, powerOnVolatileTooLong, powerOnBadRecord, powerOnDone, restartUnsound, restartBadRecord, restartDone}
+use Rattle.rules.specs.Grounds.Applies.{registerBadRecord, registerLocked, registerMalformed, registerRepeated, registerTooMany, registerTooLong, registerDone, dumpBadRecord, dumpShort, dumpDone}
+use Rattle.rules.specs.Grounds.Applies.{lockLocked, lockDone, disableDisabled, disableLocked, disableNotAllowed, disableDone, queryDone, readUnsound, readBadName, readAbsent, readDone}
 use Rattle.rules.specs.ConditionLaws.{tells-not, tells-eq, tells-le, tells-more, tells-off, tells-named}
-use Rattle.rules.specs.FoundLaws.{tells-sound, tells-alone, tells-entries, tells-exists, among-contains, contains-among}
-use Rattle.rules.specs.Grounds.Applies.{setStores, setRecord, setName, setPayload, setBit, setRuntime, setAppend, setShort, setLong, setMissing, setProhibited, setLocked}
-use Rattle.rules.specs.Grounds.Applies.{setAbsent, setDeleted, setOther, setNothing, setJoined, setFullNV, setFullVol, setDone}
+use Rattle.rules.specs.FoundLaws.{tells-sound, tells-alone, valid-entries, entries-read, tells-entries, tells-exists, among-contains, contains-among}
+use Rattle.rules.specs.Grounds.Applies.{setUnsound, setBadRecord, setBadName, setLongPayload, setUnknownBit, setRuntimeWithoutBS, setAppendWithoutBS, setTooShort, setTooLong, setBitMissing, setBitProhibited, setLocked}
+use Rattle.rules.specs.Grounds.Applies.{setAbsent, setDeleted, setOtherAttributes, setEmptyAppend, setAppendTooLong, setNoRoomNV, setNoRoomVol, setDone}
 use Rattle.rules.specs.SetGroundsLaws.{set-answers}
 use Rattle.rules.specs.OrderedLaws.{Row, row, firstOf, NoneBefore, Grounds, last, _then_, NoGrounds, first-answers}
 
@@ -58,16 +57,16 @@ module _ (s : State) (allowed : Bool) where
 
   power-on-grounds : Grounds s (powerOn allowed) power-on-rows power-on-rows
   power-on-grounds =
-      (λ n t. powerOnStore (tells-not _ (tells-alone (s .nv)) .0 t))
-      then (λ n t. powerOnLength (tells-more (length (s .vol)) maxStore .0 t))
-      then (λ n t. powerOnRecord (tells-not _ (tells-eq (length (s .policy)) policyBytes) .0 t))
+      (λ n t. powerOnUnsound (tells-not _ (tells-alone (s .nv)) .0 t))
+      then (λ n t. powerOnVolatileTooLong (tells-more (length (s .vol)) maxStore .0 t))
+      then (λ n t. powerOnBadRecord (tells-not _ (tells-eq (length (s .policy)) policyBytes) .0 t))
       then (λ n t. powerOnDone)
       then last
 
   no-power-on : NoGrounds s (powerOn allowed) power-on-rows
-  no-power-on p n k m l (powerOnStore h) = tells-off _ (tells-not _ (tells-alone (s .nv))) (n 0 l) h
-  no-power-on p n k m l (powerOnLength h) = tells-off _ (tells-not _ (tells-le (length (s .vol)) maxStore)) (n 1 l) (λ g. omega arith)
-  no-power-on p n k m l (powerOnRecord h) = tells-off _ (tells-not _ (tells-eq (length (s .policy)) policyBytes)) (n 2 l) h
+  no-power-on p n k m l (powerOnUnsound h) = tells-off _ (tells-not _ (tells-alone (s .nv))) (n 0 l) h
+  no-power-on p n k m l (powerOnVolatileTooLong h) = tells-off _ (tells-not _ (tells-le (length (s .vol)) maxStore)) (n 1 l) (λ g. omega arith)
+  no-power-on p n k m l (powerOnBadRecord h) = tells-off _ (tells-not _ (tells-eq (length (s .policy)) policyBytes)) (n 2 l) h
   no-power-on p n k m l powerOnDone = true≢false (n 3 l)
 
   power-on-answers : Answers s (powerOn allowed) (status s (powerOn allowed))
@@ -87,14 +86,14 @@ module _ (s : State) (allowed : Bool) where
 
   restart-grounds : Grounds s (restart allowed) restart-rows restart-rows
   restart-grounds =
-      (λ n t. restartStores (tells-not _ (tells-sound (s .nv) (s .vol)) .0 t))
-      then (λ n t. restartRecord (tells-not _ (tells-eq (length (s .policy)) policyBytes) .0 t))
+      (λ n t. restartUnsound (tells-not _ (tells-sound (s .nv) (s .vol)) .0 t))
+      then (λ n t. restartBadRecord (tells-not _ (tells-eq (length (s .policy)) policyBytes) .0 t))
       then (λ n t. restartDone)
       then last
 
   no-restart : NoGrounds s (restart allowed) restart-rows
-  no-restart p n k m l (restartStores h) = tells-off _ (tells-not _ (tells-sound (s .nv) (s .vol))) (n 0 l) h
-  no-restart p n k m l (restartRecord h) = tells-off _ (tells-not _ (tells-eq (length (s .policy)) policyBytes)) (n 1 l) h
+  no-restart p n k m l (restartUnsound h) = tells-off _ (tells-not _ (tells-sound (s .nv) (s .vol))) (n 0 l) h
+  no-restart p n k m l (restartBadRecord h) = tells-off _ (tells-not _ (tells-eq (length (s .policy)) policyBytes)) (n 1 l) h
   no-restart p n k m l restartDone = true≢false (n 2 l)
 
   restart-answers : Answers s (restart allowed) (status s (restart allowed))
@@ -129,8 +128,8 @@ module _ (s : State) (e : Bytes) where
 
   -- the record is valid, and the entry well formed, where the tests before have failed
   module _ (p : ℕ) (n : NoneBefore register-rows p) where
-    register-listed : 0 < p → Entries s es
-    register-listed l = policy.policy-entries (s .policy) (not-false _ (n 0 l))
+    register-listed : 0 < p → HasEntries s es
+    register-listed l = valid-entries s (not-false _ (n 0 l))
 
     register-formed : 2 < p → wellFormed e ≡ true
     register-formed l = not-false _ (n 2 l)
@@ -140,7 +139,7 @@ module _ (s : State) (e : Bytes) where
 
   register-grounds : Grounds s (register e) register-rows register-rows
   register-grounds =
-      (λ n t. registerRecord (λ x k. tells-not _ (tells-entries s) .0 t (x, k)))
+      (λ n t. registerBadRecord (λ x k. tells-not _ (tells-entries s) .0 t (x, k)))
       then (λ n t. registerLocked t)
       then (λ n t. registerMalformed (λ h. false≢true (sym (not-true _ t) ∙ h)))
       then (λ n t.
@@ -149,25 +148,25 @@ module _ (s : State) (e : Bytes) where
       registerRepeated es (w .0) (register-listed 3 n (lit< tt)) (w .1) (q .namespace) (q .name))
       then (λ n t.
       let h = tells-not _ (tells-le (suc (length es)) maxEntries) .0 t in
-      registerCount es (register-listed 4 n (lit< tt)) (omega arith))
+      registerTooMany es (register-listed 4 n (lit< tt)) (omega arith))
       then (λ n t.
       let h = tells-not _ (tells-le (length (flat es) + length e) policyBytes) .0 t in
-      registerSum {e = e} es (register-listed 4 n (lit< tt)) (let q = register-sum 4 n (lit< tt) in omega arith))
+      registerTooLong {e = e} es (register-listed 4 n (lit< tt)) (let q = register-sum 4 n (lit< tt) in omega arith))
       then (λ n t. registerDone)
       then last
 
   no-register : NoGrounds s (register e) register-rows
-  no-register p n k m l (registerRecord h) = h es (register-listed p n l)
+  no-register p n k m l (registerBadRecord h) = h es (register-listed p n l)
   no-register p n k m l (registerLocked h) = true≢false (sym h ∙ n 1 l)
   no-register p n k m l (registerMalformed h) = h (register-formed p n l)
   no-register p n k m l (registerRepeated xs f w j g i) =
-      let o = subst⁻¹ (Among f) (policy.packs-only xs (s .policy) w) j in
+      let o = subst (Among f) (entries-read s xs w) j in
       true≢false (sym (among-contains (sameTarget e) es f o (sameTarget-of e f (record { namespace = g; name = i }))) ∙ n 3 l)
-  no-register p n k m l (registerCount xs w h) =
-      let o = ap length (policy.packs-only xs (s .policy) w) in
+  no-register p n k m l (registerTooMany xs w h) =
+      let o = ap length (entries-read s xs w) in
       tells-off _ (tells-not _ (tells-le (suc (length es)) maxEntries)) (n 4 l) (λ g. omega arith)
-  no-register p n k m l (registerSum xs w h) =
-      let o = ap sumOfSizes (policy.packs-only xs (s .policy) w) in
+  no-register p n k m l (registerTooLong xs w h) =
+      let o = ap sumOfSizes (entries-read s xs w) in
       let q = register-sum p n (omega arith) in
       tells-off _ (tells-not _ (tells-le (length (flat es) + length e) policyBytes)) (n 5 l) (λ g. omega arith)
   no-register p n k m l registerDone = true≢false (n 6 l)
@@ -196,12 +195,12 @@ module _ (s : State) (buffer : Bytes) where
   dump-sum : length (flat listed) ≡ sumOfSizes listed
   dump-sum = sizes-sum listed (entriesOf-formed (s .policy))
 
-  dump-listed : (p : ℕ) → NoneBefore dump-rows p → 0 < p → Entries s listed
-  dump-listed p n l = policy.policy-entries (s .policy) (not-false _ (n 0 l))
+  dump-listed : (p : ℕ) → NoneBefore dump-rows p → 0 < p → HasEntries s listed
+  dump-listed p n l = valid-entries s (not-false _ (n 0 l))
 
   dump-grounds : Grounds s (dump buffer) dump-rows dump-rows
   dump-grounds =
-      (λ n t. dumpRecord (λ x k. tells-not _ (tells-entries s) .0 t (x, k)))
+      (λ n t. dumpBadRecord (λ x k. tells-not _ (tells-entries s) .0 t (x, k)))
       then (λ n t.
       let h = tells-not _ (tells-le (length (flat listed)) (length buffer)) .0 t in
       dumpShort {buffer = buffer} listed (dump-listed 1 n (lit< tt)) (let q = dump-sum in omega arith))
@@ -209,9 +208,9 @@ module _ (s : State) (buffer : Bytes) where
       then last
 
   no-dump : NoGrounds s (dump buffer) dump-rows
-  no-dump p n k m l (dumpRecord h) = h listed (dump-listed p n l)
+  no-dump p n k m l (dumpBadRecord h) = h listed (dump-listed p n l)
   no-dump p n k m l (dumpShort xs w h) =
-      let o = ap sumOfSizes (policy.packs-only xs (s .policy) w) in
+      let o = ap sumOfSizes (entries-read s xs w) in
       let q = dump-sum in
       tells-off _ (tells-not _ (tells-le (length (flat listed)) (length buffer))) (n 1 l) (λ g. omega arith)
   no-dump p n k m l dumpDone = true≢false (n 2 l)
@@ -292,15 +291,15 @@ module _ (s : State) (v : Variable) where
 
   read-grounds : Grounds s (read v) read-rows read-rows
   read-grounds =
-      (λ n t. readStores (tells-not _ (tells-sound (s .nv) (s .vol)) .0 t))
-      then (λ n t. readName (tells-not _ (tells-named v) .0 t))
+      (λ n t. readUnsound (tells-not _ (tells-sound (s .nv) (s .vol)) .0 t))
+      then (λ n t. readBadName (tells-not _ (tells-named v) .0 t))
       then (λ n t. let k = read-sound 2 n (lit< tt) in readAbsent (λ r f. tells-not _ (tells-exists s v k) .0 t (r, f)))
       then (λ n t. readDone)
       then last
 
   no-read : NoGrounds s (read v) read-rows
-  no-read p n k m l (readStores h) = h (read-sound p n l)
-  no-read p n k m l (readName h) = tells-off _ (tells-not _ (tells-named v)) (n 1 l) h
+  no-read p n k m l (readUnsound h) = h (read-sound p n l)
+  no-read p n k m l (readBadName h) = tells-off _ (tells-not _ (tells-named v)) (n 1 l) h
   no-read p n k m l (readAbsent h) =
       tells-off _ (tells-not _ (tells-exists s v (read-sound p n (omega arith)))) (n 2 l) (λ w. h (w .0) (w .1))
   no-read p n k m l readDone = true≢false (n 3 l)
@@ -339,21 +338,21 @@ gives (set r) k =
     (cond (ltb k 51) WriteProtected (cond (ltb k 52) NotFound (cond (ltb k 60) Success (cond (ltb k 70) InvalidParameter (cond (ltb k 80) Success (cond (ltb k 100) OutOfResources Success)))))))))
 
 at-place : (s : State) (c : Call) (k : ℕ) (n : Status) → Applies s c k n → n ≡ gives c k
-at-place s c k n (powerOnStore h) = refl
-at-place s c k n (powerOnLength h) = refl
-at-place s c k n (powerOnRecord h) = refl
+at-place s c k n (powerOnUnsound h) = refl
+at-place s c k n (powerOnVolatileTooLong h) = refl
+at-place s c k n (powerOnBadRecord h) = refl
 at-place s c k n powerOnDone = refl
-at-place s c k n (restartStores h) = refl
-at-place s c k n (restartRecord h) = refl
+at-place s c k n (restartUnsound h) = refl
+at-place s c k n (restartBadRecord h) = refl
 at-place s c k n restartDone = refl
-at-place s c k n (registerRecord h) = refl
+at-place s c k n (registerBadRecord h) = refl
 at-place s c k n (registerLocked h) = refl
 at-place s c k n (registerMalformed h) = refl
 at-place s c k n (registerRepeated es f w j g i) = refl
-at-place s c k n (registerCount es w h) = refl
-at-place s c k n (registerSum es w h) = refl
+at-place s c k n (registerTooMany es w h) = refl
+at-place s c k n (registerTooLong es w h) = refl
 at-place s c k n registerDone = refl
-at-place s c k n (dumpRecord h) = refl
+at-place s c k n (dumpBadRecord h) = refl
 at-place s c k n (dumpShort es w h) = refl
 at-place s c k n dumpDone = refl
 at-place s c k n (lockLocked h) = refl
@@ -363,32 +362,32 @@ at-place s c k n (disableLocked h) = refl
 at-place s c k n (disableNotAllowed h) = refl
 at-place s c k n disableDone = refl
 at-place s c k n queryDone = refl
-at-place s c k n (readStores h) = refl
-at-place s c k n (readName h) = refl
+at-place s c k n (readUnsound h) = refl
+at-place s c k n (readBadName h) = refl
 at-place s c k n (readAbsent h) = refl
 at-place s c k n readDone = refl
-at-place s c k n (setStores h) = refl
-at-place s c k n (setRecord h) = refl
-at-place s c k n (setName h) = refl
-at-place s c k n (setPayload h) = refl
-at-place s c k n (setBit i b h) = refl
-at-place s c k n (setRuntime h i) = refl
-at-place s c k n (setAppend h i) = refl
-at-place s c k n (setShort e w d h) = refl
-at-place s c k n (setLong e w d h) = refl
-at-place s c k n (setMissing e i w d h j) = refl
-at-place s c k n (setProhibited e i w d h j) = refl
+at-place s c k n (setUnsound h) = refl
+at-place s c k n (setBadRecord h) = refl
+at-place s c k n (setBadName h) = refl
+at-place s c k n (setLongPayload h) = refl
+at-place s c k n (setUnknownBit i b h) = refl
+at-place s c k n (setRuntimeWithoutBS h i) = refl
+at-place s c k n (setAppendWithoutBS h i) = refl
+at-place s c k n (setTooShort e w d h) = refl
+at-place s c k n (setTooLong e w d h) = refl
+at-place s c k n (setBitMissing e i w d h j) = refl
+at-place s c k n (setBitProhibited e i w d h j) = refl
 at-place s c k n (setLocked e w h) = refl
 at-place s c k n (setAbsent d h) = refl
 at-place s c k n (setDeleted d) = refl
-at-place s c k n (setOther q f h) = refl
-at-place s c k n (setNothing h) = refl
-at-place s c k n (setJoined q h f i) = refl
-at-place s c k n (setFullNV rs qs h j t i) = refl
-at-place s c k n (setFullVol rs qs h j t i) = refl
+at-place s c k n (setOtherAttributes q f h) = refl
+at-place s c k n (setEmptyAppend h) = refl
+at-place s c k n (setAppendTooLong q h f i) = refl
+at-place s c k n (setNoRoomNV rs qs h j t i) = refl
+at-place s c k n (setNoRoomVol rs qs h j t i) = refl
 at-place s c k n setDone = refl
 
--- AT MOST ONE ANSWER: two that are first stand at one place
+-- AT MOST ONE ANSWER: two that are first stand at one place, and grounds at one place give one status
 pub one-answer : (s : State) (c : Call) (n m : Status) → Answers s c n → Answers s c m → n ≡ m
 one-answer s c n m a b = at-place s c (a .place) n (a .applies) ∙ ap (gives c) same-place ∙ sym (at-place s c (b .place) m (b .applies))
   where
@@ -410,7 +409,7 @@ status-exactly s c n = (
   λ a. step-status s c ∙ one-answer s c (status s c) n (status-answers s c) a,
 )
 
--- A CALL IS REFUSED EXACTLY WHEN THE RULES GIVE A GROUND FOR IT
+-- A CALL IS REFUSED EXACTLY WHEN THE RULES GIVE A GROUND FOR IT: the first that applies gives a status other than 0
 pub refused-exactly : (s : State) (c : Call) → (isSuccess (step s c .0 .status) ≡ false) ↔ Refused s c
 refused-exactly s c = (
   (λ h. record {
@@ -432,5 +431,6 @@ refused-exactly s c = (
     not-success NotFound h = refl
     not-success AlreadyStarted h = refl
 
+-- and so a set: create, rewrite, append and deletion alike
 pub a-write-is-refused-exactly-when-the-rules-give-a-ground : (s : State) (r : Request) → (isSuccess (step s (set r) .0 .status) ≡ false) ↔ Refused s (set r)
 a-write-is-refused-exactly-when-the-rules-give-a-ground s r = refused-exactly s (set r)

@@ -1,6 +1,6 @@
 -- What each call is lent: its answer depends on that alone, and so only that can get it 10. And the number beside a dump.
 -- Assumes nothing.
-use Prim.Native.Nat.{ℕ, _+_}
+use Prim.Native.Nat.{_+_}
 use mathlib.Core.Path.{_≡_, refl, sym, ap₂, _∙_}
 use mathlib.Core.List.{List, [], _∷_}
 use mathlib.Core.Bool.{Bool, true, or-true}
@@ -10,13 +10,13 @@ use Rattle.slices.specs.Bytes.{Bytes}
 use Rattle.slices.specs.Chunks.{flat}
 use Rattle.slices.specs.ChunksLaws.{All, nil, more}
 use Rattle.names.specs.Name.{Variable}
-use Rattle.entry.specs.Entry.{sizeField}
 use Rattle.entry.specs.EntryLaws.{sized}
 use Rattle.policy.specs.Policy.{entriesOf}
 use Rattle.policy.specs.PolicyLaws.{WellFormed, entriesOf-formed}
 use Rattle.status.specs.Status.{isSuccess, statusNumber}
 use Rattle.switches.specs.declared.Switches.{Switches}
 use Rattle.rules.specs.Engine.{stateOf, status, step}
+use Rattle.rules.specs.Grounds.{sumOfSizes}
 use Rattle.rules.specs.Engine.Call.{powerOn, restart, register, dump, lock, disable, query, read}
 
 module _ (nv vol policy : Bytes) (w : Switches) where
@@ -57,11 +57,7 @@ module _ (nv vol policy : Bytes) (w : Switches) where
   unfolding step
   read-lent policy′ w′ v = refl
 
--- the sum of Sizes
-abbrev pub sumOfSizes : List Bytes → ℕ
-sumOfSizes [] = 0
-sumOfSizes (e ∷ es) = sizeField e + sumOfSizes es
-
+-- the sum of Sizes is the length of the entries end to end
 pub sizes-sum : (es : List Bytes) → All WellFormed es → length (flat es) ≡ sumOfSizes es
 unfolding flat
 sizes-sum [] nil = refl

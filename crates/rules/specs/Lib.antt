@@ -2,15 +2,15 @@ pub mod Set
 pub mod SetLaws
 pub mod Engine
 pub mod EngineLaws
+pub mod Grounds
 pub mod LentLaws
 pub mod KeptLaws
-pub mod Grounds
 pub mod ConditionLaws
+pub mod Effects
 pub mod FoundLaws
 pub mod OrderedLaws
 pub mod SetGroundsLaws
 pub mod GroundsLaws
-pub mod Effects
 pub mod EffectsLaws
 pub mod StateLaws
 pub mod Readings

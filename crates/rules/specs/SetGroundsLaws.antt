@@ -1,6 +1,6 @@
 -- The computed status of a set and its grounds agree. Assumes nothing.
 use Prim.Native.Nat.{ℕ, _+_, _*_, _%_, _/_, _≤_, _<_}
-use mathlib.Core.Path.{_≡_, refl, sym, ap, subst, subst⁻¹, _∙_}
+use mathlib.Core.Path.{_≡_, refl, sym, ap, subst, _∙_}
 use mathlib.Core.List.{List, [], _∷_, _++_}
 use mathlib.Core.Bool.{Bool, true, false, not, _||_, cond, true≢false, false≢true}
 use mathlib.Core.Option.{Option, none, some}
@@ -12,14 +12,13 @@ use lib.Arith.{mod-mul}
 use native.Mathlib.Nat.{mod-eq-of-lt}
 use borrow.Author.Tests.{not-true, not-false, eqb-true, leb-true, lt-ltb, ltb-true}
 use Rattle.limits.specs.Limits.{maxPayload}
+use Rattle.lists.specs.ListsLaws.{all-among, all-append, all-map}
 use Rattle.slices.specs.Test.{_and_}
 use Rattle.slices.specs.Bytes.{Bytes}
 use Rattle.slices.specs.Chunks.{flat, distinct, replaceOrAppend}
-use Rattle.slices.specs.ItemsLaws.{all-append, all-map, distinct-left, distinct-right}
 use Rattle.names.specs.Name.{Variable, named}
 use Rattle.entry.specs.Entry.{minSize, maxSize, attributesMustHave, attributesCantHave, lockPolicyType, triggerOf, triggerValue}
 use Rattle.policy.specs.Policy.{entriesOf, policyValid}
-use Rattle.policy.specs.PolicyLaws as policy
 use Rattle.policy.specs.Choice.{chosen}
 use Rattle.store.specs.Record.{hasNV, hasAppend, attributesOf, payloadOf, recordOk, isOf, sameVariable, encodeRecord}
 use Rattle.store.specs.EncodeLaws.{attributesOk-small}
@@ -33,11 +32,11 @@ use Rattle.rules.specs.declared.Ground.the-variants.{NoGround, SizeGroun
 use Rattle.rules.specs.Set.{Request, Lookup, orElse, orGround, exists, badRequest, unsupportedBit, needsBS, requestStatus, holdsValue, locks, isDeletion, sizeAllowed, attributesAllowed, requestGround, groundOf, groundBy, groundStatus, otherAttributes, isEmptyAppend, payloadAfter, recordAfter, storeOf, writeStatus, setStatus}
 use Rattle.rules.specs.Engine.{State, speaking, setStatusBy, status}
 use Rattle.rules.specs.Engine.Call.{set}
-use Rattle.rules.specs.Grounds.{Not, Bit, BS, RT, Append, Entries, SoundStores, Found, Locks, Deletion, SameKind, Enforced, PayloadAfter, Storing, Applies, Answers}
-use Rattle.rules.specs.Grounds.Applies.{setStores, setRecord, setName, setPayload, setBit, setRuntime, setAppend, setShort, setLong, setMissing, setProhibited, setLocked}
-use Rattle.rules.specs.Grounds.Applies.{setAbsent, setDeleted, setOther, setNothing, setJoined, setFullNV, setFullVol, setDone}
-use Rattle.rules.specs.ConditionLaws.{Tells, tells-not, tells-and, tells-nand, tells-eq, tells-le, tells-lt, tells-more, tells-same, tells-off, off-tells, tells-missing, tells-prohibited, tells-unsupported, tells-nv, tells-append, tells-deletion, tells-nothing, tells-needs-bs, tells-named, chosen-speaks, speaks-chosen}
-use Rattle.rules.specs.FoundLaws.{none-some, slices-among, tells-sound, tells-entries, tells-exists, first-records, second-records, found-lookup, lookup-found, lookup-absent, with-put, put-with}
+use Rattle.rules.specs.Grounds.{Not, Bit, BS, RT, Append, HasEntries, SoundStores, RecordOf, Locks, Deletion, SameAttributes, Enforced, PayloadAfter, Storing, Applies, Answers}
+use Rattle.rules.specs.Grounds.Applies.{setUnsound, setBadRecord, setBadName, setLongPayload, setUnknownBit, setRuntimeWithoutBS, setAppendWithoutBS, setTooShort, setTooLong, setBitMissing, setBitProhibited, setLocked}
+use Rattle.rules.specs.Grounds.Applies.{setAbsent, setDeleted, setOtherAttributes, setEmptyAppend, setAppendTooLong, setNoRoomNV, setNoRoomVol, setDone}
+use Rattle.rules.specs.ConditionLaws.{Tells, tells-not, tells-and, tells-nand, tells-eq, tells-le, tells-lt, tells-more, tells-same, tells-off, off-tells, tells-missing, tells-prohibited, tells-unsupported, tells-nv, tells-append, tells-deletion, tells-nothing, tells-needs-bs, tells-named, chosen-is, is-chosen}
+use Rattle.rules.specs.FoundLaws.{none-some, tells-sound, valid-entries, entries-read, tells-entries, tells-exists, first-records, second-records, distinct-first, distinct-second, found-lookup, lookup-found, lookup-absent, with-put, put-with}
 use Rattle.rules.specs.OrderedLaws.{Row, row, firstOf, NoneBefore, Grounds, last, _then_, NoGrounds, first-answers}
 
 -- ---- the tests in their order
@@ -171,11 +170,11 @@ module _ (s : State) where
   abbrev found : Lookup
   found = lookup (s .nv) (s .vol)
 
-  tells-holds : SoundStores (s .nv) (s .vol) → (v : Variable) (value : ℕ) → Tells (holdsValue (found v) value) ((r : Bytes) × Found s v r × (payloadOf r ≡ value ∷ []))
+  tells-holds : SoundStores (s .nv) (s .vol) → (v : Variable) (value : ℕ) → Tells (holdsValue (found v) value) ((r : Bytes) × RecordOf s v r × (payloadOf r ≡ value ∷ []))
   unfolding holdsValue
   tells-holds k v value = (go (found v) refl, λ w. rw (found-lookup s v (w .0) (w .1)) (tells-same (payloadOf (w .0)) (value ∷ []) .1 (w .2)))
     where
-      go : (o : Option Bytes) → found v ≡ o → holdsValue o value ≡ true → (r : Bytes) × Found s v r × (payloadOf r ≡ value ∷ [])
+      go : (o : Option Bytes) → found v ≡ o → holdsValue o value ≡ true → (r : Bytes) × RecordOf s v r × (payloadOf r ≡ value ∷ [])
       go none e h = absurd (false≢true h)
       go (some r) e h = (r, lookup-found s v r k e, tells-same (payloadOf r) (value ∷ []) .0 h)
 
@@ -221,7 +220,7 @@ low-bits a =
     e ∙ ap (λ x. x * 2 + a % 2) f
 
 -- attributes as they are stored are those of the request if NV, BS and RT are
-same-kind : (x a : ℕ) → x ≤ 7 → SameKind x a → x ≡ a % 8
+same-kind : (x a : ℕ) → x ≤ 7 → SameAttributes x a → x ≡ a % 8
 same-kind x a m k =
     let e : x ≡ x % 8 = sym (mod-eq-of-lt (omega arith)) in
     let p = same-digit x a (k .nv) in
@@ -235,7 +234,7 @@ three-bits x b c d hb hc hd e =
     let i : x / 2 / 2 ≡ d = omega arith in
     (omega arith, omega arith, omega arith)
 
-pub kind-same : (x a : ℕ) → x ≡ a % 8 → SameKind x a
+pub kind-same : (x a : ℕ) → x ≡ a % 8 → SameAttributes x a
 kind-same x a e =
     let w = three-bits x (a % 2) (a / 2 % 2) (a / 2 / 2 % 2) (omega arith) (omega arith) (omega arith) (e ∙ low-bits a) in
     record {
@@ -245,29 +244,29 @@ kind-same x a e =
     }
 
 -- a record of a sound store has no other bits
-found-small : (s : State) (v : Variable) (q : Bytes) → Found s v q → attributesOf q ≤ 7
+found-small : (s : State) (v : Variable) (q : Bytes) → RecordOf s v q → attributesOf q ≤ 7
 found-small s v q f =
-    slices-among (f .inNV ++ f .inVol)
-    (all-append (f .inNV) (f .inVol) (all-map (small true) (f .inNV) (f .records .first .records)) (all-map (small false) (f .inVol) (f .records .second .records)))
+    all-among (λ r. attributesOf r ≤ 7) (f .inNV ++ f .inVol)
+    (all-append _ (f .inNV) (f .inVol) (all-map _ _ (small true) (f .inNV) (f .records .first .formed)) (all-map _ _ (small false) (f .inVol) (f .records .second .formed)))
     q (f .stands)
   where
     small : (b : Bool) (r : Bytes) → recordOk b r ≡ true → attributesOf r ≤ 7
     small b r h = attributesOk-small b (attributesOf r) (record-attributes b r h)
 
 tells-other : (s : State) (r : Request) → SoundStores (s .nv) (s .vol)
-    → Tells (otherAttributes (lookup (s .nv) (s .vol) (r .variable)) (r .attributes)) ((q : Bytes) × Found s (r .variable) q × Not (SameKind (attributesOf q) (r .attributes)))
+    → Tells (otherAttributes (lookup (s .nv) (s .vol) (r .variable)) (r .attributes)) ((q : Bytes) × RecordOf s (r .variable) q × Not (SameAttributes (attributesOf q) (r .attributes)))
 unfolding otherAttributes
 tells-other s r k = (go (lookup (s .nv) (s .vol) (r .variable)) refl, back)
   where
     go : (o : Option Bytes) → lookup (s .nv) (s .vol) (r .variable) ≡ o → otherAttributes o (r .attributes) ≡ true
-        → (q : Bytes) × Found s (r .variable) q × Not (SameKind (attributesOf q) (r .attributes))
+        → (q : Bytes) × RecordOf s (r .variable) q × Not (SameAttributes (attributesOf q) (r .attributes))
     go none e h = absurd (false≢true h)
     go (some q) e h =
         let f = lookup-found s (r .variable) q k e in
         let n = tells-not _ (tells-eq (attributesOf q) (r .attributes % 8)) .0 h in
         (q, f, λ i. n (same-kind (attributesOf q) (r .attributes) (found-small s (r .variable) q f) i))
 
-    back : (q : Bytes) × Found s (r .variable) q × Not (SameKind (attributesOf q) (r .attributes))
+    back : (q : Bytes) × RecordOf s (r .variable) q × Not (SameAttributes (attributesOf q) (r .attributes))
         → otherAttributes (lookup (s .nv) (s .vol) (r .variable)) (r .attributes) ≡ true
     back w =
         rw (found-lookup s (r .variable) (w .0) (w .1))
@@ -306,7 +305,7 @@ module _ (s : State) (r : Request) (k : SoundStores (s .nv) (s .vol)) where
 
   -- too long, of a request whose own payload is not
   tells-joined : length (r .payload) ≤ maxPayload
-      → Tells (ltb maxPayload (length after)) ((q : Bytes) × Append (r .attributes) × Found s (r .variable) q × (maxPayload < length (payloadOf q) + length (r .payload)))
+      → Tells (ltb maxPayload (length after)) ((q : Bytes) × Append (r .attributes) × RecordOf s (r .variable) q × (maxPayload < length (payloadOf q) + length (r .payload)))
   tells-joined m = (
     (λ t. to payload-is (ltb-true maxPayload (length after) t)),
     λ w. lt-ltb maxPayload (length after)
@@ -316,7 +315,7 @@ module _ (s : State) (r : Request) (k : SoundStores (s .nv) (s .vol)) where
   )
     where
       to : PayloadAfter s r after → maxPayload < length after
-          → (q : Bytes) × Append (r .attributes) × Found s (r .variable) q × (maxPayload < length (payloadOf q) + length (r .payload))
+          → (q : Bytes) × Append (r .attributes) × RecordOf s (r .variable) q × (maxPayload < length (payloadOf q) + length (r .payload))
       to (PayloadAfter.joined q h f e) t = (q, h, f, let l = ap length e ∙ length-append (payloadOf q) (r .payload) in omega arith)
       to (PayloadAfter.own h e) t = absurd (let l = ap length e in omega arith)
 
@@ -325,12 +324,12 @@ module _ (s : State) (r : Request) (k : SoundStores (s .nv) (s .vol)) where
 
   -- what is stored among the records rs
   abbrev pub storing : (rs : List Bytes) → Storing s r rs
-  storing rs = record { payload = after; is = payload-is; records = replaceOrAppend (isOf (r .variable)) stored rs; put = with-put (r .variable) rs stored }
+  storing rs = record { payload = after; after = payload-is; records = replaceOrAppend (isOf (r .variable)) stored rs; put = with-put (r .variable) rs stored }
 
   pub storing-only : (rs : List Bytes) → distinct sameVariable rs ≡ true → (t : Storing s r rs) → t .records ≡ replaceOrAppend (isOf (r .variable)) stored rs
   storing-only rs d t =
       put-with (r .variable) rs d _ (t .records) (t .put)
-      ∙ ap (λ p. replaceOrAppend (isOf (r .variable)) (encodeRecord (r .attributes % 8) (r .variable) p) rs) (payload-only (t .payload) (t .is))
+      ∙ ap (λ p. replaceOrAppend (isOf (r .variable)) (encodeRecord (r .attributes % 8) (r .variable) p) rs) (payload-only (t .payload) (t .after))
 
   -- no room in a store, whose records are rs
   module _ (b : Bool) (store : Bytes) (rs : List Bytes) (e : rs ≡ recordsOf b store) where
@@ -386,14 +385,14 @@ module _ (s : State) (r : Request) where
   -- the entry that step 4 asks
   enforced-entry : (e : Bytes) → Enforced s r e → chosenEntry ≡ some e
   enforced-entry e w =
-      let c = subst⁻¹ (λ x. chosen x (r .variable) ≡ some e) (policy.packs-only (w .entries) (s .policy) (w .listed)) (speaks-chosen (w .entries) (r .variable) e (w .speaks)) in
+      let c = subst (λ x. chosen x (r .variable) ≡ some e) (entries-read s (w .entries) (w .listed)) (is-chosen (w .entries) (r .variable) e (w .choice)) in
       rw (w .enabled) c
 
-  entry-enforced : Entries s (entriesOf (s .policy)) → (e : Bytes) → chosenEntry ≡ some e → Enforced s r e
+  entry-enforced : HasEntries s (entriesOf (s .policy)) → (e : Bytes) → chosenEntry ≡ some e → Enforced s r e
   entry-enforced l e = go (s .switches .enabled) refl
     where
       go : (b : Bool) → s .switches .enabled ≡ b → speaking b (chosen (entriesOf (s .policy)) (r .variable)) ≡ some e → Enforced s r e
-      go true h c = record { enabled = h; entries = entriesOf (s .policy); listed = l; speaks = chosen-speaks (entriesOf (s .policy)) (r .variable) e c }
+      go true h c = record { enabled = h; entries = entriesOf (s .policy); listed = l; choice = chosen-is (entriesOf (s .policy)) (r .variable) e c }
       go false h c = absurd (none-some e c)
 
   asked : (test : Ground → Bool) → test NoGround ≡ false → test spokenGround ≡ true
@@ -415,8 +414,8 @@ module _ (s : State) (r : Request) where
     set-stores : 0 < p → SoundStores (s .nv) (s .vol)
     set-stores l = tells-sound (s .nv) (s .vol) .0 (not-false _ (n 0 l))
 
-    set-listed : 0 < p → Entries s (entriesOf (s .policy))
-    set-listed l = policy.policy-entries (s .policy) (not-false _ (n 1 l))
+    set-listed : 0 < p → HasEntries s (entriesOf (s .policy))
+    set-listed l = valid-entries s (not-false _ (n 1 l))
 
     set-short : 10 < p → length (r .payload) ≤ maxPayload
     set-short l = let h = tells-off _ (tells-lt maxPayload (length (r .payload))) (n 3 l) in omega arith
@@ -428,20 +427,20 @@ module _ (s : State) (r : Request) where
     not-deletion h = off-tells _ (tells-deletion r) h
 
   size-ground : (e : Bytes) → Enforced s r e → Not (Deletion r) → (length (r .payload) < minSize e) ⊎ (maxSize e < length (r .payload)) → Applies s (set r) 41 InvalidParameter
-  size-ground e w d (inl h) = setShort e w d h
-  size-ground e w d (inr h) = setLong e w d h
+  size-ground e w d (inl h) = setTooShort e w d h
+  size-ground e w d (inr h) = setTooLong e w d h
 
   attribute-ground : (e : Bytes) → Enforced s r e → Not (Deletion r)
       → ((i : ℕ) × Bit i (attributesMustHave e) × Not (Bit i (r .attributes))) ⊎ ((i : ℕ) × Bit i (attributesCantHave e) × Bit i (r .attributes)) → Applies s (set r) 42 InvalidParameter
-  attribute-ground e w d (inl h) = setMissing e (h .0) w d (h .1) (h .2)
-  attribute-ground e w d (inr h) = setProhibited e (h .0) w d (h .1) (h .2)
+  attribute-ground e w d (inl h) = setBitMissing e (h .0) w d (h .1) (h .2)
+  attribute-ground e w d (inr h) = setBitProhibited e (h .0) w d (h .1) (h .2)
 
   needs-ground : (RT (r .attributes) ⊎ Append (r .attributes)) × Not (BS (r .attributes)) → Applies s (set r) 30 InvalidParameter
   needs-ground w = go (w .0)
     where
       go : RT (r .attributes) ⊎ Append (r .attributes) → Applies s (set r) 30 InvalidParameter
-      go (inl h) = setRuntime h (w .1)
-      go (inr h) = setAppend h (w .1)
+      go (inl h) = setRuntimeWithoutBS h (w .1)
+      go (inr h) = setAppendWithoutBS h (w .1)
 
   room-ground : SoundStores (s .nv) (s .vol) → hasRoom (hasNV (r .attributes)) (storeOf (r .attributes) (s .nv) (s .vol)) (r .variable) (recordAfter standing r) ≡ false
       → Applies s (set r) 90 OutOfResources
@@ -449,19 +448,19 @@ module _ (s : State) (r : Request) where
     where
       go : (b : Bool) → hasNV (r .attributes) ≡ b → hasRoom b (cond b (s .nv) (s .vol)) (r .variable) (recordAfter standing r) ≡ false → Applies s (set r) 90 OutOfResources
       go true e h =
-          setFullNV (k .inNV) (k .inVol) (tells-nv (r .attributes) .0 e) (k .records) (storing s r k (k .inNV))
+          setNoRoomNV (k .inNV) (k .inVol) (tells-nv (r .attributes) .0 e) (k .records) (storing s r k (k .inNV))
           (full s r k true (s .nv) (k .inNV) (first-records (k .records)) h)
       go false e h =
-          setFullVol (k .inNV) (k .inVol) (tells-off _ (tells-nv (r .attributes)) e) (k .records) (storing s r k (k .inVol))
+          setNoRoomVol (k .inNV) (k .inVol) (tells-off _ (tells-nv (r .attributes)) e) (k .records) (storing s r k (k .inVol))
           (full s r k false (s .vol) (k .inVol) (second-records (k .records)) h)
 
   set-grounds : Grounds s (set r) set-rows set-rows
   set-grounds =
-      (λ n t. setStores (tells-not _ (tells-sound (s .nv) (s .vol)) .0 t))
-      then (λ n t. setRecord (λ x k. tells-not _ (tells-entries s) .0 t (x, k)))
-      then (λ n t. setName (tells-not _ (tells-named (r .variable)) .0 t))
-      then (λ n t. setPayload (ltb-true maxPayload (length (r .payload)) t))
-      then (λ n t. let w = tells-unsupported (r .attributes) .0 t in setBit (w .0) (w .1) (w .2))
+      (λ n t. setUnsound (tells-not _ (tells-sound (s .nv) (s .vol)) .0 t))
+      then (λ n t. setBadRecord (λ x k. tells-not _ (tells-entries s) .0 t (x, k)))
+      then (λ n t. setBadName (tells-not _ (tells-named (r .variable)) .0 t))
+      then (λ n t. setLongPayload (ltb-true maxPayload (length (r .payload)) t))
+      then (λ n t. let w = tells-unsupported (r .attributes) .0 t in setUnknownBit (w .0) (w .1) (w .2))
       then (λ n t. needs-ground (tells-needs-bs (r .attributes) .0 t))
       then (λ n t.
       let w = asked isSize refl t in
@@ -480,29 +479,29 @@ module _ (s : State) (r : Request) where
       let w = tells-and _ _ (tells-deletion r) (tells-not _ (tells-exists s (r .variable) k)) .0 t in
       setAbsent (w .0) (λ q f. w .1 (q, f)))
       then (λ n t. setDeleted (tells-deletion r .0 t))
-      then (λ n t. let w = tells-other s r (set-stores 60 n (lit< tt)) .0 t in setOther (w .0) (w .1) (w .2))
-      then (λ n t. setNothing (tells-nothing r .0 t))
-      then (λ n t. let w = tells-joined s r (set-stores 80 n (lit< tt)) (set-short 80 n (lit< tt)) .0 t in setJoined (w .0) (w .1) (w .2) (w .3))
+      then (λ n t. let w = tells-other s r (set-stores 60 n (lit< tt)) .0 t in setOtherAttributes (w .0) (w .1) (w .2))
+      then (λ n t. setEmptyAppend (tells-nothing r .0 t))
+      then (λ n t. let w = tells-joined s r (set-stores 80 n (lit< tt)) (set-short 80 n (lit< tt)) .0 t in setAppendTooLong (w .0) (w .1) (w .2) (w .3))
       then (λ n t. room-ground (set-stores 90 n (lit< tt)) (not-true _ t))
       then (λ n t. setDone)
       then last
 
   no-set : NoGrounds s (set r) set-rows
-  no-set p n k m l (setStores h) = h (set-stores p n l)
-  no-set p n k m l (setRecord h) = h (entriesOf (s .policy)) (set-listed p n l)
-  no-set p n k m l (setName h) = tells-off _ (tells-not _ (tells-named (r .variable))) (n 2 l) h
-  no-set p n k m l (setPayload h) = tells-off _ (tells-lt maxPayload (length (r .payload))) (n 3 l) h
-  no-set p n k m l (setBit i b h) = tells-off _ (tells-unsupported (r .attributes)) (n 4 l) (i, b, h)
-  no-set p n k m l (setRuntime h i) = tells-off _ (tells-needs-bs (r .attributes)) (n 5 l) (inl h, i)
-  no-set p n k m l (setAppend h i) = tells-off _ (tells-needs-bs (r .attributes)) (n 5 l) (inr h, i)
-  no-set p n k m l (setShort e w d h) =
+  no-set p n k m l (setUnsound h) = h (set-stores p n l)
+  no-set p n k m l (setBadRecord h) = h (entriesOf (s .policy)) (set-listed p n l)
+  no-set p n k m l (setBadName h) = tells-off _ (tells-not _ (tells-named (r .variable))) (n 2 l) h
+  no-set p n k m l (setLongPayload h) = tells-off _ (tells-lt maxPayload (length (r .payload))) (n 3 l) h
+  no-set p n k m l (setUnknownBit i b h) = tells-off _ (tells-unsupported (r .attributes)) (n 4 l) (i, b, h)
+  no-set p n k m l (setRuntimeWithoutBS h i) = tells-off _ (tells-needs-bs (r .attributes)) (n 5 l) (inl h, i)
+  no-set p n k m l (setAppendWithoutBS h i) = tells-off _ (tells-needs-bs (r .attributes)) (n 5 l) (inr h, i)
+  no-set p n k m l (setTooShort e w d h) =
       tells-off _ (tells-size e (length (r .payload))) (ap not (no-size _ (spoken-of e) (ground-off p n isSize (n 6 l) e w) (not-deletion p n d))) (inl h)
-  no-set p n k m l (setLong e w d h) =
+  no-set p n k m l (setTooLong e w d h) =
       tells-off _ (tells-size e (length (r .payload))) (ap not (no-size _ (spoken-of e) (ground-off p n isSize (n 6 l) e w) (not-deletion p n d))) (inr h)
-  no-set p n k m l (setMissing e i w d h j) =
+  no-set p n k m l (setBitMissing e i w d h j) =
       tells-off _ (tells-attributes e (r .attributes))
       (ap not (no-attribute _ (spoken-of e) (ground-off p n isSize (n 6 (omega arith)) e w) (ground-off p n isAttribute (n 7 l) e w) (not-deletion p n d))) (inl (i, h, j))
-  no-set p n k m l (setProhibited e i w d h j) =
+  no-set p n k m l (setBitProhibited e i w d h j) =
       tells-off _ (tells-attributes e (r .attributes))
       (ap not (no-attribute _ (spoken-of e) (ground-off p n isSize (n 6 (omega arith)) e w) (ground-off p n isAttribute (n 7 l) e w) (not-deletion p n d))) (inr (i, h, j))
   no-set p n k m l (setLocked e w h) =
@@ -511,15 +510,15 @@ module _ (s : State) (r : Request) where
   no-set p n k m l (setAbsent d h) =
       tells-off _ (tells-and _ _ (tells-deletion r) (tells-not _ (tells-exists s (r .variable) (set-stores p n (omega arith))))) (n 9 l) (d, λ w. h (w .0) (w .1))
   no-set p n k m l (setDeleted d) = tells-off _ (tells-deletion r) (n 10 l) d
-  no-set p n k m l (setOther q f h) = tells-off _ (tells-other s r (set-stores p n (omega arith))) (n 11 l) (q, f, h)
-  no-set p n k m l (setNothing h) = tells-off _ (tells-nothing r) (n 12 l) h
-  no-set p n k m l (setJoined q h f i) =
+  no-set p n k m l (setOtherAttributes q f h) = tells-off _ (tells-other s r (set-stores p n (omega arith))) (n 11 l) (q, f, h)
+  no-set p n k m l (setEmptyAppend h) = tells-off _ (tells-nothing r) (n 12 l) h
+  no-set p n k m l (setAppendTooLong q h f i) =
       tells-off _ (tells-joined s r (set-stores p n (omega arith)) (set-short p n (omega arith))) (n 13 l) (q, h, f, i)
-  no-set p n k m l (setFullNV rs qs h c t i) =
-      not-full s r (set-stores p n (omega arith)) true (s .nv) rs (first-records c) (distinct-left sameVariable rs qs (c .apart)) t
+  no-set p n k m l (setNoRoomNV rs qs h c t i) =
+      not-full s r (set-stores p n (omega arith)) true (s .nv) rs (first-records c) (distinct-first c) t
       (subst (λ b. hasRoom b (cond b (s .nv) (s .vol)) (r .variable) (recordAfter standing r) ≡ true) (tells-nv (r .attributes) .1 h) (not-false _ (n 14 l))) i
-  no-set p n k m l (setFullVol rs qs h c t i) =
-      not-full s r (set-stores p n (omega arith)) false (s .vol) qs (second-records c) (distinct-right sameVariable rs qs (c .apart)) t
+  no-set p n k m l (setNoRoomVol rs qs h c t i) =
+      not-full s r (set-stores p n (omega arith)) false (s .vol) qs (second-records c) (distinct-second c) t
       (subst (λ b. hasRoom b (cond b (s .nv) (s .vol)) (r .variable) (recordAfter standing r) ≡ true) (off-tells _ (tells-nv (r .attributes)) h) (not-false _ (n 14 l))) i
   no-set p n k m l setDone = true≢false (n 15 l)
 

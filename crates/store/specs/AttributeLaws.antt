@@ -3,7 +3,9 @@ use Prim.Native.Nat.{ℕ, zero, suc, _/_, _%_, _≤_}
 use mathlib.Core.Path.{_≡_, refl}
 use mathlib.Core.Bool.{Bool, true, false}
 use native.Mathlib.Omega.{arith}
-use borrow.Author.Tests.{le-leb, eq-eqb, ne-eqb, eqb-true, eqb-false}
+use mathlib.Core.Logic.{_↔_}
+use lib.Dec.{leb}
+use borrow.Author.Tests.{le-leb, leb-true, eq-eqb, ne-eqb, eqb-true, eqb-false}
 use Rattle.slices.specs.TestLaws.{and-left, and-right, and-intro}
 use Rattle.slices.specs.Bytes.{Bytes}
 use Rattle.store.specs.Record.{hasNV, hasBS, attributesOf, attributesOk, recordOk}
@@ -47,3 +49,21 @@ attributesOk-stored a h = go (hasNV a) refl
     go false e =
         let z : a % 2 ≡ 0 = bit (a % 2) (eqb-false (a % 2) 1 e) (omega arith) in
         and-intro _ _ (le-leb (a % 8) 7 (omega arith)) (and-intro _ _ b (eq-eqb (a % 8 % 2) 0 (omega arith)))
+
+-- WHICH ATTRIBUTES A RECORD MAY HAVE: only bits 1, 2 and 4, BS among them, NV by its store
+allowed-attributes : (nonVolatile : Bool) (a : ℕ) → attributesOk nonVolatile a ≡ true → (a ≤ 7) × (hasBS a ≡ true)
+unfolding attributesOk
+allowed-attributes true a e = (leb-true a 7 (and-left _ _ e), and-left _ _ (and-right (leb a 7) _ e))
+allowed-attributes false a e = (leb-true a 7 (and-left _ _ e), and-left _ _ (and-right (leb a 7) _ e))
+
+attributes-allowed : (nonVolatile : Bool) (a : ℕ) → a ≤ 7 → hasBS a ≡ true → hasNV a ≡ nonVolatile → attributesOk nonVolatile a ≡ true
+unfolding attributesOk
+attributes-allowed true a m b n = and-intro _ _ (le-leb a 7 m) (and-intro _ _ b n)
+attributes-allowed false a m b n =
+    let z = bit (a % 2) (eqb-false (a % 2) 1 n) (omega arith) in and-intro _ _ (le-leb a 7 m) (and-intro _ _ b (eq-eqb (a % 2) 0 z))
+
+pub attributesOk-exactly : (nonVolatile : Bool) (a : ℕ) → (attributesOk nonVolatile a ≡ true) ↔ ((a ≤ 7) × (hasBS a ≡ true) × (hasNV a ≡ nonVolatile))
+attributesOk-exactly nonVolatile a = (
+  (λ e. let w = allowed-attributes nonVolatile a e in (w .0, w .1, attributesOk-nv nonVolatile a e)),
+  λ w. attributes-allowed nonVolatile a (w .0) (w .1) (w .2),
+)

@@ -1,6 +1,6 @@
 -- Laws of one record: what its test tells, that the test looks at its own bytes only, and that it is one with the encoding of its fields.
 -- Assumes nothing.
-use Prim.Native.Nat.{ℕ, zero, suc, _+_, _≤_, _<_}
+use Prim.Native.Nat.{ℕ, zero, suc, _+_, _%_, _≤_, _<_}
 use mathlib.Core.Path.{_≡_, refl, sym, ap, _∙_}
 use mathlib.Core.List.{[], _∷_, _++_}
 use mathlib.Core.Bool.{Bool, true, false}
@@ -17,6 +17,10 @@ use Rattle.slices.specs.Bytes.{Bytes, pairwise, same}
 use Rattle.slices.specs.NumberLaws.{le32-take}
 use Rattle.store.specs.Record.{attributesOf, nameSize, dataSize, recordSize, attributesOk, recordMark, headerOk, bodyOk, recordOk, recordLength}
 use Rattle.store.specs.Parts.{HeaderFits}
+
+-- HOW LONG A RECORD IS: header, name and payload, up to the next multiple of 4
+pub record-size : (n d : ℕ) → (recordSize n d % 4 ≡ 0) × (32 + n + d ≤ recordSize n d) × (recordSize n d < 36 + n + d)
+record-size n d = (omega arith, omega arith, omega arith)
 
 -- ---- the header
 pub mark-is : (r : Bytes) → 4 ≤ length r
