@@ -1,3 +1,4 @@
 pub mod History
+pub mod StandingOrder
 pub mod HistoryLaws
 pub mod AnyMoment
