@@ -3,4 +3,3 @@ pub mod OrderLaws
 pub mod MachineLaws
 pub mod UnambiguousLaws
 pub mod Demand3
-pub mod Example

@@ -1,0 +1,1 @@
+// A history with rebuilds, computed by the rules. Definitions and laws only.
