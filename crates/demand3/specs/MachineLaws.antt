@@ -40,20 +40,8 @@ use Rattle.history.specs.History.Outcome.{granted, refused, cut}
 use Rattle.history.specs.History.Kind.{starts, registers, dumps, keeps}
 use Rattle.history.specs.HistoryLaws.{granted-refused, SameChoice, Laws}
 use Rattle.demand3.specs.Machine.{stateIn, answerIn, outcomeBy, kindOf, restartOf, closingOf, machine}
-use Rattle.demand3.specs.OrderLaws.{
-  flat-same,
-  flat-length,
-  all-lists,
-  lists-all,
-  length-flat,
-  contains-perm,
-  entries-perm,
-  entries-left,
-  entries-new,
-  over-pack,
-  overwrite-perm,
-  overwrite-take,
-}
+use Rattle.demand3.specs.OrderLaws.{flat-same, flat-length, length-flat, contains-perm, entries-perm, entries-left, entries-new, over-pack, overwrite-perm, overwrite-take}
+use Rattle.rules.specs.FoundLaws.{all-lists, lists-all}
 
 -- ---- another order of the entries: a state of the rules with the record of the entries o
 abbrev withEntries : State → List Bytes → State

@@ -14,12 +14,13 @@ use Rattle.lists.specs.Lists.{Pairs, any, over}
 use Rattle.lists.specs.ListsLaws.{all-perm, pairs-perm, pairs-middle, any-perm, any-none, none-any, length-perm, flat-perm, over-over}
 use Rattle.slices.specs.Bytes.{Bytes, overwrite, padded}
 use Rattle.slices.specs.Chunks.{flat, packed, contains, distinct}
-use Rattle.slices.specs.ChunksLaws.{All, nil, more, flat-append}
+use Rattle.slices.specs.ChunksLaws.{flat-append}
 use Rattle.slices.specs.ItemsLaws.{all-left, distinct-apart, distinct-cons, distinct-left}
 use Rattle.entry.specs.Entry.{sameTarget}
 use Rattle.entry.specs.EntryLaws.{sameTarget-sym}
 use Rattle.policy.specs.Policy.{packPolicy}
 use Rattle.policy.specs.PolicyLaws.{WellFormed, Entries}
+use Rattle.rules.specs.FoundLaws.{all-lists, lists-all}
 
 -- ---- the same lists, said twice
 
@@ -30,14 +31,6 @@ flat-same (e ∷ es) = ap (_++_ e) (flat-same es)
 
 pub flat-length : (es fs : List Bytes) → length (flat (es ++ fs)) ≡ length (flat es) + length (flat fs)
 flat-length es fs = rw (flat-append es fs) (length-append (flat es) (flat fs))
-
-pub all-lists : {P : Bytes → Type 0} (es : List Bytes) → All P es → lists.All P es
-all-lists [] nil = tt
-all-lists (e ∷ es) (more h a) = (h, all-lists es a)
-
-pub lists-all : {P : Bytes → Type 0} (es : List Bytes) → lists.All P es → All P es
-lists-all [] h = nil
-lists-all (e ∷ es) h = more (h .0) (lists-all es (h .1))
 
 contains-any : (p : Bytes → Bool) (es : List Bytes) → contains p es ≡ any p es
 unfolding contains
