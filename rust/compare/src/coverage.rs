@@ -2,7 +2,7 @@
 //! and the inputs that the comparison promises to try.
 
 use crate::call::Ground;
-use crate::damage;
+use crate::{damage, inputs, steps};
 use reference::RegisterGround as R;
 use reference::SetGround as S;
 use std::fmt;
@@ -62,45 +62,37 @@ const ANSWERS: [(&str, Status, Ground, &str); 50] = [
     ("rebuild", Status::Success, Ground::Status, "every call of it"),
 ];
 
-/// The groups of inputs, with what is counted in each.
-const INPUTS: [(Input, &str, &[&str]); 8] = [
-    (
-        Input::RequestName,
-        "name of a request",
-        &["0 units", "1 unit", "2 to 63 units", "64 units", "65 units or more", "odd length", "zero unit", "with '#'"],
-    ),
-    (
-        Input::Trigger,
-        "trigger of the chosen entry",
-        &["absent", "one byte, Value", "one byte, another", "two bytes", "more bytes"],
-    ),
-    (
-        Input::StoreLength,
-        "length of a store",
-        &["0", "40", "43", "44", "32,768", "over 32,768", "another", "another, full of records"],
-    ),
-    (Input::Entry, "damage to an entry", &damage::ENTRY),
-    (Input::Stores, "damage to the stores", &damage::STORES),
-    (Input::Policy, "damage to the policy record", &damage::POLICY),
-    (
-        Input::Rebuild,
-        "rebuild",
-        &["in order, its own dump", "in order, older dump", "another order, its own dump", "another order, older dump"],
-    ),
-    (
-        Input::AfterReorder,
-        "calls while the order differs",
-        &["set", "read", "dump", "register", "lock or disable", "start"],
-    ),
-];
-
 /// A group of inputs.
 #[derive(Clone, Copy, PartialEq, Eq, Debug)]
 #[allow(missing_docs)]
 pub enum Input {
+    Switches,
+    Start,
+    Registration,
+    EntryName,
+    TriggerName,
+    DumpBuffer,
     RequestName,
+    RequestBit,
+    Payload,
+    Choice,
+    UnderSign,
+    MinSize,
+    MaxSize,
+    AgainstSizes,
+    Required,
+    Prohibited,
+    KnownBit,
+    Lock,
     Trigger,
+    Deletion,
+    StepsAtOnce,
+    AppendLength,
+    Room,
     StoreLength,
+    NameSize,
+    DataSize,
+    Unsound,
     Entry,
     Stores,
     Policy,
@@ -108,17 +100,124 @@ pub enum Input {
     AfterReorder,
 }
 
+/// Every group of inputs with its title and what is counted in it, in the order of [`Input`].
+fn groups() -> Vec<Group> {
+    use Input::*;
+    vec![
+        Group::new(Switches, "switches (enabled, locked, disabling allowed)", inputs::switch_labels()),
+        Group::new(Start, "start", inputs::START),
+        Group::new(Registration, "registration", inputs::REGISTRATION),
+        Group::new(EntryName, "name of an entry to register", inputs::PACKED_NAME),
+        Group::new(TriggerName, "trigger's name in an entry to register", inputs::PACKED_NAME),
+        Group::new(DumpBuffer, "buffer of a dump", inputs::DUMP_BUFFER),
+        Group::new(RequestName, "name of a request", inputs::REQUEST_NAME),
+        Group::new(RequestBit, "attributes of a set: this bit alone, or with BS", bits()),
+        Group::new(Payload, "length of a set's payload", inputs::PAYLOAD),
+        Group::new(Choice, "entries that target the variable", inputs::CHOICE),
+        Group::new(UnderSign, "unit of a set's name under an entry's '#'", inputs::UNDER_SIGN),
+        Group::new(MinSize, "MinSize of the chosen entry", inputs::size_labels()),
+        Group::new(MaxSize, "MaxSize of the chosen entry", inputs::size_labels()),
+        Group::new(AgainstSizes, "payload against the chosen entry", inputs::AGAINST_SIZES),
+        Group::new(Required, "AttributesMustHave of the chosen entry is this bit, which the set lacks", bits_but_bs()),
+        Group::new(
+            Prohibited,
+            "AttributesCantHave of the chosen entry is this bit, and the set is without it",
+            bits_but_bs(),
+        ),
+        Group::new(KnownBit, "the chosen entry names this bit alone, and the set has it", inputs::known_bit_labels()),
+        Group::new(Lock, "lock of the chosen entry, and where the variable is", inputs::lock_labels()),
+        Group::new(Trigger, "trigger of the chosen entry", inputs::TRIGGER),
+        Group::new(Deletion, "deletion or empty append, and where the variable is", inputs::deletion_labels()),
+        Group::new(StepsAtOnce, "steps of set: the one that decided, and a later one that holds too", steps::pairs()),
+        Group::new(AppendLength, "length that an append would make", inputs::APPEND_LENGTH),
+        Group::new(Room, "room in the store, by padding", inputs::room_labels()),
+        Group::new(StoreLength, "length of a store", inputs::STORE_LENGTH),
+        Group::new(NameSize, "NameSize of a stored record", inputs::name_size_labels()),
+        Group::new(DataSize, "DataSize of a stored record", inputs::data_size_labels()),
+        Group::new(Unsound, "lent something unsound, with another fault besides", inputs::UNSOUND),
+        Group::new(Entry, "damage to an entry", damage::ENTRY),
+        Group::new(Stores, "damage to the stores", damage::STORES),
+        Group::new(Policy, "damage to the policy record", damage::POLICY),
+        Group::new(
+            Rebuild,
+            "rebuild",
+            [
+                "in order, its own dump",
+                "in order, older dump",
+                "another order, its own dump",
+                "another order, older dump",
+            ],
+        ),
+        Group::new(
+            AfterReorder,
+            "calls while the order differs",
+            ["set", "read", "dump", "register", "lock or disable", "start"],
+        ),
+    ]
+}
+
+/// The 32 attribute bits.
+fn bits() -> impl Iterator<Item = String> {
+    (0..32).map(|bit| format!("{:#x}", 1_u32 << bit))
+}
+
+/// The attribute bits but BS, which every set that is asked for attributes has.
+fn bits_but_bs() -> impl Iterator<Item = String> {
+    bits().enumerate().filter(|(bit, _)| *bit != 1).map(|(_, label)| label)
+}
+
+/// A group of inputs and its counts.
+#[derive(Clone, Debug)]
+struct Group {
+    input: Input,
+    title: &'static str,
+    labels: Vec<String>,
+    counts: Vec<u64>,
+}
+
+impl Group {
+    fn new<T: ToString>(input: Input, title: &'static str, labels: impl IntoIterator<Item = T>) -> Group {
+        let labels: Vec<String> = labels.into_iter().map(|label| label.to_string()).collect();
+        let counts = vec![0; labels.len()];
+        Group { input, title, labels, counts }
+    }
+
+    fn rows(&self) -> impl Iterator<Item = (&str, u64)> {
+        self.labels.iter().map(String::as_str).zip(self.counts.iter().copied())
+    }
+}
+
+impl fmt::Display for Group {
+    /// The title, and then as many labels with their counts to a line as there is room for.
+    fn fmt(&self, out: &mut fmt::Formatter) -> fmt::Result {
+        const LINE: usize = 69;
+        const COUNT: usize = 8;
+        let widest = self.labels.iter().map(|label| label.chars().count()).max().unwrap_or(0);
+        let columns = (LINE / (widest + COUNT + 2)).max(1);
+        let width = LINE / columns - COUNT - 2;
+        write!(out, "\n{}", self.title)?;
+        for (place, (label, count)) in self.rows().enumerate() {
+            let line_end = if place % columns == 0 { "\n" } else { "" };
+            write!(out, "{line_end}  {label:<width$}{count:>COUNT$}")?;
+        }
+        writeln!(out)
+    }
+}
+
 /// The counts of a run.
 #[derive(Clone, Debug)]
 pub struct Coverage {
     answers: [u64; ANSWERS.len()],
-    inputs: Vec<Vec<u64>>,
+    groups: Vec<Group>,
+    /// Which units have stood under a '#'.
+    under_sign: Vec<bool>,
 }
 
 impl Default for Coverage {
     fn default() -> Coverage {
-        let inputs = INPUTS.iter().map(|(_, _, labels)| vec![0; labels.len()]).collect();
-        Coverage { answers: [0; ANSWERS.len()], inputs }
+        let groups = groups();
+        assert!(groups.iter().enumerate().all(|(place, group)| group.input as usize == place));
+        Coverage { answers: [0; ANSWERS.len()], groups, under_sign: vec![false; 1 << 16] }
     }
 }
 
@@ -131,18 +230,30 @@ impl Coverage {
 
     /// Counts an input.
     pub fn input(&mut self, input: Input, label: usize) {
-        self.inputs[input as usize][label] += 1;
+        self.groups[input as usize].counts[label] += 1;
+    }
+
+    /// Notes a unit that stood under a '#'.
+    pub fn unit_under_sign(&mut self, unit: u16) {
+        self.under_sign[usize::from(unit)] = true;
+    }
+
+    /// How many of the 65,536 units have not stood under a '#'.
+    fn units_missed(&self) -> usize {
+        self.under_sign.iter().filter(|tried| !**tried).count()
     }
 
     /// What can be hit and was not.
     pub fn missed(&self) -> Vec<String> {
         let answers = ANSWERS.iter().zip(self.answers);
         let answers = answers.filter(|(_, count)| *count == 0).map(|(row, _)| format!("{} {} {}", row.0, row.1, row.3));
-        let inputs = INPUTS.iter().zip(&self.inputs).flat_map(|((_, title, labels), counts)| {
-            let missed = labels.iter().zip(counts).filter(|(_, count)| **count == 0);
-            missed.map(move |(label, _)| format!("{title}: {label}"))
+        let inputs = self.groups.iter().flat_map(|group| {
+            let missed = group.rows().filter(|(_, count)| *count == 0);
+            missed.map(|(label, _)| format!("{}: {label}", group.title))
         });
-        answers.chain(inputs).collect()
+        let units = Some(self.units_missed()).filter(|count| *count > 0);
+        let units = units.map(|count| format!("unit of a set's name under an entry's '#': {count} of the 65536"));
+        answers.chain(inputs).chain(units).collect()
     }
 }
 
@@ -152,12 +263,9 @@ impl fmt::Display for Coverage {
         for ((call, status, _, words), count) in ANSWERS.iter().zip(self.answers) {
             writeln!(out, "{call:<9} {status:<18} {words:<32} {count:>9}")?;
         }
-        for ((_, title, labels), counts) in INPUTS.iter().zip(&self.inputs) {
-            writeln!(out, "\n{title}")?;
-            for (label, count) in labels.iter().zip(counts) {
-                writeln!(out, "  {label:<59} {count:>9}")?;
-            }
+        for group in &self.groups {
+            write!(out, "{group}")?;
         }
-        Ok(())
+        writeln!(out, "\ndifferent units under '#'\n  {} of 65536", self.under_sign.len() - self.units_missed())
     }
 }

@@ -1,53 +1,39 @@
 //! Random histories, each call made by the library and by the reference, everything compared.
 //!
-//! After every call the answers and all lent bytes of both are equal, a refused call has changed
-//! nothing, and no byte outside of what was lent has changed. A history that began with a power-on
-//! is also run by the library a second time without its rebuilds: every answer and every byte of
-//! the stores and switches must be the same, and the policy record and granted dumps may differ only
-//! in the order of the entries, and only after a rebuild in another order (document 01, "Histories
-//! and rebuilds").
+//! A history that began with a power-on is also run by the library a second time without its
+//! rebuilds: every answer and every byte of the stores and switches must be the same, and the policy
+//! record and granted dumps may differ only in the order of the entries, and only after a rebuild in
+//! another order (document 01, "Histories and rebuilds").
 
-use crate::call::{Answer, Call, Ground, Values, by_library, by_reference};
-use crate::coverage::{Coverage, Input};
-use crate::make::Pool;
+use crate::call::{Answer, Call, Ground, Values, by_library};
+use crate::comparison::{Comparison, Sides, check};
+use crate::coverage::Input;
+use crate::make::{Pool, packed};
 use crate::random::Random;
 use crate::state::State;
-use crate::{damage, inputs, make};
+use crate::{damage, make};
 use reference::{Entry, Policy};
-use std::fmt::{self, Display};
 use varpolicy::{MAX_STORE_BYTES, POLICY_BYTES, Status, Switches};
 
-/// Compares for at least `calls` calls and tells what was hit, or the first difference in words.
-pub fn run(calls: u64, seed: u64) -> Result<Coverage, String> {
-    let mut run = Run { random: Random::new(seed), pool: Pool::default(), coverage: Coverage::default(), calls: 0 };
+/// Adds at least `calls` calls to a comparison, or tells the first difference in words.
+pub fn run(comparison: &mut Comparison, calls: u64, seed: u64) -> Result<(), String> {
+    let enough = comparison.calls + calls;
+    let mut run = Run { random: Random::new(seed), pool: Pool::default(), comparison };
     let mut number = 0;
-    while run.calls < calls {
+    while run.comparison.calls < enough {
         number += 1;
         run.pool = Pool::new(&mut run.random);
         let outcome = if run.random.one_in(5) { run.unrelated_calls() } else { run.history() };
-        outcome.map_err(|what| format!("seed {seed}, history {number}, call {}: {what}", run.calls))?;
+        outcome.map_err(|what| format!("seed {seed}, history {number}, {what}"))?;
     }
-    Ok(run.coverage)
+    Ok(())
 }
 
-struct Run {
+struct Run<'a> {
     random: Random,
     /// The names that the history at hand uses most.
     pool: Pool,
-    coverage: Coverage,
-    calls: u64,
-}
-
-/// The states that the two implementations keep. They are equal between calls.
-struct Sides {
-    library: State,
-    reference: State,
-}
-
-impl Sides {
-    fn new(state: State) -> Sides {
-        Sides { library: state.clone(), reference: state }
-    }
+    comparison: &'a mut Comparison,
 }
 
 /// A history after its power-on.
@@ -63,53 +49,7 @@ struct History {
     complete_dump: Option<Vec<Vec<u8>>>,
 }
 
-/// A policy record of these entries.
-fn packed(entries: &[Vec<u8>]) -> Vec<u8> {
-    let mut record = entries.concat();
-    record.resize(POLICY_BYTES, 0);
-    record
-}
-
-fn check(holds: bool, what: impl Display) -> Result<(), String> {
-    if holds { Ok(()) } else { Err(what.to_string()) }
-}
-
-/// A difference, written only when there is one.
-struct Difference<'a> {
-    what: &'a str,
-    call: &'a Call,
-    answer: &'a Answer,
-    expected: &'a Answer,
-}
-
-impl Display for Difference<'_> {
-    fn fmt(&self, out: &mut fmt::Formatter) -> fmt::Result {
-        let Difference { what, call, answer, expected } = self;
-        write!(out, "{what}\ncall {call:?}\nlibrary {answer:?}\nreference {expected:?}")
-    }
-}
-
-impl Run {
-    /// Makes a call on both sides and compares everything.
-    fn exchange(&mut self, sides: &mut Sides, call: &Call) -> Result<Answer, String> {
-        self.calls += 1;
-        inputs::count(&mut self.coverage, &sides.library, call);
-        let before = sides.library.clone();
-        let answer = by_library(&mut sides.library, call);
-        let (expected, ground) = by_reference(&mut sides.reference, call);
-        let describe = |what| Difference { what, call, answer: &answer, expected: &expected };
-        check(answer == expected, describe("the answers differ"))?;
-        if let Some(difference) = sides.library.difference(&sides.reference) {
-            return Err(describe(&difference).to_string());
-        }
-        check(sides.library.is_intact(), describe("a byte outside of what was lent has changed"))?;
-        if answer.status != Status::Success {
-            check(sides.library == before, describe("a refused call has changed something"))?;
-        }
-        check(self.coverage.answer(call.name(), answer.status, ground), describe("no such answer is possible"))?;
-        Ok(answer)
-    }
-
+impl Run<'_> {
     /// A history from power-on, with rebuilds, and with calls on damaged copies of its state.
     fn history(&mut self) -> Result<(), String> {
         let (nv, volatile) = self.lent_stores();
@@ -117,7 +57,7 @@ impl Run {
         let old_volatile = if self.random.one_in(2) { volatile } else { self.random.bytes(volatile.len()) };
         let mut sides = Sides::new(State::new(&nv, &old_volatile, &old_policy));
         let power_on = Call::PowerOn { disabling_allowed: !self.random.one_in(4) };
-        let answer = self.exchange(&mut sides, &power_on)?;
+        let answer = self.comparison.exchange(&mut sides, &power_on)?;
         check(answer.status == Status::Success, "power-on over a sound store was refused")?;
         let straight = sides.library.clone();
         let mut history =
@@ -164,7 +104,7 @@ impl Run {
                 let needed = damage::entry_sizes(&state.policy).iter().sum();
                 let call = self.call(needed);
                 let mut sides = Sides::new(state);
-                self.exchange(&mut sides, &call)?;
+                self.comparison.exchange(&mut sides, &call)?;
                 state = sides.library;
             }
         }
@@ -192,7 +132,7 @@ impl Run {
             56..=69 => self.pool.read(random),
             70..=85 if random.one_in(4) => {
                 let (kind, entry) = damage::entry(random, &self.pool);
-                self.coverage.input(Input::Entry, kind);
+                self.comparison.coverage.input(Input::Entry, kind);
                 Call::Register { entry }
             }
             70..=85 => Call::Register { entry: self.pool.entry_fields(random).pack() },
@@ -213,10 +153,10 @@ impl Run {
         let mut policy = state.policy.to_vec();
         if random.one_in(3) {
             let kind = damage::policy(random, &self.pool, &mut policy);
-            self.coverage.input(Input::Policy, kind);
+            self.comparison.coverage.input(Input::Policy, kind);
         } else {
             let kind = damage::stores(random, &mut nv, &mut volatile);
-            self.coverage.input(Input::Stores, kind);
+            self.comparison.coverage.input(Input::Stores, kind);
         }
         let mut damaged = State::new(&nv, &volatile, &policy);
         damaged.switches = state.switches;
@@ -225,7 +165,7 @@ impl Run {
             1 => Call::Restart { disabling_allowed: true },
             _ => self.call(damage::entry_sizes(&policy).iter().sum()),
         };
-        self.exchange(&mut Sides::new(damaged), &call).map(|_| ())
+        self.comparison.exchange(&mut Sides::new(damaged), &call).map(|_| ())
     }
 
     /// Registers entries until the engine holds no more, by number or by length.
@@ -243,7 +183,7 @@ impl Run {
         if history.order != history.straight_order {
             self.count_after_reorder(call);
         }
-        let answer = self.exchange(&mut history.sides, call)?;
+        let answer = self.comparison.exchange(&mut history.sides, call)?;
         let straight_answer = by_library(&mut history.straight, call);
         if answer.status == Status::Success {
             match call {
@@ -294,7 +234,7 @@ impl Run {
             check(history.sides.library == before, "a rebuild in order has changed the state")?;
         }
         history.order = entries;
-        self.coverage.input(Input::Rebuild, usize::from(is_older) + if reorder { 2 } else { 0 });
+        self.comparison.coverage.input(Input::Rebuild, usize::from(is_older) + if reorder { 2 } else { 0 });
         compare_states(history)
     }
 
@@ -318,10 +258,10 @@ impl Run {
     }
 
     fn rebuild_call(&mut self, history: &mut History, call: &Call) -> Result<Answer, String> {
-        let answer = self.exchange(&mut history.sides, call)?;
+        let answer = self.comparison.exchange(&mut history.sides, call)?;
         let refused = format_args!("{} of a rebuild answered {}", call.name(), answer.status);
         check(answer.status == Status::Success, refused)?;
-        self.coverage.answer("rebuild", Status::Success, Ground::Status);
+        self.comparison.coverage.answer("rebuild", Status::Success, Ground::Status);
         Ok(answer)
     }
 
@@ -334,7 +274,7 @@ impl Run {
             Call::Lock | Call::Disable | Call::Query => 4,
             Call::PowerOn { .. } | Call::Restart { .. } => 5,
         };
-        self.coverage.input(Input::AfterReorder, label);
+        self.comparison.coverage.input(Input::AfterReorder, label);
     }
 }
 

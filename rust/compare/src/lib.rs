@@ -1,7 +1,9 @@
 //! The proved library and the independent implementation ([`mod@reference`]) side by side: one kind of
-//! call and of answer for both, random histories, and what is counted and checked on the way.
+//! call and of answer for both, a sweep of boundaries, random histories, and what is counted and checked
+//! on the way.
 
 pub mod call;
+pub mod comparison;
 pub mod coverage;
 pub mod damage;
 pub mod drive;
@@ -9,3 +11,18 @@ pub mod inputs;
 pub mod make;
 pub mod random;
 pub mod state;
+pub mod steps;
+pub mod sweep;
+
+use comparison::Comparison;
+
+/// Compares the calls of the sweep, then at least `calls` random ones. Tells what was hit, or the first
+/// difference in words, which begin with the number of the call.
+pub fn run(calls: u64, seed: u64) -> Result<Comparison, String> {
+    let mut comparison = Comparison::default();
+    let outcome = sweep::run(&mut comparison).and_then(|()| drive::run(&mut comparison, calls, seed));
+    match outcome {
+        Ok(()) => Ok(comparison),
+        Err(difference) => Err(format!("call {}, {difference}", comparison.calls)),
+    }
+}

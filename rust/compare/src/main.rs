@@ -1,5 +1,6 @@
-//! `compare [CALLS [SEED]]`: compares the library with the reference and prints what was hit.
-//! Fails on the first difference, and if something that can be hit was not.
+//! `compare [CALLS [SEED]]`: compares the library with the reference, first over the sweep and then over
+//! CALLS random calls, and prints what was hit. Fails on the first difference, and if something that can
+//! be hit was not.
 
 use std::process::ExitCode;
 use std::time::Instant;
@@ -17,18 +18,19 @@ fn main() -> ExitCode {
         }
     };
     let start = Instant::now();
-    let coverage = match compare::drive::run(calls, seed) {
-        Ok(coverage) => coverage,
+    let comparison = match compare::run(calls, seed) {
+        Ok(comparison) => comparison,
         Err(difference) => {
             eprintln!("{difference}");
             return ExitCode::FAILURE;
         }
     };
-    print!("{coverage}");
-    let missed = coverage.missed();
+    print!("{}", comparison.coverage);
+    let missed = comparison.coverage.missed();
     for row in &missed {
         eprintln!("not hit: {row}");
     }
-    println!("\n{calls} calls, seed {seed}, {:.1} s: library and reference agree", start.elapsed().as_secs_f64());
+    let seconds = start.elapsed().as_secs_f64();
+    println!("\n{} calls, seed {seed}, {seconds:.1} s: library and reference agree", comparison.calls);
     if missed.is_empty() { ExitCode::SUCCESS } else { ExitCode::FAILURE }
 }

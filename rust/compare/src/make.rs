@@ -3,7 +3,7 @@
 use crate::call::Call;
 use crate::random::Random;
 use std::collections::BTreeSet;
-use varpolicy::{MAX_STORE_BYTES, Namespace};
+use varpolicy::{MAX_STORE_BYTES, Namespace, POLICY_BYTES};
 
 /// The namespace that document 01 calls G.
 pub const G: Namespace =
@@ -135,6 +135,13 @@ pub fn entry_of_size(size: usize, number: usize) -> Vec<u8> {
     }
     let trigger_units = (size - 174 - 20) / 2;
     fields.with_trigger(G, &vec![0x54; trigger_units], 0).pack()
+}
+
+/// A policy record of these entries.
+pub fn packed(entries: &[Vec<u8>]) -> Vec<u8> {
+    let mut record = entries.concat();
+    record.resize(POLICY_BYTES, 0);
+    record
 }
 
 /// The bytes of a record with its padding.

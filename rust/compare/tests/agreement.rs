@@ -2,6 +2,6 @@
 
 #[test]
 fn library_and_reference_agree() {
-    let coverage = compare::drive::run(40_000, 7).unwrap();
-    assert_eq!(coverage.missed(), Vec::<String>::new());
+    let comparison = compare::run(40_000, 7).unwrap();
+    assert_eq!(comparison.coverage.missed(), Vec::<String>::new());
 }

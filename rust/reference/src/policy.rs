@@ -3,6 +3,8 @@
 use crate::entry::Entry;
 use crate::{MAX_ENTRIES, Namespace, POLICY_BYTES};
 
+const ZEROS: &[u8; POLICY_BYTES] = &[0; POLICY_BYTES];
+
 /// The entries of an engine, in the order registered.
 #[derive(Clone, PartialEq, Eq, Debug, Default)]
 pub struct Policy {
@@ -19,7 +21,7 @@ impl Policy {
         }
         let mut policy = Policy::default();
         let mut rest = record;
-        while rest.iter().any(|byte| *byte != 0) {
+        while *rest != ZEROS[..rest.len()] {
             let size = u16::from_le_bytes(rest.get(4..6)?.try_into().ok()?);
             let (bytes, behind) = rest.split_at_checked(size.into())?;
             let entry = Entry::decode(bytes)?;

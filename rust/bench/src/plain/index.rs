@@ -22,7 +22,7 @@ pub trait Index<'a>: Seen<'a> {
 }
 
 /// The key of a record.
-fn key<'a>(bytes: [&'a [u8]; 2], place: Place, key_len: usize) -> &'a [u8] {
+fn key(bytes: [&[u8]; 2], place: Place, key_len: usize) -> &[u8] {
     let start = usize::from(place.at) + 16;
     &bytes[usize::from(place.non_volatile)][start..start + key_len]
 }

@@ -1,0 +1,108 @@
+//! The calls on the switches, starts, and dumps.
+
+use super::{ERASED, Outcome, Sweep, delete, engine, entry, locking, one_of_each_type, read, register, set};
+use super::{full, store};
+use crate::call::Call;
+use crate::make::{EntryFields, G, entry_of_size, packed, record, units};
+use crate::state::State;
+use std::slice::from_ref;
+use varpolicy::{MAX_STORE_BYTES, POLICY_BYTES, Switches};
+
+pub(super) fn run(sweep: &mut Sweep) -> Outcome {
+    switches(sweep)?;
+    starts(sweep)?;
+    dumps(sweep)
+}
+
+/// Every setting of the switches.
+fn settings() -> impl Iterator<Item = Switches> {
+    (0..8).map(|bits| Switches { enabled: bits & 4 != 0, locked: bits & 2 != 0, disabling_allowed: bits & 1 != 0 })
+}
+
+/// Every call under every setting of the switches.
+fn switches(sweep: &mut Sweep) -> Outcome {
+    for switches in settings() {
+        let nv = store(128, &[record(&G, &units("A"), 3, &[1])]);
+        let entries = [locking(G, &units("A"))];
+        let state = State { switches, ..super::state(&nv, ERASED, &entries) };
+        let calls = [
+            Call::PowerOn { disabling_allowed: true },
+            Call::PowerOn { disabling_allowed: false },
+            Call::Restart { disabling_allowed: true },
+            Call::Restart { disabling_allowed: false },
+            register(entry("B").pack()),
+            register(entry("A").pack()),
+            register(vec![0; 44]),
+            Call::Dump { buffer: vec![0; 100] },
+            Call::Lock,
+            Call::Disable,
+            Call::Query,
+            read(&units("A")),
+            delete(&units("A")),
+            set(&units("A"), 3, vec![2]),
+            set(&units("B"), 2, vec![2]),
+        ];
+        sweep.each(&state, calls.clone())?;
+        for first in [Call::Lock, Call::Disable] {
+            sweep.history(state.clone(), [vec![first], calls[4..].to_vec()].concat())?;
+        }
+    }
+    Ok(())
+}
+
+/// Power-on and restart over every pair of stores, sound and not, and every policy record.
+fn starts(sweep: &mut Sweep) -> Outcome {
+    let variable = |attributes: u32| record(&G, &units("A"), attributes, &[1]);
+    let long = |len: usize| vec![0xFF; len];
+    let nv = [
+        store(100, &[variable(3)]),
+        full(&[variable(7)]),
+        Vec::new(),
+        store(100, &[variable(2)]),
+        store(100, &[variable(3), variable(3)]),
+        vec![0; 40],
+        long(MAX_STORE_BYTES - 1),
+        long(MAX_STORE_BYTES),
+        long(MAX_STORE_BYTES + 1),
+    ];
+    let other = record(&G, &units("B"), 2, &[1]);
+    let volatile = [
+        store(100, from_ref(&other)),
+        store(100, &[variable(2)]),
+        store(100, &[variable(3)]),
+        store(100, &[other.clone(), other]),
+        Vec::new(),
+        vec![0x55; 41],
+        long(MAX_STORE_BYTES),
+        long(MAX_STORE_BYTES + 1),
+    ];
+    let entries = packed(&one_of_each_type());
+    let policies =
+        [entries, vec![0x77; POLICY_BYTES], vec![0; POLICY_BYTES - 1], vec![0; POLICY_BYTES + 1], Vec::new()];
+    for nv in &nv {
+        for volatile in &volatile {
+            let heavy = nv.len() + volatile.len() > MAX_STORE_BYTES;
+            for policy in policies.iter().take(if heavy { 2 } else { policies.len() }) {
+                for disabling_allowed in [false, true] {
+                    let start = [Call::PowerOn { disabling_allowed }, Call::Restart { disabling_allowed }];
+                    sweep.each(&State::new(nv, volatile, policy), start)?;
+                }
+            }
+        }
+    }
+    Ok(())
+}
+
+/// Dumps into buffers around the needed length.
+fn dumps(sweep: &mut Sweep) -> Outcome {
+    let whole: Vec<Vec<u8>> = (0..64).map(|number| entry_of_size(128, number)).collect();
+    let reserved = EntryFields { reserved: [1, 2, 3], ..entry("A") }.pack();
+    let mut triggered = entry("C").with_trigger(G, &units("T"), 0);
+    triggered.trigger[17] = 0x99;
+    for entries in [Vec::new(), vec![reserved, triggered.pack()], one_of_each_type().to_vec(), whole] {
+        let needed = entries.concat().len();
+        let lengths = [0, 1, needed.saturating_sub(1), needed, needed + 1, needed + 100, 2 * POLICY_BYTES];
+        sweep.each(&engine(&entries), lengths.map(|len| Call::Dump { buffer: vec![0x5A; len] }))?;
+    }
+    Ok(())
+}
