@@ -1,0 +1,366 @@
+//! Every call but set.
+
+use super::{Edit, edit};
+
+const REFUSED: &str = "Switches { enabled: true, locked: true, disabling_allowed: false });";
+const POWER_ON: &str = "if !sound || volatile.len() > MAX_STORE || policy.len() != POLICY_BYTES {";
+const RESTART: &str = "if Pair::decode(non_volatile, volatile).is_none() || policy.len() != POLICY_BYTES {";
+const STARTED: &str = "Switches { enabled: true, locked: false, disabling_allowed })";
+const REGISTER_LOCKED: &str =
+    "if switches.locked {\n        return RegisterGround::Locked;\n    }\n    let Some(decoded)";
+const REPEATED: &str = "if policy.holds(&decoded) {\n        return RegisterGround::Repeated;";
+const TOO_MANY: &str = "if policy.entries.len() == MAX_ENTRIES {\n        return RegisterGround::TooMany;\n    }";
+const REGISTER_RECORD: &str = "    let Some(mut policy) = Policy::decode(record) else {";
+const DUMP: &str = "match buffer.get_mut(..bytes.len()) {";
+const DUMP_SHORT: &str = "None => (Status::BufferTooSmall, bytes.len()),";
+const DISABLED: &str = "if !switches.enabled {\n        return Status::AlreadyStarted;\n    }";
+const DISABLE: &str = "if switches.locked || !switches.disabling_allowed {";
+
+pub(super) const EDITS: &[Edit] = &[
+    edit(
+        "start-refused-disabled",
+        REFUSED,
+        "Switches { enabled: false, locked: true, disabling_allowed: false });",
+        "a refused start hands back a disabled engine",
+    ),
+    edit(
+        "start-refused-unlocked",
+        REFUSED,
+        "Switches { enabled: true, locked: false, disabling_allowed: false });",
+        "a refused start hands back an unlocked engine",
+    ),
+    edit(
+        "start-refused-allowed",
+        REFUSED,
+        "Switches { enabled: true, locked: true, disabling_allowed: true });",
+        "a refused start hands back leave to disable",
+    ),
+    edit(
+        "start-disabled",
+        STARTED,
+        "Switches { enabled: false, locked: false, disabling_allowed })",
+        "an engine starts disabled",
+    ),
+    edit(
+        "start-locked",
+        STARTED,
+        "Switches { enabled: true, locked: true, disabling_allowed })",
+        "an engine starts locked",
+    ),
+    edit(
+        "start-allowed",
+        STARTED,
+        "Switches { enabled: true, locked: false, disabling_allowed: true })",
+        "every engine may be disabled",
+    ),
+    edit(
+        "start-not-allowed",
+        STARTED,
+        "Switches { enabled: true, locked: false, disabling_allowed: !disabling_allowed })",
+        "leave to disable is turned round",
+    ),
+    edit("start-keeps-entries", "    policy.fill(0);\n", "", "a start keeps the policy record"),
+    edit("start-erases-entries", "policy.fill(0);", "policy.fill(0xFF);", "a start fills the policy record with 0xFF"),
+    edit(
+        "power-on-any-nv",
+        POWER_ON,
+        "if volatile.len() > MAX_STORE || policy.len() != POLICY_BYTES {",
+        "power-on over an unsound non-volatile store",
+    ),
+    edit(
+        "power-on-any-volatile-length",
+        POWER_ON,
+        "if !sound || policy.len() != POLICY_BYTES {",
+        "power-on over a volatile store of any length",
+    ),
+    edit(
+        "power-on-any-record",
+        POWER_ON,
+        "if !sound || volatile.len() > MAX_STORE {",
+        "power-on over a policy record of any length",
+    ),
+    edit(
+        "power-on-longer-record",
+        POWER_ON,
+        "if !sound || volatile.len() > MAX_STORE || policy.len() < POLICY_BYTES {",
+        "power-on over a longer policy record",
+    ),
+    edit(
+        "power-on-sound-volatile",
+        POWER_ON,
+        "if Pair::decode(non_volatile, volatile).is_none() || policy.len() != POLICY_BYTES {",
+        "power-on needs a sound volatile store",
+    ),
+    edit(
+        "power-on-sound-record",
+        POWER_ON,
+        "if !sound || volatile.len() > MAX_STORE || Policy::decode(policy).is_none() {",
+        "power-on needs a sound policy record",
+    ),
+    edit("power-on-keeps-volatile", "    volatile.fill(0xFF);\n", "", "power-on keeps the volatile store"),
+    edit(
+        "power-on-zeroes-volatile",
+        "volatile.fill(0xFF);",
+        "volatile.fill(0);",
+        "power-on fills the volatile store with zeros",
+    ),
+    edit(
+        "restart-any-volatile",
+        RESTART,
+        "if store::decode(non_volatile, Kind::NonVolatile).is_none() || policy.len() != POLICY_BYTES {",
+        "restart looks at the non-volatile store alone",
+    ),
+    edit(
+        "restart-any-nv",
+        RESTART,
+        "if store::decode(volatile, Kind::Volatile).is_none() || policy.len() != POLICY_BYTES {",
+        "restart looks at the volatile store alone",
+    ),
+    edit(
+        "restart-each-alone",
+        RESTART,
+        "if store::decode(non_volatile, Kind::NonVolatile).is_none() || store::decode(volatile, Kind::Volatile).is_none() || policy.len() != POLICY_BYTES {",
+        "restart over a variable in both stores",
+    ),
+    edit(
+        "restart-any-record",
+        RESTART,
+        "if Pair::decode(non_volatile, volatile).is_none() {",
+        "restart over a policy record of any length",
+    ),
+    edit(
+        "restart-sound-record",
+        RESTART,
+        "if Pair::decode(non_volatile, volatile).is_none() || Policy::decode(policy).is_none() {",
+        "restart needs a sound policy record",
+    ),
+    edit(
+        "register-locked-first",
+        REGISTER_RECORD,
+        "    if switches.locked {\n        return RegisterGround::Locked;\n    }\n    let Some(mut policy) = Policy::decode(record) else {",
+        "register: 8 before 10",
+    ),
+    edit("register-unlocked", REGISTER_LOCKED, "let Some(decoded)", "a locked engine registers"),
+    edit(
+        "register-disabled",
+        REGISTER_LOCKED,
+        "if switches.locked || !switches.enabled {\n        return RegisterGround::Locked;\n    }\n    let Some(decoded)",
+        "a disabled engine does not register",
+    ),
+    edit(
+        "register-malformed-first",
+        REGISTER_LOCKED,
+        "if Entry::decode(entry).is_none() {\n        return RegisterGround::Malformed;\n    }\n    if switches.locked {\n        return RegisterGround::Locked;\n    }\n    let Some(decoded)",
+        "register: 2 before 8",
+    ),
+    edit(
+        "register-repeat-before-locked",
+        REGISTER_LOCKED,
+        "if Entry::decode(entry).is_some_and(|entry| policy.holds(&entry)) {\n        return RegisterGround::Repeated;\n    }\n    if switches.locked {\n        return RegisterGround::Locked;\n    }\n    let Some(decoded)",
+        "register: 20 before 8",
+    ),
+    edit(
+        "register-full-before-locked",
+        REGISTER_LOCKED,
+        "if policy.entries.len() == MAX_ENTRIES {\n        return RegisterGround::TooMany;\n    }\n    if switches.locked {\n        return RegisterGround::Locked;\n    }\n    let Some(decoded)",
+        "register: 9 before 8 at the full count",
+    ),
+    edit(
+        "register-full-before-malformed",
+        "    let Some(decoded) = Entry::decode(entry) else {",
+        "    if policy.entries.len() == MAX_ENTRIES {\n        return RegisterGround::TooMany;\n    }\n    let Some(decoded) = Entry::decode(entry) else {",
+        "register: 9 before 2 at the full count",
+    ),
+    edit(
+        "register-sum-before-malformed",
+        "    let Some(decoded) = Entry::decode(entry) else {",
+        "    if policy.encode().len() + entry.len() > POLICY_BYTES {\n        return RegisterGround::TooLong;\n    }\n    let Some(decoded) = Entry::decode(entry) else {",
+        "register: 9 before 2 at the full sum",
+    ),
+    edit(
+        "register-full-before-repeat",
+        REPEATED,
+        "if policy.entries.len() == MAX_ENTRIES {\n        return RegisterGround::TooMany;\n    }\n    if policy.holds(&decoded) {\n        return RegisterGround::Repeated;",
+        "register: 9 before 20 at the full count",
+    ),
+    edit(
+        "register-sum-before-repeat",
+        REPEATED,
+        "if policy.encode().len() + entry.len() > POLICY_BYTES {\n        return RegisterGround::TooLong;\n    }\n    if policy.holds(&decoded) {\n        return RegisterGround::Repeated;",
+        "register: 9 before 20 at the full sum",
+    ),
+    edit(
+        "register-repeat-replaces",
+        REPEATED,
+        "policy.entries.retain(|known| !known.repeats(&decoded));\n    if policy.holds(&decoded) {\n        return RegisterGround::Repeated;",
+        "a repeat replaces the first",
+    ),
+    edit(
+        "register-repeats",
+        REPEATED,
+        "if false {\n        return RegisterGround::Repeated;",
+        "a repeat is registered",
+    ),
+    edit("register-any-count", TOO_MANY, "", "any number of entries is registered"),
+    edit(
+        "register-any-sum",
+        "if bytes.len() > POLICY_BYTES {\n        return RegisterGround::TooLong;",
+        "if bytes.len() > 2 * POLICY_BYTES {\n        return RegisterGround::TooLong;",
+        "any sum is registered",
+    ),
+    edit(
+        "register-sum-below",
+        "if bytes.len() > POLICY_BYTES {\n        return RegisterGround::TooLong;",
+        "if bytes.len() >= POLICY_BYTES {\n        return RegisterGround::TooLong;",
+        "a sum of 8,192 is refused",
+    ),
+    edit(
+        "register-in-front",
+        "policy.entries.push(decoded);",
+        "policy.entries.insert(0, decoded);",
+        "a new entry goes before the others",
+    ),
+    edit("dump-short-no-length", DUMP_SHORT, "None => (Status::BufferTooSmall, 0),", "no length beside 5"),
+    edit(
+        "dump-short-own-length",
+        DUMP_SHORT,
+        "None => (Status::BufferTooSmall, buffer.len()),",
+        "the buffer's length beside 5",
+    ),
+    edit(
+        "dump-short-count",
+        DUMP_SHORT,
+        "None => (Status::BufferTooSmall, policy.entries.len()),",
+        "the number of entries beside 5",
+    ),
+    edit(
+        "dump-short-writes",
+        DUMP_SHORT,
+        "None => {\n            let len = buffer.len();\n            buffer.copy_from_slice(&bytes[..len]);\n            (Status::BufferTooSmall, bytes.len())\n        }",
+        "a short buffer is filled",
+    ),
+    edit(
+        "dump-not-exact",
+        DUMP,
+        "match if buffer.len() == bytes.len() { None } else { buffer.get_mut(..bytes.len()) } {",
+        "an exact buffer is too short",
+    ),
+    edit(
+        "dump-not-empty",
+        DUMP,
+        "match if buffer.is_empty() { None } else { buffer.get_mut(..bytes.len()) } {",
+        "an empty buffer is too short for no entries",
+    ),
+    edit(
+        "dump-clears-behind",
+        "start.copy_from_slice(&bytes);\n            (Status::Success",
+        "start.copy_from_slice(&bytes);\n            buffer[bytes.len()..].fill(0);\n            (Status::Success",
+        "a dump clears the later bytes",
+    ),
+    edit(
+        "dump-whole-record",
+        "(Status::Success, bytes.len())",
+        "(Status::Success, buffer.len())",
+        "a dump returns the buffer's length",
+    ),
+    edit(
+        "lock-twice",
+        "if switches.locked {\n        return Status::WriteProtected;\n    }\n    switches.locked = true;",
+        "switches.locked = true;",
+        "a second lock succeeds",
+    ),
+    edit(
+        "lock-takes-leave",
+        "switches.locked = true;",
+        "switches.locked = true;\n    switches.disabling_allowed = false;",
+        "a lock takes the leave to disable",
+    ),
+    edit(
+        "lock-only-enabled",
+        "if switches.locked {\n        return Status::WriteProtected;\n    }\n    switches.locked = true;",
+        "if switches.locked || !switches.enabled {\n        return Status::WriteProtected;\n    }\n    switches.locked = true;",
+        "a disabled engine cannot be locked",
+    ),
+    edit("lock-does-nothing", "    switches.locked = true;\n", "", "lock answers 0 and does nothing"),
+    edit("disable-twice", DISABLED, "", "a second disable is judged like the first"),
+    edit(
+        "disable-locked-first",
+        DISABLED,
+        "if switches.locked || !switches.disabling_allowed {\n        return Status::WriteProtected;\n    }\n    if !switches.enabled {\n        return Status::AlreadyStarted;\n    }",
+        "disable: 8 before 20",
+    ),
+    edit("disable-locked", DISABLE, "if !switches.disabling_allowed {", "a locked engine can be disabled"),
+    edit("disable-not-allowed", DISABLE, "if switches.locked {", "no leave is needed to disable"),
+    edit(
+        "disable-either",
+        DISABLE,
+        "if switches.locked && !switches.disabling_allowed {",
+        "8 only if locked and not allowed",
+    ),
+    edit(
+        "disable-locks",
+        "switches.enabled = false;",
+        "switches.enabled = false;\n    switches.locked = true;",
+        "a disabled engine is locked",
+    ),
+    edit(
+        "query-locked",
+        "(Status::Success, switches.enabled)",
+        "(Status::Success, !switches.locked)",
+        "the query tells whether it is unlocked",
+    ),
+    edit(
+        "query-and-unlocked",
+        "(Status::Success, switches.enabled)",
+        "(Status::Success, switches.enabled && !switches.locked)",
+        "a locked engine tells that it is disabled",
+    ),
+    edit(
+        "read-name-first",
+        "    let pair = Pair::decode(non_volatile, volatile).ok_or(Status::VolumeCorrupted)?;\n    let name = name::decode_request(name).ok_or(Status::InvalidParameter)?;",
+        "    let name = name::decode_request(name).ok_or(Status::InvalidParameter)?;\n    let pair = Pair::decode(non_volatile, volatile).ok_or(Status::VolumeCorrupted)?;",
+        "read: 2 before 10",
+    ),
+    edit(
+        "read-bad-name-absent",
+        "name::decode_request(name).ok_or(Status::InvalidParameter)?;\n    let (kind",
+        "name::decode_request(name).ok_or(Status::NotFound)?;\n    let (kind",
+        "a variable of a bad name is absent",
+    ),
+    edit(
+        "read-absent-bad",
+        ".ok_or(Status::NotFound)?;",
+        ".ok_or(Status::InvalidParameter)?;",
+        "an absent variable is a bad parameter",
+    ),
+    edit(
+        "read-attributes-0",
+        "attributes: variable.attributes,\n        kind,",
+        "attributes: 0,\n        kind,",
+        "a read tells no attributes",
+    ),
+    edit(
+        "read-attributes-nv-bs",
+        "attributes: variable.attributes,\n        kind,",
+        "attributes: variable.attributes & 3,\n        kind,",
+        "a read does not tell RT",
+    ),
+    edit(
+        "read-first-payload",
+        "offset: before + variable.payload_at(),",
+        "offset: variable.payload_at(),",
+        "a read points into the first record",
+    ),
+    edit(
+        "read-with-name",
+        "offset: before + variable.payload_at(),",
+        "offset: before + 32,",
+        "a read points at the name",
+    ),
+    edit(
+        "read-with-padding",
+        "payload: variable.payload.clone(),",
+        "payload: { let mut payload = variable.payload.clone(); payload.resize(variable.record_len() - variable.payload_at(), 0xFF); payload },",
+        "a read hands back the padding",
+    ),
+];

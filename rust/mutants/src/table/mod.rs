@@ -1,0 +1,83 @@
+//! The wrong programs: edits of the reference, each of which breaks one rule of document 01.
+//!
+//! No edit makes an equivalent program. The obvious ones that would, and are missing for that reason: step 1's
+//! name after its payload, step 4's size after its attributes, and step 8 after step 9 (one status each, and
+//! nothing written); a deletion asked for BS alone instead of BS and RT (step 3 has refused RT without BS);
+//! the volatile store searched before the other (no variable stands twice); a limit of 8,193 on the sum of
+//! Sizes (every Size is even).
+
+mod calls;
+mod entry;
+mod limits;
+mod name;
+mod policy;
+mod set;
+mod store;
+
+/// An edit of one file of the reference.
+pub struct Edit {
+    /// What the mutant is called.
+    pub name: &'static str,
+    /// The text to replace, which occurs once.
+    pub old: &'static str,
+    /// The text that replaces it.
+    pub new: &'static str,
+    /// The wrong rule in words.
+    pub rule: &'static str,
+}
+
+const fn edit(name: &'static str, old: &'static str, new: &'static str, rule: &'static str) -> Edit {
+    Edit { name, old, new, rule }
+}
+
+impl Edit {
+    /// The edited text, if the text to replace occurs exactly once.
+    pub fn applied_to(&self, text: &str) -> Result<String, String> {
+        match text.matches(self.old).count() {
+            1 => Ok(text.replacen(self.old, self.new, 1)),
+            count => Err(format!("{}: its text occurs {count} times, not once", self.name)),
+        }
+    }
+}
+
+/// The edits of each file in `reference/src`.
+const FILES: [(&str, &[Edit]); 8] = [
+    ("lib.rs", limits::EDITS),
+    ("cursor.rs", limits::CURSOR_EDITS),
+    ("name.rs", name::EDITS),
+    ("entry.rs", entry::EDITS),
+    ("policy.rs", policy::EDITS),
+    ("store.rs", store::EDITS),
+    ("engine.rs", calls::EDITS),
+    ("engine.rs", set::EDITS),
+];
+
+/// All edits, each with its file.
+pub fn all() -> impl Iterator<Item = (&'static str, &'static Edit)> {
+    FILES.into_iter().flat_map(|(file, edits)| edits.iter().map(move |edit| (file, edit)))
+}
+
+#[cfg(test)]
+mod tests {
+    use super::*;
+    use std::collections::BTreeSet;
+    use std::fs;
+    use std::path::Path;
+
+    #[test]
+    fn every_edit_fits_the_reference() {
+        let folder = Path::new(env!("CARGO_MANIFEST_DIR")).join("../reference/src");
+        for (file, edit) in all() {
+            let text = fs::read_to_string(folder.join(file)).unwrap();
+            assert_ne!(edit.applied_to(&text).unwrap(), text, "{}", edit.name);
+        }
+    }
+
+    #[test]
+    fn names_and_programs_are_distinct() {
+        let names: BTreeSet<&str> = all().map(|(_, edit)| edit.name).collect();
+        let programs: BTreeSet<(&str, &str, &str)> = all().map(|(file, edit)| (file, edit.old, edit.new)).collect();
+        assert_eq!((names.len(), programs.len()), (all().count(), all().count()));
+        assert!(names.len() >= 60);
+    }
+}

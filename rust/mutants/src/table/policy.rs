@@ -1,0 +1,78 @@
+//! The policy record, and the choice.
+
+use super::{Edit, edit};
+
+const LENGTH: &str = "record.len() != POLICY_BYTES";
+const ZEROS: &str = "while *rest != ZEROS[..rest.len()] {";
+const LIMITS: &str = "policy.entries.len() == MAX_ENTRIES || policy.holds(&entry)";
+const HOLDS: &str = "self.entries.iter().any(|known| known.repeats(entry))";
+const CHOICE: &str = "targeting.min_by_key(|entry| entry.rank())";
+
+pub(super) const EDITS: &[Edit] = &[
+    edit("record-longer", LENGTH, "record.len() < POLICY_BYTES", "a policy record may be longer"),
+    edit("record-shorter", LENGTH, "record.len() > POLICY_BYTES", "a policy record may be shorter"),
+    edit(
+        "record-zeros-four",
+        ZEROS,
+        "while rest.iter().take(4).any(|byte| *byte != 0) {",
+        "four zeros end the entries, and nothing behind them is looked at",
+    ),
+    edit(
+        "record-zeros-44",
+        ZEROS,
+        "while rest.iter().take(44).any(|byte| *byte != 0) {",
+        "44 zeros end the entries, and nothing behind them is looked at",
+    ),
+    edit(
+        "record-zeros-not-last",
+        ZEROS,
+        "while rest[..rest.len().saturating_sub(1)] != ZEROS[..rest.len().saturating_sub(1)] {",
+        "the last byte of the record is not looked at",
+    ),
+    edit("record-65-entries", LIMITS, "policy.holds(&entry)", "a record may hold more than 64 entries"),
+    edit("record-repeats", LIMITS, "policy.entries.len() == MAX_ENTRIES", "a record may hold an entry twice"),
+    edit(
+        "record-next-repeats",
+        LIMITS,
+        "policy.entries.len() == MAX_ENTRIES || policy.entries.last().is_some_and(|last| last.repeats(&entry))",
+        "in a record only neighbours are compared",
+    ),
+    edit(
+        "holds-last",
+        HOLDS,
+        "self.entries.last().is_some_and(|known| known.repeats(entry))",
+        "only the last entry is compared",
+    ),
+    edit(
+        "holds-first",
+        HOLDS,
+        "self.entries.first().is_some_and(|known| known.repeats(entry))",
+        "only the first entry is compared",
+    ),
+    edit(
+        "holds-63",
+        HOLDS,
+        "self.entries.iter().take(63).any(|known| known.repeats(entry))",
+        "the 64th entry is not compared",
+    ),
+    edit(
+        "choice-last-of-equals",
+        CHOICE,
+        "targeting.rev().min_by_key(|entry| entry.rank())",
+        "among equals the last registered speaks",
+    ),
+    edit("choice-highest", CHOICE, "targeting.rev().max_by_key(|entry| entry.rank())", "the highest rank speaks"),
+    edit(
+        "choice-first",
+        CHOICE,
+        "{ let mut targeting = targeting; targeting.next() }",
+        "the first registered speaks, whatever its rank",
+    ),
+    edit("choice-last", CHOICE, "targeting.last()", "the last registered speaks, whatever its rank"),
+    edit(
+        "choice-of-63",
+        "self.entries.iter().filter(|entry| entry.targets",
+        "self.entries.iter().take(63).filter(|entry| entry.targets",
+        "the 64th entry never speaks",
+    ),
+];

@@ -1,0 +1,675 @@
+//! Set, step by step, and the steps in other orders.
+
+use super::{Edit, edit};
+
+const DELETION: &str = "!self.has(APPEND) && (self.payload.is_empty() || !self.has(BS | RT))";
+const LOOKS_AT_RECORD: &str =
+    "    let Some(policy) = Policy::decode(record) else {\n        return SetGround::BadRecord;\n    };\n";
+const LOOKS_AT_STORES: &str = "    let Some(mut pair) = Pair::decode(non_volatile, volatile) else {";
+const STEPS_1_TO_3: &str = "    let name = match well_formed(&request) {";
+const PAYLOAD: &str = "if request.payload.len() > MAX_PAYLOAD {";
+const UNKNOWN: &str = "if request.has(!(NV | BS | RT | APPEND)) {";
+const NAME: &str = "    let name = name::decode_request(request.name).ok_or(SetGround::BadName)?;\n";
+const WITHOUT_BS: &str = "if request.has(RT | APPEND) && !request.has(BS) {";
+const POLICY: &str = "    if switches.enabled\n        && let Some(ground)";
+const ASKED: &str = "if !request.is_deletion() {\n        let length";
+const LENGTH: &str = "let length = request.payload.len() as u32;";
+const MIN: &str = "if length < entry.min_size {";
+const MAX: &str = "if length > entry.max_size {";
+const MUST: &str = "if entry.must_have & !request.attributes != 0 {";
+const CANT: &str = "if request.has(entry.cant_have) {";
+const NOW: &str = "LockRule::LockNow => Some(SetGround::LockedNow),";
+const ON_CREATE: &str = "pair.find(request.namespace, name).map(|_| SetGround::LockedOnCreate)";
+const TRIGGER: &str = "pair.find(&trigger.namespace, &trigger.name)?;";
+const TRIGGERED: &str = "(variable.payload == [trigger.value]).then_some(SetGround::LockedOnVarState)";
+const CHOSEN: &str = "    let entry = policy.choose(request.namespace, name)?;\n";
+const DELETED: &str = "pair.of_mut(kind).remove(place);";
+const DELETES: &str = "    if request.is_deletion() {\n        let Some((kind, place, _))";
+const OTHERS: &str = "variable.attributes != attributes)";
+const EMPTY_APPEND: &str =
+    "    if append && request.payload.is_empty() {\n        return SetGround::EmptyAppend;\n    }\n";
+const OTHER_ATTRIBUTES: &str =
+    "    if found.as_ref().is_some_and(|(_, _, variable)| variable.attributes != attributes) {";
+const KIND: &str = "let kind = if attributes & NV != 0 { Kind::NonVolatile } else { Kind::Volatile };";
+const CREATED: &str = "pair.of_mut(kind).push(Variable { namespace, name: name.to_vec(), attributes, payload });";
+const JOINED: &str = "let mut payload = if append { old.payload } else { Vec::new() };";
+const LONG: &str = "    if payload.len() > MAX_PAYLOAD {\n        return SetGround::AppendTooLong;";
+const REWRITTEN: &str = "    pair.of_mut(kind)[place].payload = payload;\n";
+const ROOM: &str =
+    "if encoded_len(&pair.non_volatile) > non_volatile.len() || encoded_len(&pair.volatile) > volatile.len() {";
+
+pub(super) const EDITS: &[Edit] = &[
+    // Before the steps.
+    edit(
+        "set-record-if-enabled",
+        LOOKS_AT_RECORD,
+        "    let policy = match Policy::decode(record) {\n        Some(policy) => policy,\n        None if switches.enabled => return SetGround::BadRecord,\n        None => Policy::default(),\n    };\n",
+        "a disabled engine does not look at the policy record",
+    ),
+    edit(
+        "set-record-any",
+        LOOKS_AT_RECORD,
+        "    let policy = Policy::decode(record).unwrap_or_default();\n",
+        "set over an unsound policy record",
+    ),
+    edit(
+        "set-steps-before-stores",
+        LOOKS_AT_STORES,
+        "    if let Err(ground) = well_formed(&request) {\n        return ground;\n    }\n    let Some(mut pair) = Pair::decode(non_volatile, volatile) else {",
+        "set: steps 1 to 3 before 10 for a store",
+    ),
+    edit(
+        "set-steps-before-record",
+        LOOKS_AT_RECORD,
+        "    if let Err(ground) = well_formed(&request) {\n        return ground;\n    }\n    let Some(policy) = Policy::decode(record) else {\n        return SetGround::BadRecord;\n    };\n",
+        "set: steps 1 to 3 before 10 for the policy record",
+    ),
+    edit(
+        "set-locked-engine",
+        STEPS_1_TO_3,
+        "    if switches.locked {\n        return SetGround::LockedNow;\n    }\n    let name = match well_formed(&request) {",
+        "a locked engine sets nothing",
+    ),
+    // What a deletion is.
+    edit("deletion-append", DELETION, "self.payload.is_empty() || !self.has(BS | RT)", "an empty append is a deletion"),
+    edit(
+        "deletion-empty-only",
+        DELETION,
+        "!self.has(APPEND) && self.payload.is_empty()",
+        "only an empty payload makes a deletion",
+    ),
+    edit(
+        "deletion-attributes-only",
+        DELETION,
+        "!self.has(APPEND) && !self.has(BS | RT)",
+        "only missing attributes make a deletion",
+    ),
+    edit(
+        "deletion-both",
+        DELETION,
+        "!self.has(APPEND) && (self.payload.is_empty() && !self.has(BS | RT))",
+        "a deletion has neither payload nor attributes",
+    ),
+    edit(
+        "deletion-nv",
+        DELETION,
+        "!self.has(APPEND) && (self.payload.is_empty() || !self.has(NV | BS | RT))",
+        "NV alone with a payload is no deletion",
+    ),
+    edit(
+        "deletion-payload-0",
+        DELETION,
+        "!self.has(APPEND) && (self.payload.is_empty() || self.payload == [0] || !self.has(BS | RT))",
+        "a payload of one zero is a deletion",
+    ),
+    // Steps 1 to 3.
+    edit("step1-payload-below", PAYLOAD, "if request.payload.len() >= MAX_PAYLOAD {", "a payload of 1,024 is too long"),
+    edit(
+        "step1-payload-not-deletions",
+        PAYLOAD,
+        "if request.payload.len() > MAX_PAYLOAD && !request.is_deletion() {",
+        "a deletion may have any payload",
+    ),
+    edit(
+        "step1-payload-16-bits",
+        PAYLOAD,
+        "if request.payload.len() as u16 as usize > MAX_PAYLOAD {",
+        "16 bits of the payload's length count",
+    ),
+    edit("step1-payload-any", PAYLOAD, "if false {", "a payload of any length"),
+    edit("step2-8", UNKNOWN, "if request.has(!(NV | BS | RT | APPEND | 0x8)) {", "bit 8 is let by"),
+    edit("step2-0x10", UNKNOWN, "if request.has(!(NV | BS | RT | APPEND | 0x10)) {", "bit 0x10 is let by"),
+    edit("step2-0x20", UNKNOWN, "if request.has(!(NV | BS | RT | APPEND | 0x20)) {", "bit 0x20 is let by"),
+    edit("step2-0x80", UNKNOWN, "if request.has(!(NV | BS | RT | APPEND | 0x80)) {", "bit 0x80 is let by"),
+    edit("step2-0x100", UNKNOWN, "if request.has(!(NV | BS | RT | APPEND | 0x100)) {", "bit 0x100 is let by"),
+    edit("step2-0x400000", UNKNOWN, "if request.has(!(NV | BS | RT | APPEND | 0x40_0000)) {", "bit 0x400000 is let by"),
+    edit(
+        "step2-0x80000000",
+        UNKNOWN,
+        "if request.has(!(NV | BS | RT | APPEND | 0x8000_0000)) {",
+        "bit 0x80000000 is let by",
+    ),
+    edit("step2-byte", UNKNOWN, "if request.has(0xB8) {", "only the low byte of the attributes counts"),
+    edit("step2-half", UNKNOWN, "if request.has(0xFFB8) {", "only the low half of the attributes counts"),
+    edit(
+        "step2-before-1",
+        NAME,
+        "    if request.has(!(NV | BS | RT | APPEND)) {\n        return Err(SetGround::UnknownAttribute);\n    }\n    let name = name::decode_request(request.name).ok_or(SetGround::BadName)?;\n",
+        "step 2 before step 1",
+    ),
+    edit(
+        "step2-before-1-payload",
+        PAYLOAD,
+        "if request.has(!(NV | BS | RT | APPEND)) {\n        return Err(SetGround::UnknownAttribute);\n    }\n    if request.payload.len() > MAX_PAYLOAD {",
+        "step 2 before the payload of step 1",
+    ),
+    edit(
+        "step2-not-deletions",
+        UNKNOWN,
+        "if request.has(!(NV | BS | RT | APPEND)) && !request.is_deletion() {",
+        "a deletion may have unknown bits",
+    ),
+    edit(
+        "step3-before-2",
+        UNKNOWN,
+        "if request.has(RT | APPEND) && !request.has(BS) {\n        return Err(SetGround::WithoutBootService);\n    }\n    if request.has(!(NV | BS | RT | APPEND)) {",
+        "step 3 before step 2",
+    ),
+    edit("step3-rt", WITHOUT_BS, "if request.has(APPEND) && !request.has(BS) {", "RT without BS is let by"),
+    edit("step3-append", WITHOUT_BS, "if request.has(RT) && !request.has(BS) {", "append without BS is let by"),
+    edit(
+        "step3-both",
+        WITHOUT_BS,
+        "if request.has(RT) && request.has(APPEND) && !request.has(BS) {",
+        "only RT and append without BS are refused",
+    ),
+    edit("step3-nv", WITHOUT_BS, "if request.has(NV | RT | APPEND) && !request.has(BS) {", "NV without BS is refused"),
+    edit(
+        "step3-not-empty",
+        WITHOUT_BS,
+        "if request.has(RT | APPEND) && !request.has(BS) && !request.payload.is_empty() {",
+        "RT without BS is let by with no payload",
+    ),
+    // Step 4.
+    edit("step4-disabled", POLICY, "    if true\n        && let Some(ground)", "a disabled engine enforces"),
+    edit("step4-never", POLICY, "    if false\n        && let Some(ground)", "no entry is enforced"),
+    edit(
+        "step4-only-locked",
+        POLICY,
+        "    if switches.locked\n        && let Some(ground)",
+        "entries are enforced once the engine is locked",
+    ),
+    edit(
+        "step4-not-deletions",
+        POLICY,
+        "    if switches.enabled\n        && !request.is_deletion()\n        && let Some(ground)",
+        "a deletion is let past the lock",
+    ),
+    edit(
+        "step4-before-2",
+        STEPS_1_TO_3,
+        "    if switches.enabled\n        && let Some(name) = name::decode_request(request.name)\n        && let Some(ground) = refused_by_policy(&policy, &pair, &request, &name)\n    {\n        return ground;\n    }\n    let name = match well_formed(&request) {",
+        "step 4 before steps 2 and 3",
+    ),
+    edit(
+        "step4-before-3",
+        STEPS_1_TO_3,
+        "    if switches.enabled\n        && !request.has(!(NV | BS | RT | APPEND))\n        && request.payload.len() <= MAX_PAYLOAD\n        && let Some(name) = name::decode_request(request.name)\n        && let Some(ground) = refused_by_policy(&policy, &pair, &request, &name)\n    {\n        return ground;\n    }\n    let name = match well_formed(&request) {",
+        "step 4 before step 3",
+    ),
+    edit("step4-deletion-size", ASKED, "if true {\n        let length", "a deletion is asked for size and attributes"),
+    edit(
+        "step4-deletion-by-payload",
+        ASKED,
+        "if !request.payload.is_empty() {\n        let length",
+        "every empty payload is let past size and attributes",
+    ),
+    edit(
+        "step4-deletion-by-bits",
+        ASKED,
+        "if request.has(BS | RT) {\n        let length",
+        "a deletion with BS is asked for size and attributes",
+    ),
+    edit("step4-min-equal", MIN, "if length <= entry.min_size {", "MinSize itself is too short"),
+    edit("step4-min-never", MIN, "if false {", "MinSize is not asked"),
+    edit("step4-min-8-bits", MIN, "if length < entry.min_size & 0xFF {", "MinSize has 8 bits"),
+    edit("step4-min-16-bits", MIN, "if length < entry.min_size & 0xFFFF {", "MinSize has 16 bits"),
+    edit("step4-min-24-bits", MIN, "if length < entry.min_size & 0xFF_FFFF {", "MinSize has 24 bits"),
+    edit("step4-min-31-bits", MIN, "if length < entry.min_size & 0x7FFF_FFFF {", "MinSize has 31 bits"),
+    edit("step4-min-signed", MIN, "if (length as i32) < entry.min_size as i32 {", "MinSize is signed"),
+    edit(
+        "step4-min-length-8-bits",
+        MIN,
+        "if u32::from(length as u8) < entry.min_size {",
+        "8 bits of the length are compared with MinSize",
+    ),
+    edit("step4-max-equal", MAX, "if length >= entry.max_size {", "MaxSize itself is too long"),
+    edit("step4-max-never", MAX, "if false {", "MaxSize is not asked"),
+    edit("step4-max-0-unbounded", MAX, "if entry.max_size != 0 && length > entry.max_size {", "MaxSize 0 is no bound"),
+    edit("step4-max-8-bits", MAX, "if length > entry.max_size & 0xFF {", "MaxSize has 8 bits"),
+    edit("step4-max-16-bits", MAX, "if length > entry.max_size & 0xFFFF {", "MaxSize has 16 bits"),
+    edit("step4-max-31-bits", MAX, "if length > entry.max_size & 0x7FFF_FFFF {", "MaxSize has 31 bits"),
+    edit("step4-max-signed", MAX, "if length as i32 > entry.max_size as i32 {", "MaxSize is signed"),
+    edit(
+        "step4-max-length-8-bits",
+        MAX,
+        "if u32::from(length as u8) > entry.max_size {",
+        "8 bits of the length are compared with MaxSize",
+    ),
+    edit(
+        "step4-joined-length",
+        LENGTH,
+        "let old = pair.find(request.namespace, name).filter(|_| request.has(APPEND)).map_or(0, |found| found.2.payload.len());\n        let length = (old + request.payload.len()) as u32;",
+        "an append is measured by the joined length",
+    ),
+    edit(
+        "step4-must-any",
+        MUST,
+        "if entry.must_have != 0 && entry.must_have & request.attributes == 0 {",
+        "one required bit is enough",
+    ),
+    edit(
+        "step4-must-known",
+        MUST,
+        "if entry.must_have & 0x47 & !request.attributes != 0 {",
+        "a required bit outside 0x47 is not asked",
+    ),
+    edit(
+        "step4-must-no-append",
+        MUST,
+        "if entry.must_have & !(request.attributes & !APPEND) != 0 {",
+        "append does not meet a required append",
+    ),
+    edit(
+        "step4-must-31-bits",
+        MUST,
+        "if entry.must_have & 0x7FFF_FFFF & !request.attributes != 0 {",
+        "a required bit 31 is not asked",
+    ),
+    edit("step4-must-never", MUST, "if false {", "required bits are not asked"),
+    edit(
+        "step4-cant-all",
+        CANT,
+        "if entry.cant_have != 0 && request.attributes & entry.cant_have == entry.cant_have {",
+        "all prohibited bits must be set",
+    ),
+    edit("step4-cant-no-append", CANT, "if request.has(entry.cant_have & !APPEND) {", "append cannot be prohibited"),
+    edit("step4-cant-never", CANT, "if false {", "prohibited bits are not asked"),
+    edit(
+        "step4-cant-unless-must",
+        CANT,
+        "if entry.must_have == 0 && request.has(entry.cant_have) {",
+        "prohibited bits are not asked beside required ones",
+    ),
+    edit(
+        "step4-lock-before-size",
+        CHOSEN,
+        "    let entry = policy.choose(request.namespace, name)?;\n    if entry.lock == LockRule::LockNow {\n        return Some(SetGround::LockedNow);\n    }\n",
+        "step 4: the lock before the size",
+    ),
+    edit(
+        "step4-lock-before-attributes",
+        MUST,
+        "if entry.lock == LockRule::LockNow {\n            return Some(SetGround::LockedNow);\n        }\n        if entry.must_have & !request.attributes != 0 {",
+        "step 4: the lock before the attributes",
+    ),
+    edit(
+        "step4-create-lock-before-size",
+        CHOSEN,
+        "    let entry = policy.choose(request.namespace, name)?;\n    if entry.lock == LockRule::LockOnCreate && pair.find(request.namespace, name).is_some() {\n        return Some(SetGround::LockedOnCreate);\n    }\n",
+        "step 4: a lock of type 2 before the size",
+    ),
+    edit("step4-now-never", NOW, "LockRule::LockNow => None,", "type 1 does not lock"),
+    edit(
+        "step4-now-if-there",
+        NOW,
+        "LockRule::LockNow => pair.find(request.namespace, name).map(|_| SetGround::LockedNow),",
+        "type 1 lets a variable be created",
+    ),
+    edit(
+        "step4-now-not-deletions",
+        NOW,
+        "LockRule::LockNow => (!request.is_deletion()).then_some(SetGround::LockedNow),",
+        "type 1 lets a deletion by",
+    ),
+    edit("step4-create-always", ON_CREATE, "Some(SetGround::LockedOnCreate)", "type 2 locks an absent variable"),
+    edit(
+        "step4-create-nv",
+        ON_CREATE,
+        "pair.find(request.namespace, name).filter(|found| found.0 == Kind::NonVolatile).map(|_| SetGround::LockedOnCreate)",
+        "type 2 looks in the non-volatile store",
+    ),
+    edit(
+        "step4-create-volatile",
+        ON_CREATE,
+        "pair.find(request.namespace, name).filter(|found| found.0 == Kind::Volatile).map(|_| SetGround::LockedOnCreate)",
+        "type 2 looks in the volatile store",
+    ),
+    edit(
+        "step4-create-not-deletions",
+        ON_CREATE,
+        "pair.find(request.namespace, name).filter(|_| !request.is_deletion()).map(|_| SetGround::LockedOnCreate)",
+        "type 2 lets a deletion by",
+    ),
+    edit(
+        "step4-create-not-appends",
+        ON_CREATE,
+        "pair.find(request.namespace, name).filter(|_| !request.has(APPEND)).map(|_| SetGround::LockedOnCreate)",
+        "type 2 lets an append by",
+    ),
+    edit(
+        "step4-trigger-absent-0",
+        "let (_, _, variable) = pair.find(&trigger.namespace, &trigger.name)?;",
+        "let Some((_, _, variable)) = pair.find(&trigger.namespace, &trigger.name) else {\n                return (trigger.value == 0).then_some(SetGround::LockedOnVarState);\n            };",
+        "an absent trigger is taken as 0",
+    ),
+    edit(
+        "step4-trigger-own-namespace",
+        TRIGGER,
+        "pair.find(request.namespace, &trigger.name)?;",
+        "the trigger is sought in the variable's namespace",
+    ),
+    edit(
+        "step4-trigger-nv",
+        TRIGGER,
+        "pair.find(&trigger.namespace, &trigger.name).filter(|found| found.0 == Kind::NonVolatile)?;",
+        "the trigger is sought in the non-volatile store",
+    ),
+    edit(
+        "step4-trigger-volatile",
+        TRIGGER,
+        "pair.find(&trigger.namespace, &trigger.name).filter(|found| found.0 == Kind::Volatile)?;",
+        "the trigger is sought in the volatile store",
+    ),
+    edit(
+        "step4-trigger-pattern",
+        "let (_, _, variable) = pair.find(&trigger.namespace, &trigger.name)?;",
+        "let mut variables = pair.non_volatile.iter().chain(&pair.volatile);\n            let variable = variables.find(|variable| variable.namespace == trigger.namespace && name::matches(&trigger.name, &variable.name))?;",
+        "'#' in a trigger's name stands for a digit",
+    ),
+    edit(
+        "step4-trigger-first-byte",
+        TRIGGERED,
+        "(variable.payload[0] == trigger.value).then_some(SetGround::LockedOnVarState)",
+        "the trigger's first byte decides, whatever its length",
+    ),
+    edit(
+        "step4-trigger-last-byte",
+        TRIGGERED,
+        "(variable.payload.last() == Some(&trigger.value)).then_some(SetGround::LockedOnVarState)",
+        "the trigger's last byte decides, whatever its length",
+    ),
+    edit(
+        "step4-trigger-other-size",
+        TRIGGERED,
+        "(variable.payload.len() != 1 || variable.payload == [trigger.value]).then_some(SetGround::LockedOnVarState)",
+        "a trigger of another size locks",
+    ),
+    edit(
+        "step4-trigger-not-0",
+        TRIGGERED,
+        "(trigger.value != 0 && variable.payload == [trigger.value]).then_some(SetGround::LockedOnVarState)",
+        "Value 0 never locks",
+    ),
+    edit(
+        "step4-trigger-not-equal",
+        TRIGGERED,
+        "(variable.payload.len() == 1 && variable.payload[0] != trigger.value).then_some(SetGround::LockedOnVarState)",
+        "the trigger locks while it differs from Value",
+    ),
+    edit(
+        "step4-trigger-at-least",
+        TRIGGERED,
+        "(variable.payload.len() == 1 && variable.payload[0] >= trigger.value).then_some(SetGround::LockedOnVarState)",
+        "the trigger locks from Value on",
+    ),
+    edit("step4-trigger-exists", TRIGGERED, "Some(SetGround::LockedOnVarState)", "the trigger locks once it exists"),
+    edit(
+        "step4-trigger-not-deletions",
+        TRIGGERED,
+        "(variable.payload == [trigger.value] && !request.is_deletion()).then_some(SetGround::LockedOnVarState)",
+        "type 3 lets a deletion by",
+    ),
+    // Step 5.
+    edit(
+        "step5-before-4",
+        POLICY,
+        "    if request.is_deletion() && pair.find(request.namespace, &name).is_none() {\n        return SetGround::DeleteAbsent;\n    }\n    if switches.enabled\n        && let Some(ground)",
+        "step 5 before step 4",
+    ),
+    edit(
+        "step5-absent-0",
+        "DeleteAbsent => Status::NotFound,",
+        "DeleteAbsent => Status::Success,",
+        "a deletion of nothing succeeds",
+    ),
+    edit(
+        "step5-absent-2",
+        "DeleteAbsent => Status::NotFound,",
+        "DeleteAbsent => Status::InvalidParameter,",
+        "a deletion of nothing answers 2",
+    ),
+    edit(
+        "step5-attributes",
+        DELETES,
+        "    if request.is_deletion() && request.attributes != 0 && pair.find(request.namespace, &name).is_some_and(|found| found.2.attributes != request.attributes) {\n        return SetGround::OtherAttributes;\n    }\n    if request.is_deletion() {\n        let Some((kind, place, _))",
+        "a deletion is asked for the stored attributes",
+    ),
+    edit(
+        "step5-nv",
+        "let Some((kind, place, _)) = pair.find(request.namespace, &name) else {",
+        "let Some((kind, place, _)) = pair.find(request.namespace, &name).filter(|found| found.0 == Kind::NonVolatile) else {",
+        "only the non-volatile store is deleted from",
+    ),
+    edit(
+        "step5-store-of-request",
+        "let Some((kind, place, _)) = pair.find(request.namespace, &name) else {",
+        "let Some((kind, place, _)) = pair.find(request.namespace, &name).filter(|found| request.attributes == 0 || request.has(NV) == (found.0 == Kind::NonVolatile)) else {",
+        "a deletion looks in the store that its NV bit names",
+    ),
+    edit("step5-last-fills-gap", DELETED, "pair.of_mut(kind).swap_remove(place);", "the last record fills the gap"),
+    edit("step5-nothing", DELETED, "let _ = (kind, place);", "a deletion answers 0 and removes nothing"),
+    edit(
+        "step5-with-the-rest",
+        DELETED,
+        "pair.of_mut(kind).truncate(place);",
+        "a deletion removes the later records too",
+    ),
+    // Step 6.
+    edit(
+        "step6-before-4",
+        POLICY,
+        "    if !request.is_deletion() && pair.find(request.namespace, &name).is_some_and(|found| found.2.attributes != request.attributes & !APPEND) {\n        return SetGround::OtherAttributes;\n    }\n    if switches.enabled\n        && let Some(ground)",
+        "step 6 before step 4",
+    ),
+    edit(
+        "step6-before-5",
+        DELETES,
+        "    if pair.find(request.namespace, &name).is_some_and(|found| found.2.attributes != request.attributes & !APPEND) {\n        return SetGround::OtherAttributes;\n    }\n    if request.is_deletion() {\n        let Some((kind, place, _))",
+        "step 6 before step 5",
+    ),
+    edit("step6-nv-only", OTHERS, "(variable.attributes ^ attributes) & NV != 0)", "only NV is compared"),
+    edit("step6-not-rt", OTHERS, "(variable.attributes ^ attributes) & !RT != 0)", "RT is not compared"),
+    edit("step6-rt-added", OTHERS, "variable.attributes & !attributes != 0)", "attributes may be added"),
+    edit("step6-rt-dropped", OTHERS, "attributes & !variable.attributes != 0)", "attributes may be dropped"),
+    edit(
+        "step6-not-appends",
+        OTHERS,
+        "!append && variable.attributes != attributes)",
+        "an append is not asked for attributes",
+    ),
+    edit("step6-never", OTHERS, "false && variable.attributes != attributes)", "attributes are not compared"),
+    edit(
+        "step6-with-append",
+        OTHERS,
+        "variable.attributes != request.attributes)",
+        "append counts as another attribute",
+    ),
+    // Step 7.
+    edit(
+        "step7-before-4",
+        POLICY,
+        "    if request.has(APPEND) && request.payload.is_empty() {\n        return SetGround::EmptyAppend;\n    }\n    if switches.enabled\n        && let Some(ground)",
+        "step 7 before step 4",
+    ),
+    edit(
+        "step7-before-6",
+        OTHER_ATTRIBUTES,
+        "    if append && request.payload.is_empty() {\n        return SetGround::EmptyAppend;\n    }\n    if found.as_ref().is_some_and(|(_, _, variable)| variable.attributes != attributes) {",
+        "step 7 before step 6",
+    ),
+    edit(
+        "step7-absent-14",
+        EMPTY_APPEND,
+        "    if append && request.payload.is_empty() {\n        return if found.is_some() { SetGround::EmptyAppend } else { SetGround::DeleteAbsent };\n    }\n",
+        "an empty append to nothing answers 14",
+    ),
+    edit(
+        "step7-absent-2",
+        EMPTY_APPEND,
+        "    if append && request.payload.is_empty() {\n        return if found.is_some() { SetGround::EmptyAppend } else { SetGround::OtherAttributes };\n    }\n",
+        "an empty append to nothing answers 2",
+    ),
+    edit(
+        "step7-creates",
+        EMPTY_APPEND,
+        "    if append && request.payload.is_empty() && found.is_some() {\n        return SetGround::EmptyAppend;\n    }\n",
+        "an empty append creates",
+    ),
+    edit(
+        "step7-empties",
+        EMPTY_APPEND,
+        "    if append && request.payload.is_empty() {\n        if let Some((kind, place, _)) = found {\n            pair.of_mut(kind).remove(place);\n        }\n        return SetGround::EmptyAppend;\n    }\n",
+        "an empty append deletes",
+    ),
+    // Steps 8 and 9.
+    edit(
+        "step8-below",
+        LONG,
+        "    if payload.len() >= MAX_PAYLOAD {\n        return SetGround::AppendTooLong;",
+        "an append to 1,024 is too long",
+    ),
+    edit(
+        "step8-1025",
+        LONG,
+        "    if payload.len() > MAX_PAYLOAD + 1 {\n        return SetGround::AppendTooLong;",
+        "an append to 1,025 is stored",
+    ),
+    edit(
+        "step8-never",
+        LONG,
+        "    if false {\n        return SetGround::AppendTooLong;",
+        "an append to any length is stored",
+    ),
+    edit(
+        "step8-cuts",
+        LONG,
+        "    payload.truncate(MAX_PAYLOAD);\n    if payload.len() > MAX_PAYLOAD {\n        return SetGround::AppendTooLong;",
+        "an append is cut at 1,024",
+    ),
+    edit(
+        "step8-answers-2",
+        "AppendTooLong | NoRoom => Status::OutOfResources,",
+        "AppendTooLong => Status::InvalidParameter,\n            NoRoom => Status::OutOfResources,",
+        "a long append answers 2",
+    ),
+    edit(
+        "step8-before-6",
+        OTHER_ATTRIBUTES,
+        "    if append && found.as_ref().is_some_and(|(_, _, variable)| variable.payload.len() + request.payload.len() > MAX_PAYLOAD) {\n        return SetGround::AppendTooLong;\n    }\n    if found.as_ref().is_some_and(|(_, _, variable)| variable.attributes != attributes) {",
+        "step 8 before step 6",
+    ),
+    edit(
+        "step9-below",
+        ROOM,
+        "if encoded_len(&pair.non_volatile) >= non_volatile.len().max(1) || encoded_len(&pair.volatile) > volatile.len() {",
+        "the records must be shorter than the non-volatile store",
+    ),
+    edit(
+        "step9-nv-only",
+        ROOM,
+        "if encoded_len(&pair.non_volatile) > non_volatile.len() {",
+        "room in the volatile store is not asked",
+    ),
+    edit(
+        "step9-volatile-only",
+        ROOM,
+        "if encoded_len(&pair.volatile) > volatile.len() {",
+        "room in the non-volatile store is not asked",
+    ),
+    edit(
+        "step9-both",
+        ROOM,
+        "if encoded_len(&pair.non_volatile) + encoded_len(&pair.volatile) > non_volatile.len().max(volatile.len()) {",
+        "both stores share their room",
+    ),
+    edit(
+        "step9-unpadded",
+        "fn encoded_len(variables: &[Variable]) -> usize {\n    variables.iter().map(Variable::record_len).sum()",
+        "fn encoded_len(variables: &[Variable]) -> usize {\n    variables.iter().map(|variable| variable.payload_at() + variable.payload.len()).sum()",
+        "padding needs no room",
+    ),
+    edit(
+        "step9-two-to-spare",
+        ROOM,
+        "if encoded_len(&pair.non_volatile) + 2 > non_volatile.len() && !pair.non_volatile.is_empty() || encoded_len(&pair.volatile) > volatile.len() {",
+        "two bytes must stay free in the non-volatile store",
+    ),
+    edit(
+        "step9-old-stays",
+        "    let ground = store_payload(&mut pair, &request, &name);\n",
+        "    let before = [encoded_len(&pair.non_volatile), encoded_len(&pair.volatile)];\n    let old = pair.find(request.namespace, &name).map_or(0, |found| found.2.record_len());\n    let ground = store_payload(&mut pair, &request, &name);\n    let grown = encoded_len(&pair.non_volatile) + encoded_len(&pair.volatile) > before[0] + before[1];\n    if grown && encoded_len(&pair.non_volatile) + old > non_volatile.len() && encoded_len(&pair.non_volatile) > before[0] {\n        return SetGround::NoRoom;\n    }\n",
+        "a longer rewrite needs room beside the old record",
+    ),
+    edit(
+        "step9-before-4",
+        POLICY,
+        "    let mut after = pair.clone();\n    let stored = !request.is_deletion() && store_payload(&mut after, &request, &name).status() == Status::Success;\n    if stored && (encoded_len(&after.non_volatile) > non_volatile.len() || encoded_len(&after.volatile) > volatile.len()) {\n        return SetGround::NoRoom;\n    }\n    if switches.enabled\n        && let Some(ground)",
+        "step 9 before step 4",
+    ),
+    edit(
+        "step9-before-6",
+        "    let ground = store_payload(&mut pair, &request, &name);\n",
+        "    if let Some((kind, _, old)) = pair.find(request.namespace, &name) {\n        let joined = if request.has(APPEND) { old.payload.len() + request.payload.len() } else { request.payload.len() };\n        let records = encoded_len(pair.of(kind)) - old.record_len() + (old.payload_at() + joined).next_multiple_of(4);\n        if records > if kind == Kind::NonVolatile { non_volatile.len() } else { volatile.len() } {\n            return SetGround::NoRoom;\n        }\n    }\n    let ground = store_payload(&mut pair, &request, &name);\n",
+        "step 9 before step 6",
+    ),
+    edit(
+        "step9-before-7",
+        "    let ground = store_payload(&mut pair, &request, &name);\n",
+        "    if request.has(APPEND) && request.payload.is_empty() && pair.find(request.namespace, &name).is_none() {\n        let (records, len) = if request.has(NV) { (&pair.non_volatile, non_volatile.len()) } else { (&pair.volatile, volatile.len()) };\n        if encoded_len(records) + (34 + 2 * name.len()).next_multiple_of(4) > len {\n            return SetGround::NoRoom;\n        }\n    }\n    let ground = store_payload(&mut pair, &request, &name);\n",
+        "step 9 before step 7",
+    ),
+    // Step 10.
+    edit(
+        "step10-append-not-creates",
+        CREATED,
+        "if append {\n            return SetGround::DeleteAbsent;\n        }\n        pair.of_mut(kind).push(Variable { namespace, name: name.to_vec(), attributes, payload });",
+        "an append to nothing answers 14",
+    ),
+    edit(
+        "step10-append-stored",
+        CREATED,
+        "pair.of_mut(kind).push(Variable { namespace, name: name.to_vec(), attributes: request.attributes, payload });",
+        "append is stored among the attributes",
+    ),
+    edit(
+        "step10-first",
+        CREATED,
+        "pair.of_mut(kind).insert(0, Variable { namespace, name: name.to_vec(), attributes, payload });",
+        "a new variable goes before the others",
+    ),
+    edit("step10-volatile", KIND, "let kind = Kind::Volatile;", "every new variable goes to the volatile store"),
+    edit(
+        "step10-rt-non-volatile",
+        KIND,
+        "let kind = if attributes & (NV | RT) != 0 { Kind::NonVolatile } else { Kind::Volatile };",
+        "RT goes to the non-volatile store",
+    ),
+    edit("step10-append-replaces", JOINED, "let mut payload = Vec::new();", "an append replaces"),
+    edit(
+        "step10-append-in-front",
+        JOINED,
+        "let mut payload = Vec::new();\n    if append {\n        payload.extend(request.payload);\n        payload.extend(old.payload);\n        if payload.len() > MAX_PAYLOAD {\n            return SetGround::AppendTooLong;\n        }\n        pair.of_mut(kind)[place].payload = payload;\n        return SetGround::AppendJoined;\n    }",
+        "an append goes before the old bytes",
+    ),
+    edit("step10-write-appends", JOINED, "let mut payload = old.payload;", "every set appends"),
+    edit(
+        "step10-rewrite-moves",
+        REWRITTEN,
+        "    let mut variable = pair.of_mut(kind).remove(place);\n    variable.payload = payload;\n    pair.of_mut(kind).push(variable);\n",
+        "a rewrite moves to the end",
+    ),
+    edit(
+        "step10-rewrite-moves-if-longer",
+        REWRITTEN,
+        "    let mut variable = pair.of_mut(kind).remove(place);\n    let longer = payload.len() > variable.payload.len();\n    variable.payload = payload;\n    if longer {\n        pair.of_mut(kind).push(variable);\n    } else {\n        pair.of_mut(kind).insert(place, variable);\n    }\n",
+        "a longer rewrite moves to the end",
+    ),
+    edit("step10-nothing", REWRITTEN, "    let _ = (kind, place);\n", "a rewrite answers 0 and stores nothing"),
+    edit(
+        "step10-erased-zeros",
+        "bytes.resize(store.len(), 0xFF);",
+        "bytes.resize(store.len(), 0);",
+        "the room behind the records is filled with zeros",
+    ),
+];
