@@ -2,11 +2,13 @@
 
 use super::{ERASED, Outcome, Sweep, delete, engine, entry, locking, read, set, state};
 use crate::call::Call;
-use crate::make::{EntryFields, G, record, unit_bytes, units};
+use crate::make::{EntryFields, G, entry_of_size, record, unit_bytes, units};
+use varpolicy::MAX_ENTRIES;
 
 pub(super) fn run(sweep: &mut Sweep) -> Outcome {
     orders(sweep)?;
     ranks(sweep)?;
+    at_each_place(sweep)?;
     namespaces(sweep)
 }
 
@@ -45,6 +47,21 @@ fn ranks(sweep: &mut Sweep) -> Outcome {
     Ok(())
 }
 
+/// An entry at each place of a record of 64, beside the whole namespace at the start or the end.
+fn at_each_place(sweep: &mut Sweep) -> Outcome {
+    let others = |count: usize| (0..count).map(|number| entry_of_size(44, number));
+    for place in 0..MAX_ENTRIES {
+        let mut alone: Vec<Vec<u8>> = others(MAX_ENTRIES - 1).collect();
+        alone.insert(place, locking(G, &units("A")));
+        sweep.each(&engine(&alone), ["A", "B"].map(|name| delete(&units(name))))?;
+        let mut beside = alone.clone();
+        let other_end = if place < MAX_ENTRIES / 2 { MAX_ENTRIES - 1 } else { 0 };
+        beside[other_end] = entry("").pack();
+        sweep.each(&engine(&beside), ["A", "B"].map(|name| delete(&units(name))))?;
+    }
+    Ok(())
+}
+
 /// Entries, variables and triggers whose namespace differs in one bit.
 fn namespaces(sweep: &mut Sweep) -> Outcome {
     let name = units("A");
@@ -54,9 +71,11 @@ fn namespaces(sweep: &mut Sweep) -> Outcome {
         let there = record(&other, &name, 3, &[7]);
         let triggered = entry("B").with_trigger(G, &name, 7).pack();
         let entries = [locking(other, &name), triggered];
+        let both = [record(&G, &name, 3, &[7]), there.clone()].concat();
         let elsewhere = Call::Set { namespace: other, name: unit_bytes(&name), attributes: 3, payload: vec![1] };
         let calls = [delete(&name), read(&name), set(&name, 3, vec![1]), set(&units("B"), 3, vec![1]), elsewhere];
         sweep.each(&state(&there, ERASED, &entries), calls.clone())?;
+        sweep.each(&state(&both, ERASED, &entries), calls.clone())?;
         sweep.each(&state(&[there, vec![0xFF; 80]].concat(), ERASED, &entries), calls)?;
         sweep.each(&engine(&[locking(other, &[])]), [delete(&name)])?;
     }

@@ -101,7 +101,17 @@ fn dumps(sweep: &mut Sweep) -> Outcome {
     triggered.trigger[17] = 0x99;
     for entries in [Vec::new(), vec![reserved, triggered.pack()], one_of_each_type().to_vec(), whole] {
         let needed = entries.concat().len();
-        let lengths = [0, 1, needed.saturating_sub(1), needed, needed + 1, needed + 100, 2 * POLICY_BYTES];
+        let lengths = [
+            0,
+            1,
+            needed.saturating_sub(1),
+            needed,
+            needed + 1,
+            needed + 100,
+            2 * POLICY_BYTES,
+            1 << 16,
+            (1 << 16) + 1,
+        ];
         sweep.each(&engine(&entries), lengths.map(|len| Call::Dump { buffer: vec![0x5A; len] }))?;
     }
     Ok(())

@@ -169,8 +169,10 @@ fn lent_record() -> [Call; 6] {
 fn over_record(sweep: &mut Sweep, record: &[u8]) -> Outcome {
     let state = State { policy: Guarded::new(record, 3), ..engine(&[]) };
     sweep.each(&state, lent_record())?;
-    let locked = State { switches: Switches { locked: true, ..state.switches }, ..state };
-    sweep.each(&locked, [register(entry_of_size(44, 99))])
+    let locked = State { switches: Switches { locked: true, ..state.switches }, ..state.clone() };
+    sweep.each(&locked, [register(entry_of_size(44, 99))])?;
+    let disabled = State { switches: Switches { enabled: false, ..state.switches }, ..state };
+    sweep.each(&disabled, [delete(&units("AB")), register(entry_of_size(44, 99))])
 }
 
 /// A record of one entry of each type with each bit changed.
@@ -194,7 +196,8 @@ fn record_ends(sweep: &mut Sweep) -> Outcome {
         let state = State { policy: Guarded::new(&bytes, 3), ..engine(&[]) };
         sweep.each(&state, [dump()])?;
     }
-    for len in [0, 1, 43, 44, used, POLICY_BYTES - 1, POLICY_BYTES + 1, 2 * POLICY_BYTES] {
+    let more = [POLICY_BYTES + 1, 2 * POLICY_BYTES, (1 << 16) + POLICY_BYTES];
+    for len in [0, 1, 43, 44, used, POLICY_BYTES - 1].into_iter().chain(more) {
         let mut bytes = record.clone();
         bytes.resize(len, 0);
         over_record(sweep, &bytes)?;

@@ -1,6 +1,6 @@
 //! Names unit by unit: under '#', place by place, and of every length.
 
-use super::{ERASED, Outcome, Sweep, delete, engine, locking, packed_names, read, set, state};
+use super::{ERASED, Outcome, Sweep, delete, engine, locking, packed_names, read, register, set, state};
 use crate::call::Call;
 use crate::make::{G, record, units};
 
@@ -36,6 +36,11 @@ fn places(sweep: &mut Sweep) -> Outcome {
                 other[place] ^= 1 << bit;
                 let state = state(&record(&G, &other, 3, &[1]), ERASED, &[locking(G, &other)]);
                 sweep.each(&state, [delete(&name), read(&name), delete(&other), read(&other)])?;
+                sweep.each(&engine(&[locking(G, &other)]), [register(locking(G, &name))])?;
+                let (other, name) = (record(&G, &other, 3, &[1]), [3, 2].map(|bits| record(&G, &name, bits, &[2])));
+                let [beside, volatile] = name;
+                sweep.each(&super::state(&[&other[..], &beside].concat(), &[], &[]), [read(&units("A"))])?;
+                sweep.each(&super::state(&other, &volatile, &[]), [read(&units("A"))])?;
             }
             let mut pattern = name.clone();
             pattern[place] = NUMBER_SIGN;

@@ -13,6 +13,7 @@ pub(super) fn run(sweep: &mut Sweep) -> Outcome {
     sizes(sweep)?;
     long_payloads(sweep)?;
     locks(sweep)?;
+    trigger_bytes(sweep)?;
     deletions(sweep)?;
     steps_at_once(sweep)
 }
@@ -88,13 +89,13 @@ fn locks(sweep: &mut Sweep) -> Outcome {
 fn locking_entries() -> Vec<EntryFields> {
     let plain = (0..3).map(|lock_type| EntryFields { lock_type, ..entry("A") });
     let trigger = |name: &str, value: u8| entry("A").with_trigger(G, &units(name), value);
-    let elsewhere = entry("A").with_trigger(OTHER_NAMESPACE, &units("T0"), 1);
+    let elsewhere = |name: &str| entry("A").with_trigger(OTHER_NAMESPACE, &units(name), 1);
     let triggers = [trigger("T0", 0), trigger("T0", 1), trigger("T0", 0xFF), trigger("T#", 0), trigger("##", 1)];
-    plain.chain(triggers).chain([elsewhere, trigger("A", 1)]).collect()
+    plain.chain(triggers).chain([elsewhere("U0"), elsewhere("T0"), trigger("U0", 1), trigger("A", 1)]).collect()
 }
 
-/// A state with the variable "A" and the variables "T0", in two namespaces, and "##", each in the store that
-/// its attributes say, or absent if they are 0.
+/// A state with the variable "A", the variables "T0" and "##", and "U0" of another namespace, each in the store
+/// that its attributes say, or absent if they are 0.
 fn with_trigger(lock: &EntryFields, attributes: u32, payload: &[u8], at: u32) -> State {
     let records = |kind: u32| {
         let mut records = Vec::new();
@@ -103,13 +104,28 @@ fn with_trigger(lock: &EntryFields, attributes: u32, payload: &[u8], at: u32) ->
                 records.push(record(namespace, &units(name), attributes, payload));
             }
         };
-        hold(&OTHER_NAMESPACE, "T0", attributes, payload);
+        hold(&OTHER_NAMESPACE, "U0", attributes, payload);
         hold(&G, "T0", attributes, payload);
         hold(&G, "##", attributes, payload);
         hold(&G, "A", at, &[1]);
         store(240, &records)
     };
     state(&records(1), &records(0), &[lock.pack()])
+}
+
+/// Every byte in a trigger against Values, and triggers of other lengths that begin with Value.
+fn trigger_bytes(sweep: &mut Sweep) -> Outcome {
+    let trigger = |payload: &[u8]| store(1100, &[record(&G, &units("T"), 3, payload)]);
+    for value in (0..8).map(|bit| 1 << bit).chain([0, 0x5A, 0xFF]) {
+        let entries = [entry("A").with_trigger(G, &units("T"), value).pack()];
+        for byte in 0..=u8::MAX {
+            sweep.each(&state(&trigger(&[byte]), ERASED, &entries), [set(NAME, 2, vec![1])])?;
+        }
+        for length in [2, 3, 4, 5, 256, 257, 513, 1024] {
+            sweep.each(&state(&trigger(&vec![value; length]), ERASED, &entries), [set(NAME, 2, vec![1])])?;
+        }
+    }
+    Ok(())
 }
 
 /// Every form of deletion, and the empty append, over variables of all attributes in either store.
@@ -123,7 +139,7 @@ fn deletions(sweep: &mut Sweep) -> Outcome {
         for entries in [Vec::new(), vec![asking.pack()]] {
             let state = state(&store(100, &records(1)), &store(100, &records(0)), &entries);
             for bits in 0..0x50 {
-                let payloads = [Vec::new(), vec![1], vec![9; 1024], vec![9; 1025]];
+                let payloads = [Vec::new(), vec![0], vec![1], vec![0xFF], vec![9; 1024], vec![9; 1025]];
                 sweep.each(&state, payloads.map(|payload| set(NAME, bits, payload)))?;
             }
         }

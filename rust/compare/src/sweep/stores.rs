@@ -105,8 +105,13 @@ fn ends(sweep: &mut Sweep) -> Outcome {
             let mut bytes = record.clone();
             bytes[place] ^= 0x11;
             as_either(sweep, &bytes)?;
+            bytes[place] = 0;
+            as_either(sweep, &bytes)?;
             as_either(sweep, &record[..place])?;
         }
+        let mut zeros = record.clone();
+        zeros[38 + length..].fill(0);
+        as_either(sweep, &zeros)?;
         for behind in 0..12 {
             let mut bytes = store(record.len() + behind, from_ref(&record));
             as_either(sweep, &bytes)?;

@@ -363,4 +363,52 @@ pub(super) const EDITS: &[Edit] = &[
         "payload: { let mut payload = variable.payload.clone(); payload.resize(variable.record_len() - variable.payload_at(), 0xFF); payload },",
         "a read hands back the padding",
     ),
+    edit(
+        "read-first-store",
+        "kind,\n        offset",
+        "kind: Kind::NonVolatile,\n        offset",
+        "a read always names the non-volatile store",
+    ),
+    edit(
+        "register-erased-behind",
+        "bytes.resize(POLICY_BYTES, 0);",
+        "bytes.resize(POLICY_BYTES, 0xFF);",
+        "0xFF follows the entries",
+    ),
+    edit(
+        "dump-buffer-16-bits",
+        DUMP,
+        "let len = buffer.len() & 0xFFFF;\n    match buffer[..len].get_mut(..bytes.len()) {",
+        "16 bits of the buffer's length count",
+    ),
+    edit(
+        "status-record-2",
+        "RegisterGround::BadRecord => Status::VolumeCorrupted",
+        "RegisterGround::BadRecord => Status::InvalidParameter",
+        "register over an unsound record answers 2",
+    ),
+    edit(
+        "status-locked-2",
+        "RegisterGround::Locked => Status::WriteProtected",
+        "RegisterGround::Locked => Status::InvalidParameter",
+        "a locked engine answers 2",
+    ),
+    edit(
+        "status-malformed-8",
+        "RegisterGround::Malformed => Status::InvalidParameter",
+        "RegisterGround::Malformed => Status::WriteProtected",
+        "a malformed entry answers 8",
+    ),
+    edit(
+        "status-repeat-2",
+        "RegisterGround::Repeated => Status::AlreadyStarted",
+        "RegisterGround::Repeated => Status::InvalidParameter",
+        "a repeat answers 2",
+    ),
+    edit(
+        "status-full-8",
+        "RegisterGround::TooMany | RegisterGround::TooLong => Status::OutOfResources",
+        "RegisterGround::TooMany | RegisterGround::TooLong => Status::WriteProtected",
+        "a full record answers 8",
+    ),
 ];

@@ -105,6 +105,18 @@ pub(super) const EDITS: &[Edit] = &[
         "only the first unit may not be zero",
     ),
     edit(
+        "name-length-8-bits",
+        REQUEST,
+        "(1..=MAX_UNITS).contains(&(name.len() & 0xFF)) && !name.contains(&0)",
+        "8 bits of the number of units count",
+    ),
+    edit(
+        "name-length-15-bits",
+        REQUEST,
+        "(1..=MAX_UNITS).contains(&(name.len() & 0x7FFF)) && !name.contains(&0)",
+        "16 bits of the name's length count",
+    ),
+    edit(
         "name-zero-not-last",
         REQUEST,
         "(1..=MAX_UNITS).contains(&name.len()) && name.last() != Some(&0)",

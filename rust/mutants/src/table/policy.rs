@@ -3,13 +3,25 @@
 use super::{Edit, edit};
 
 const LENGTH: &str = "record.len() != POLICY_BYTES";
+const LONGER: &str = "if record.len() != POLICY_BYTES {";
 const ZEROS: &str = "while *rest != ZEROS[..rest.len()] {";
 const LIMITS: &str = "policy.entries.len() == MAX_ENTRIES || policy.holds(&entry)";
 const HOLDS: &str = "self.entries.iter().any(|known| known.repeats(entry))";
 const CHOICE: &str = "targeting.min_by_key(|entry| entry.rank())";
 
 pub(super) const EDITS: &[Edit] = &[
-    edit("record-longer", LENGTH, "record.len() < POLICY_BYTES", "a policy record may be longer"),
+    edit(
+        "record-longer",
+        LONGER,
+        "let record = &record[..record.len().min(POLICY_BYTES)];\n        if record.len() != POLICY_BYTES {",
+        "a policy record may be longer",
+    ),
+    edit(
+        "record-length-16-bits",
+        LONGER,
+        "let record = &record[..record.len() & 0xFFFF];\n        if record.len() != POLICY_BYTES {",
+        "16 bits of the policy record's length count",
+    ),
     edit("record-shorter", LENGTH, "record.len() > POLICY_BYTES", "a policy record may be shorter"),
     edit(
         "record-zeros-four",

@@ -410,6 +410,18 @@ pub(super) const EDITS: &[Edit] = &[
         "(variable.payload == [trigger.value] && !request.is_deletion()).then_some(SetGround::LockedOnVarState)",
         "type 3 lets a deletion by",
     ),
+    edit(
+        "step4-trigger-7-bits",
+        TRIGGERED,
+        "(variable.payload.len() == 1 && variable.payload[0] & 0x7F == trigger.value & 0x7F).then_some(SetGround::LockedOnVarState)",
+        "7 bits of Value count",
+    ),
+    edit(
+        "step4-trigger-length-8-bits",
+        TRIGGERED,
+        "(variable.payload.len() as u8 == 1 && variable.payload[0] == trigger.value).then_some(SetGround::LockedOnVarState)",
+        "8 bits of the trigger's length count",
+    ),
     // Step 5.
     edit(
         "step5-before-4",
@@ -454,6 +466,18 @@ pub(super) const EDITS: &[Edit] = &[
         DELETED,
         "pair.of_mut(kind).truncate(place);",
         "a deletion removes the later records too",
+    ),
+    edit(
+        "step5-volatile-not-written",
+        "write_back(volatile, &pair.volatile);\n        return SetGround::Deleted;",
+        "return SetGround::Deleted;",
+        "a deletion from the volatile store answers 0 and removes nothing",
+    ),
+    edit(
+        "step5-left-behind",
+        "write_back(non_volatile, &pair.non_volatile);\n        write_back(volatile, &pair.volatile);\n        return SetGround::Deleted;",
+        "for (store, variables) in [(non_volatile, &pair.non_volatile), (volatile, &pair.volatile)] {\n            let bytes = store::encode(variables);\n            store[..bytes.len()].copy_from_slice(&bytes);\n        }\n        return SetGround::Deleted;",
+        "a deletion does not erase the room that is free",
     ),
     // Step 6.
     edit(
@@ -621,6 +645,12 @@ pub(super) const EDITS: &[Edit] = &[
     ),
     // Step 10.
     edit(
+        "step10-volatile-not-written",
+        "write_back(volatile, &pair.volatile);\n    ground",
+        "ground",
+        "a set in the volatile store answers 0 and stores nothing",
+    ),
+    edit(
         "step10-append-not-creates",
         CREATED,
         "if append {\n            return SetGround::DeleteAbsent;\n        }\n        pair.of_mut(kind).push(Variable { namespace, name: name.to_vec(), attributes, payload });",
@@ -671,5 +701,48 @@ pub(super) const EDITS: &[Edit] = &[
         "bytes.resize(store.len(), 0xFF);",
         "bytes.resize(store.len(), 0);",
         "the room behind the records is filled with zeros",
+    ),
+    // Statuses.
+    edit(
+        "status-stores-14",
+        "BadStores | BadRecord => Status::VolumeCorrupted",
+        "BadStores | BadRecord => Status::NotFound",
+        "set over something unsound answers 14",
+    ),
+    edit(
+        "status-unknown-2",
+        "UnknownAttribute => Status::Unsupported",
+        "UnknownAttribute => Status::InvalidParameter",
+        "an unknown bit answers 2",
+    ),
+    edit(
+        "status-without-bs-3",
+        "BadName | LongPayload | WithoutBootService => Status::InvalidParameter",
+        "BadName | LongPayload => Status::InvalidParameter,\n            WithoutBootService => Status::Unsupported",
+        "RT without BS answers 3",
+    ),
+    edit(
+        "status-policy-8",
+        "TooShort | TooLong | AttributeMissing | AttributeProhibited => Status::InvalidParameter",
+        "TooShort | TooLong | AttributeMissing | AttributeProhibited => Status::WriteProtected",
+        "size and attributes answer 8",
+    ),
+    edit(
+        "status-variable-locked-2",
+        "LockedNow | LockedOnCreate | LockedOnVarState => Status::WriteProtected",
+        "LockedNow | LockedOnCreate | LockedOnVarState => Status::InvalidParameter",
+        "a locked variable answers 2",
+    ),
+    edit(
+        "status-other-attributes-8",
+        "OtherAttributes => Status::InvalidParameter",
+        "OtherAttributes => Status::WriteProtected",
+        "other attributes answer 8",
+    ),
+    edit(
+        "status-room-5",
+        "AppendTooLong | NoRoom => Status::OutOfResources",
+        "AppendTooLong => Status::OutOfResources,\n            NoRoom => Status::BufferTooSmall",
+        "no room answers 5",
     ),
 ];

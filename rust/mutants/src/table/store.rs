@@ -236,4 +236,34 @@ pub(super) const EDITS: &[Edit] = &[
         "let place = variables.iter().take(variables.len().max(3) - 1).position(",
         "the last of three or more records is not searched",
     ),
+    edit(
+        "store-length-16-bits",
+        "if bytes.len() > MAX_STORE {",
+        "if bytes.len() & 0xFFFF > MAX_STORE {",
+        "16 bits of a store's length count",
+    ),
+    edit(
+        "find-8-units",
+        IS,
+        "self.namespace == *namespace && self.name.len() == name.len() && self.name.iter().take(8).eq(name.iter().take(8))",
+        "8 units of a stored name are compared",
+    ),
+    edit(
+        "find-not-the-first",
+        IS,
+        "self.namespace == *namespace && self.name.len() == name.len() && self.name[1..] == name[1..]",
+        "the first unit of a stored name is not compared",
+    ),
+    edit(
+        "store-twice-by-8-units",
+        SEEN,
+        "seen.insert((&variable.namespace, &variable.name[..variable.name.len().min(8)]))",
+        "no two variables have names that begin alike",
+    ),
+    edit(
+        "store-twice-by-length",
+        SEEN,
+        "seen.insert((&variable.namespace, variable.name.len(), variable.name.last()))",
+        "no two variables have names of one length and end",
+    ),
 ];
