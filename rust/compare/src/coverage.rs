@@ -2,7 +2,8 @@
 //! and the inputs that the comparison promises to try.
 
 use crate::call::Ground;
-use crate::{damage, inputs, steps};
+use crate::inputs::labels;
+use crate::{damage, steps};
 use reference::RegisterGround as R;
 use reference::SetGround as S;
 use std::fmt;
@@ -104,37 +105,37 @@ pub enum Input {
 fn groups() -> Vec<Group> {
     use Input::*;
     vec![
-        Group::new(Switches, "switches (enabled, locked, disabling allowed)", inputs::switch_labels()),
-        Group::new(Start, "start", inputs::START),
-        Group::new(Registration, "registration", inputs::REGISTRATION),
-        Group::new(EntryName, "name of an entry to register", inputs::PACKED_NAME),
-        Group::new(TriggerName, "trigger's name in an entry to register", inputs::PACKED_NAME),
-        Group::new(DumpBuffer, "buffer of a dump", inputs::DUMP_BUFFER),
-        Group::new(RequestName, "name of a request", inputs::REQUEST_NAME),
+        Group::new(Switches, "switches (enabled, locked, disabling allowed)", labels::switch_labels()),
+        Group::new(Start, "start", labels::START),
+        Group::new(Registration, "registration", labels::REGISTRATION),
+        Group::new(EntryName, "name of an entry to register", labels::PACKED_NAME),
+        Group::new(TriggerName, "trigger's name in an entry to register", labels::PACKED_NAME),
+        Group::new(DumpBuffer, "buffer of a dump", labels::DUMP_BUFFER),
+        Group::new(RequestName, "name of a request", labels::REQUEST_NAME),
         Group::new(RequestBit, "attributes of a set: this bit alone, or with BS", bits()),
-        Group::new(Payload, "length of a set's payload", inputs::PAYLOAD),
-        Group::new(Choice, "entries that target the variable", inputs::CHOICE),
-        Group::new(UnderSign, "unit of a set's name under an entry's '#'", inputs::UNDER_SIGN),
-        Group::new(MinSize, "MinSize of the chosen entry", inputs::size_labels()),
-        Group::new(MaxSize, "MaxSize of the chosen entry", inputs::size_labels()),
-        Group::new(AgainstSizes, "payload against the chosen entry", inputs::AGAINST_SIZES),
+        Group::new(Payload, "length of a set's payload", labels::PAYLOAD),
+        Group::new(Choice, "entries that target the variable", labels::CHOICE),
+        Group::new(UnderSign, "unit of a set's name under an entry's '#'", labels::UNDER_SIGN),
+        Group::new(MinSize, "MinSize of the chosen entry", labels::size_labels()),
+        Group::new(MaxSize, "MaxSize of the chosen entry", labels::size_labels()),
+        Group::new(AgainstSizes, "payload against the chosen entry", labels::AGAINST_SIZES),
         Group::new(Required, "AttributesMustHave of the chosen entry is this bit, which the set lacks", bits_but_bs()),
         Group::new(
             Prohibited,
             "AttributesCantHave of the chosen entry is this bit, and the set is without it",
             bits_but_bs(),
         ),
-        Group::new(KnownBit, "the chosen entry names this bit alone, and the set has it", inputs::known_bit_labels()),
-        Group::new(Lock, "lock of the chosen entry, and where the variable is", inputs::lock_labels()),
-        Group::new(Trigger, "trigger of the chosen entry", inputs::TRIGGER),
-        Group::new(Deletion, "deletion or empty append, and where the variable is", inputs::deletion_labels()),
+        Group::new(KnownBit, "the chosen entry names this bit alone, and the set has it", labels::known_bit_labels()),
+        Group::new(Lock, "lock of the chosen entry, and where the variable is", labels::lock_labels()),
+        Group::new(Trigger, "trigger of the chosen entry", labels::TRIGGER),
+        Group::new(Deletion, "deletion or empty append, and where the variable is", labels::deletion_labels()),
         Group::new(StepsAtOnce, "steps of set: the one that decided, and a later one that holds too", steps::pairs()),
-        Group::new(AppendLength, "length that an append would make", inputs::APPEND_LENGTH),
-        Group::new(Room, "room in the store, by padding", inputs::room_labels()),
-        Group::new(StoreLength, "length of a store", inputs::STORE_LENGTH),
-        Group::new(NameSize, "NameSize of a stored record", inputs::name_size_labels()),
-        Group::new(DataSize, "DataSize of a stored record", inputs::data_size_labels()),
-        Group::new(Unsound, "lent something unsound, with another fault besides", inputs::UNSOUND),
+        Group::new(AppendLength, "length that an append would make", labels::APPEND_LENGTH),
+        Group::new(Room, "room in the store, by padding", labels::room_labels()),
+        Group::new(StoreLength, "length of a store", labels::STORE_LENGTH),
+        Group::new(NameSize, "NameSize of a stored record", labels::name_size_labels()),
+        Group::new(DataSize, "DataSize of a stored record", labels::data_size_labels()),
+        Group::new(Unsound, "lent something unsound, with another fault besides", labels::UNSOUND),
         Group::new(Entry, "damage to an entry", damage::ENTRY),
         Group::new(Stores, "damage to the stores", damage::STORES),
         Group::new(Policy, "damage to the policy record", damage::POLICY),

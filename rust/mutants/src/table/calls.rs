@@ -119,7 +119,8 @@ pub(super) const EDITS: &[Edit] = &[
     edit(
         "restart-each-alone",
         RESTART,
-        "if store::decode(non_volatile, Kind::NonVolatile).is_none() || store::decode(volatile, Kind::Volatile).is_none() || policy.len() != POLICY_BYTES {",
+        "if store::decode(non_volatile, Kind::NonVolatile).is_none() || store::decode(volatile, \
+         Kind::Volatile).is_none() || policy.len() != POLICY_BYTES {",
         "restart over a variable in both stores",
     ),
     edit(
@@ -137,81 +138,84 @@ pub(super) const EDITS: &[Edit] = &[
     edit(
         "register-locked-first",
         REGISTER_RECORD,
-        "    if switches.locked {\n        return RegisterGround::Locked;\n    }\n    let Some(mut policy) = Policy::decode(record) else {",
+        "if switches.locked { return RegisterGround::Locked; } let Some(mut policy) = Policy::decode(record) else {",
         "register: 8 before 10",
     ),
     edit("register-unlocked", REGISTER_LOCKED, "let Some(decoded)", "a locked engine registers"),
     edit(
         "register-disabled",
         REGISTER_LOCKED,
-        "if switches.locked || !switches.enabled {\n        return RegisterGround::Locked;\n    }\n    let Some(decoded)",
+        "if switches.locked || !switches.enabled { return RegisterGround::Locked; } let Some(decoded)",
         "a disabled engine does not register",
     ),
     edit(
         "register-malformed-first",
         REGISTER_LOCKED,
-        "if Entry::decode(entry).is_none() {\n        return RegisterGround::Malformed;\n    }\n    if switches.locked {\n        return RegisterGround::Locked;\n    }\n    let Some(decoded)",
+        "if Entry::decode(entry).is_none() { return RegisterGround::Malformed; } if switches.locked { return \
+         RegisterGround::Locked; } let Some(decoded)",
         "register: 2 before 8",
     ),
     edit(
         "register-repeat-before-locked",
         REGISTER_LOCKED,
-        "if Entry::decode(entry).is_some_and(|entry| policy.holds(&entry)) {\n        return RegisterGround::Repeated;\n    }\n    if switches.locked {\n        return RegisterGround::Locked;\n    }\n    let Some(decoded)",
+        "if Entry::decode(entry).is_some_and(|entry| policy.holds(&entry)) { return RegisterGround::Repeated; } if \
+         switches.locked { return RegisterGround::Locked; } let Some(decoded)",
         "register: 20 before 8",
     ),
     edit(
         "register-full-before-locked",
         REGISTER_LOCKED,
-        "if policy.entries.len() == MAX_ENTRIES {\n        return RegisterGround::TooMany;\n    }\n    if switches.locked {\n        return RegisterGround::Locked;\n    }\n    let Some(decoded)",
+        "if policy.entries.len() == MAX_ENTRIES { return RegisterGround::TooMany; } if switches.locked { return \
+         RegisterGround::Locked; } let Some(decoded)",
         "register: 9 before 8 at the full count",
     ),
     edit(
         "register-full-before-malformed",
         "    let Some(decoded) = Entry::decode(entry) else {",
-        "    if policy.entries.len() == MAX_ENTRIES {\n        return RegisterGround::TooMany;\n    }\n    let Some(decoded) = Entry::decode(entry) else {",
+        "if policy.entries.len() == MAX_ENTRIES { return RegisterGround::TooMany; } let Some(decoded) = \
+         Entry::decode(entry) else {",
         "register: 9 before 2 at the full count",
     ),
     edit(
         "register-sum-before-malformed",
         "    let Some(decoded) = Entry::decode(entry) else {",
-        "    if policy.encode().len() + entry.len() > POLICY_BYTES {\n        return RegisterGround::TooLong;\n    }\n    let Some(decoded) = Entry::decode(entry) else {",
+        "if policy.encode().len() + entry.len() > POLICY_BYTES { return RegisterGround::TooLong; } let \
+         Some(decoded) = Entry::decode(entry) else {",
         "register: 9 before 2 at the full sum",
     ),
     edit(
         "register-full-before-repeat",
         REPEATED,
-        "if policy.entries.len() == MAX_ENTRIES {\n        return RegisterGround::TooMany;\n    }\n    if policy.holds(&decoded) {\n        return RegisterGround::Repeated;",
+        "if policy.entries.len() == MAX_ENTRIES { return RegisterGround::TooMany; } if policy.holds(&decoded) { \
+         return RegisterGround::Repeated;",
         "register: 9 before 20 at the full count",
     ),
     edit(
         "register-sum-before-repeat",
         REPEATED,
-        "if policy.encode().len() + entry.len() > POLICY_BYTES {\n        return RegisterGround::TooLong;\n    }\n    if policy.holds(&decoded) {\n        return RegisterGround::Repeated;",
+        "if policy.encode().len() + entry.len() > POLICY_BYTES { return RegisterGround::TooLong; } if \
+         policy.holds(&decoded) { return RegisterGround::Repeated;",
         "register: 9 before 20 at the full sum",
     ),
     edit(
         "register-repeat-replaces",
         REPEATED,
-        "policy.entries.retain(|known| !known.repeats(&decoded));\n    if policy.holds(&decoded) {\n        return RegisterGround::Repeated;",
+        "policy.entries.retain(|known| !known.repeats(&decoded)); if policy.holds(&decoded) { return \
+         RegisterGround::Repeated;",
         "a repeat replaces the first",
     ),
-    edit(
-        "register-repeats",
-        REPEATED,
-        "if false {\n        return RegisterGround::Repeated;",
-        "a repeat is registered",
-    ),
+    edit("register-repeats", REPEATED, "if false { return RegisterGround::Repeated;", "a repeat is registered"),
     edit("register-any-count", TOO_MANY, "", "any number of entries is registered"),
     edit(
         "register-any-sum",
         "if bytes.len() > POLICY_BYTES {\n        return RegisterGround::TooLong;",
-        "if bytes.len() > 2 * POLICY_BYTES {\n        return RegisterGround::TooLong;",
+        "if bytes.len() > 2 * POLICY_BYTES { return RegisterGround::TooLong;",
         "any sum is registered",
     ),
     edit(
         "register-sum-below",
         "if bytes.len() > POLICY_BYTES {\n        return RegisterGround::TooLong;",
-        "if bytes.len() >= POLICY_BYTES {\n        return RegisterGround::TooLong;",
+        "if bytes.len() >= POLICY_BYTES { return RegisterGround::TooLong;",
         "a sum of 8,192 is refused",
     ),
     edit(
@@ -236,7 +240,8 @@ pub(super) const EDITS: &[Edit] = &[
     edit(
         "dump-short-writes",
         DUMP_SHORT,
-        "None => {\n            let len = buffer.len();\n            buffer.copy_from_slice(&bytes[..len]);\n            (Status::BufferTooSmall, bytes.len())\n        }",
+        "None => { let len = buffer.len(); buffer.copy_from_slice(&bytes[..len]); (Status::BufferTooSmall, \
+         bytes.len()) }",
         "a short buffer is filled",
     ),
     edit(
@@ -254,7 +259,7 @@ pub(super) const EDITS: &[Edit] = &[
     edit(
         "dump-clears-behind",
         "start.copy_from_slice(&bytes);\n            (Status::Success",
-        "start.copy_from_slice(&bytes);\n            buffer[bytes.len()..].fill(0);\n            (Status::Success",
+        "start.copy_from_slice(&bytes); buffer[bytes.len()..].fill(0); (Status::Success",
         "a dump clears the later bytes",
     ),
     edit(
@@ -272,13 +277,13 @@ pub(super) const EDITS: &[Edit] = &[
     edit(
         "lock-takes-leave",
         "switches.locked = true;",
-        "switches.locked = true;\n    switches.disabling_allowed = false;",
+        "switches.locked = true; switches.disabling_allowed = false;",
         "a lock takes the leave to disable",
     ),
     edit(
         "lock-only-enabled",
         "if switches.locked {\n        return Status::WriteProtected;\n    }\n    switches.locked = true;",
-        "if switches.locked || !switches.enabled {\n        return Status::WriteProtected;\n    }\n    switches.locked = true;",
+        "if switches.locked || !switches.enabled { return Status::WriteProtected; } switches.locked = true;",
         "a disabled engine cannot be locked",
     ),
     edit("lock-does-nothing", "    switches.locked = true;\n", "", "lock answers 0 and does nothing"),
@@ -286,7 +291,8 @@ pub(super) const EDITS: &[Edit] = &[
     edit(
         "disable-locked-first",
         DISABLED,
-        "if switches.locked || !switches.disabling_allowed {\n        return Status::WriteProtected;\n    }\n    if !switches.enabled {\n        return Status::AlreadyStarted;\n    }",
+        "if switches.locked || !switches.disabling_allowed { return Status::WriteProtected; } if !switches.enabled \
+         { return Status::AlreadyStarted; }",
         "disable: 8 before 20",
     ),
     edit("disable-locked", DISABLE, "if !switches.disabling_allowed {", "a locked engine can be disabled"),
@@ -300,7 +306,7 @@ pub(super) const EDITS: &[Edit] = &[
     edit(
         "disable-locks",
         "switches.enabled = false;",
-        "switches.enabled = false;\n    switches.locked = true;",
+        "switches.enabled = false; switches.locked = true;",
         "a disabled engine is locked",
     ),
     edit(
@@ -317,14 +323,16 @@ pub(super) const EDITS: &[Edit] = &[
     ),
     edit(
         "read-name-first",
-        "    let pair = Pair::decode(non_volatile, volatile).ok_or(Status::VolumeCorrupted)?;\n    let name = name::decode_request(name).ok_or(Status::InvalidParameter)?;",
-        "    let name = name::decode_request(name).ok_or(Status::InvalidParameter)?;\n    let pair = Pair::decode(non_volatile, volatile).ok_or(Status::VolumeCorrupted)?;",
+        "    let pair = Pair::decode(non_volatile, volatile).ok_or(Status::VolumeCorrupted)?;\n    let name = \
+         name::decode_request(name).ok_or(Status::InvalidParameter)?;",
+        "let name = name::decode_request(name).ok_or(Status::InvalidParameter)?; let pair = \
+         Pair::decode(non_volatile, volatile).ok_or(Status::VolumeCorrupted)?;",
         "read: 2 before 10",
     ),
     edit(
         "read-bad-name-absent",
         "name::decode_request(name).ok_or(Status::InvalidParameter)?;\n    let (kind",
-        "name::decode_request(name).ok_or(Status::NotFound)?;\n    let (kind",
+        "name::decode_request(name).ok_or(Status::NotFound)?; let (kind",
         "a variable of a bad name is absent",
     ),
     edit(
@@ -336,13 +344,13 @@ pub(super) const EDITS: &[Edit] = &[
     edit(
         "read-attributes-0",
         "attributes: variable.attributes,\n        kind,",
-        "attributes: 0,\n        kind,",
+        "attributes: 0, kind,",
         "a read tells no attributes",
     ),
     edit(
         "read-attributes-nv-bs",
         "attributes: variable.attributes,\n        kind,",
-        "attributes: variable.attributes & 3,\n        kind,",
+        "attributes: variable.attributes & 3, kind,",
         "a read does not tell RT",
     ),
     edit(
@@ -360,13 +368,14 @@ pub(super) const EDITS: &[Edit] = &[
     edit(
         "read-with-padding",
         "payload: variable.payload.clone(),",
-        "payload: { let mut payload = variable.payload.clone(); payload.resize(variable.record_len() - variable.payload_at(), 0xFF); payload },",
+        "payload: { let mut payload = variable.payload.clone(); payload.resize(variable.record_len() - \
+         variable.payload_at(), 0xFF); payload },",
         "a read hands back the padding",
     ),
     edit(
         "read-first-store",
         "kind,\n        offset",
-        "kind: Kind::NonVolatile,\n        offset",
+        "kind: Kind::NonVolatile, offset",
         "a read always names the non-volatile store",
     ),
     edit(
@@ -378,7 +387,7 @@ pub(super) const EDITS: &[Edit] = &[
     edit(
         "dump-buffer-16-bits",
         DUMP,
-        "let len = buffer.len() & 0xFFFF;\n    match buffer[..len].get_mut(..bytes.len()) {",
+        "let len = buffer.len() & 0xFFFF; match buffer[..len].get_mut(..bytes.len()) {",
         "16 bits of the buffer's length count",
     ),
     edit(

@@ -63,19 +63,22 @@ pub(super) const EDITS: &[Edit] = &[
     edit(
         "entry-min-max-signed",
         FIELDS,
-        "version != VERSION || size != bytes.len() || min_size as i32 > max_size as i32 || must_have & cant_have != 0",
+        "version != VERSION || size != bytes.len() || min_size as i32 > max_size as i32 || must_have & cant_have \
+         != 0",
         "MinSize and MaxSize are signed",
     ),
     edit(
         "entry-min-max-16-bits",
         FIELDS,
-        "version != VERSION || size != bytes.len() || min_size as u16 > max_size as u16 || must_have & cant_have != 0",
+        "version != VERSION || size != bytes.len() || min_size as u16 > max_size as u16 || must_have & cant_have \
+         != 0",
         "MinSize and MaxSize have 16 bits",
     ),
     edit(
         "entry-max-not-0",
         FIELDS,
-        "version != VERSION || size != bytes.len() || max_size == 0 || min_size > max_size || must_have & cant_have != 0",
+        "version != VERSION || size != bytes.len() || max_size == 0 || min_size > max_size || must_have & \
+         cant_have != 0",
         "MaxSize 0 is malformed",
     ),
     edit(
@@ -93,19 +96,22 @@ pub(super) const EDITS: &[Edit] = &[
     edit(
         "entry-unknown-bit",
         FIELDS,
-        "version != VERSION || size != bytes.len() || min_size > max_size || must_have & cant_have != 0 || must_have & !0x47 != 0",
+        "version != VERSION || size != bytes.len() || min_size > max_size || must_have & cant_have != 0 || \
+         must_have & !0x47 != 0",
         "a required bit outside 0x47 is malformed",
     ),
     edit(
         "entry-unknown-prohibited",
         FIELDS,
-        "version != VERSION || size != bytes.len() || min_size > max_size || must_have & cant_have != 0 || cant_have & !0x47 != 0",
+        "version != VERSION || size != bytes.len() || min_size > max_size || must_have & cant_have != 0 || \
+         cant_have & !0x47 != 0",
         "a prohibited bit outside 0x47 is malformed",
     ),
     edit(
         "entry-reserved-zero",
         FIELDS,
-        "version != VERSION || size != bytes.len() || min_size > max_size || must_have & cant_have != 0 || reserved != [0; 3]",
+        "version != VERSION || size != bytes.len() || min_size > max_size || must_have & cant_have != 0 || \
+         reserved != [0; 3]",
         "the reserved bytes must be zero",
     ),
     edit(
@@ -132,13 +138,13 @@ pub(super) const EDITS: &[Edit] = &[
     edit(
         "entry-type-4",
         "_ => return None,",
-        "4 if before_name.is_empty() => LockRule::NoLock,\n            _ => return None,",
+        "4 if before_name.is_empty() => LockRule::NoLock, _ => return None,",
         "type 4 is no lock",
     ),
     edit(
         "entry-type-255",
         "_ => return None,",
-        "255 if before_name.is_empty() => LockRule::NoLock,\n            _ => return None,",
+        "255 if before_name.is_empty() => LockRule::NoLock, _ => return None,",
         "type 255 is no lock",
     ),
     edit("entry-type-two-bits", "match lock_type {", "match lock_type & 3 {", "only two bits of the type count"),
@@ -146,10 +152,10 @@ pub(super) const EDITS: &[Edit] = &[
     edit(
         "entry-name-zero-unit",
         NAME,
-        "[] | [0, 0] => Vec::new(),\n            closed",
+        "[] | [0, 0] => Vec::new(), closed",
         "a name of only a zero unit is the whole namespace",
     ),
-    edit("entry-name-not-empty", NAME, "[] => return None,\n            closed", "an entry must have a name"),
+    edit("entry-name-not-empty", NAME, "[] => return None, closed", "an entry must have a name"),
     edit(
         "trigger-name-empty",
         TRIGGER_NAME,
@@ -183,7 +189,7 @@ pub(super) const EDITS: &[Edit] = &[
     edit(
         "trigger-value-at-61",
         "let value = cursor.u8()?;\n        let reserved = cursor.u8()?;",
-        "let reserved = cursor.u8()?;\n        let value = cursor.u8()?;",
+        "let reserved = cursor.u8()?; let value = cursor.u8()?;",
         "Value stands at 61",
     ),
     edit("repeat-by-name", REPEATS, "self.name == other.name", "entries of one name repeat each other"),

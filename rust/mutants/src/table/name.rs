@@ -44,7 +44,8 @@ pub(super) const EDITS: &[Edit] = &[
     edit(
         "sign-in-the-variable",
         UNIT,
-        "wanted == unit || (wanted == NUMBER_SIGN && is_hex_digit(unit)) || (unit == NUMBER_SIGN && is_hex_digit(wanted))",
+        "wanted == unit || (wanted == NUMBER_SIGN && is_hex_digit(unit)) || (unit == NUMBER_SIGN && \
+         is_hex_digit(wanted))",
         "'#' in the variable's name matches a digit",
     ),
     edit("sign-ordinary", UNIT, "wanted == unit", "'#' is an ordinary character"),
@@ -52,7 +53,8 @@ pub(super) const EDITS: &[Edit] = &[
     edit(
         "match-case",
         "wanted == unit || (",
-        "u8::try_from(wanted).is_ok_and(|wanted| u8::try_from(unit).is_ok_and(|unit| unit.eq_ignore_ascii_case(&wanted))) || wanted == unit || (",
+        "u8::try_from(wanted).is_ok_and(|wanted| u8::try_from(unit).is_ok_and(|unit| \
+         unit.eq_ignore_ascii_case(&wanted))) || wanted == unit || (",
         "upper and lower case match",
     ),
     edit("match-shorter", LENGTH, "pattern.len() <= name.len() && pattern.iter()", "a beginning matches"),
@@ -137,7 +139,7 @@ pub(super) const EDITS: &[Edit] = &[
     edit(
         "name-closed-by-a-byte",
         "bytes.strip_suffix(&[0, 0])?",
-        "bytes.strip_suffix(&[0])?;\n    let open = &open[..open.len().saturating_sub(1)]",
+        "bytes.strip_suffix(&[0])?; let open = &open[..open.len().saturating_sub(1)]",
         "only the last byte of a packed name must be zero",
     ),
 ];

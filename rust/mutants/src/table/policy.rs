@@ -13,13 +13,13 @@ pub(super) const EDITS: &[Edit] = &[
     edit(
         "record-longer",
         LONGER,
-        "let record = &record[..record.len().min(POLICY_BYTES)];\n        if record.len() != POLICY_BYTES {",
+        "let record = &record[..record.len().min(POLICY_BYTES)]; if record.len() != POLICY_BYTES {",
         "a policy record may be longer",
     ),
     edit(
         "record-length-16-bits",
         LONGER,
-        "let record = &record[..record.len() & 0xFFFF];\n        if record.len() != POLICY_BYTES {",
+        "let record = &record[..record.len() & 0xFFFF]; if record.len() != POLICY_BYTES {",
         "16 bits of the policy record's length count",
     ),
     edit("record-shorter", LENGTH, "record.len() > POLICY_BYTES", "a policy record may be shorter"),

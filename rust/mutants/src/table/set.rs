@@ -43,31 +43,34 @@ pub(super) const EDITS: &[Edit] = &[
     edit(
         "set-record-if-enabled",
         LOOKS_AT_RECORD,
-        "    let policy = match Policy::decode(record) {\n        Some(policy) => policy,\n        None if switches.enabled => return SetGround::BadRecord,\n        None => Policy::default(),\n    };\n",
+        "let policy = match Policy::decode(record) { Some(policy) => policy, None if switches.enabled => return \
+         SetGround::BadRecord, None => Policy::default(), };",
         "a disabled engine does not look at the policy record",
     ),
     edit(
         "set-record-any",
         LOOKS_AT_RECORD,
-        "    let policy = Policy::decode(record).unwrap_or_default();\n",
+        "let policy = Policy::decode(record).unwrap_or_default();",
         "set over an unsound policy record",
     ),
     edit(
         "set-steps-before-stores",
         LOOKS_AT_STORES,
-        "    if let Err(ground) = well_formed(&request) {\n        return ground;\n    }\n    let Some(mut pair) = Pair::decode(non_volatile, volatile) else {",
+        "if let Err(ground) = well_formed(&request) { return ground; } let Some(mut pair) = \
+         Pair::decode(non_volatile, volatile) else {",
         "set: steps 1 to 3 before 10 for a store",
     ),
     edit(
         "set-steps-before-record",
         LOOKS_AT_RECORD,
-        "    if let Err(ground) = well_formed(&request) {\n        return ground;\n    }\n    let Some(policy) = Policy::decode(record) else {\n        return SetGround::BadRecord;\n    };\n",
+        "if let Err(ground) = well_formed(&request) { return ground; } let Some(policy) = Policy::decode(record) \
+         else { return SetGround::BadRecord; };",
         "set: steps 1 to 3 before 10 for the policy record",
     ),
     edit(
         "set-locked-engine",
         STEPS_1_TO_3,
-        "    if switches.locked {\n        return SetGround::LockedNow;\n    }\n    let name = match well_formed(&request) {",
+        "if switches.locked { return SetGround::LockedNow; } let name = match well_formed(&request) {",
         "a locked engine sets nothing",
     ),
     // What a deletion is.
@@ -134,13 +137,15 @@ pub(super) const EDITS: &[Edit] = &[
     edit(
         "step2-before-1",
         NAME,
-        "    if request.has(!(NV | BS | RT | APPEND)) {\n        return Err(SetGround::UnknownAttribute);\n    }\n    let name = name::decode_request(request.name).ok_or(SetGround::BadName)?;\n",
+        "if request.has(!(NV | BS | RT | APPEND)) { return Err(SetGround::UnknownAttribute); } let name = \
+         name::decode_request(request.name).ok_or(SetGround::BadName)?;",
         "step 2 before step 1",
     ),
     edit(
         "step2-before-1-payload",
         PAYLOAD,
-        "if request.has(!(NV | BS | RT | APPEND)) {\n        return Err(SetGround::UnknownAttribute);\n    }\n    if request.payload.len() > MAX_PAYLOAD {",
+        "if request.has(!(NV | BS | RT | APPEND)) { return Err(SetGround::UnknownAttribute); } if \
+         request.payload.len() > MAX_PAYLOAD {",
         "step 2 before the payload of step 1",
     ),
     edit(
@@ -152,7 +157,8 @@ pub(super) const EDITS: &[Edit] = &[
     edit(
         "step3-before-2",
         UNKNOWN,
-        "if request.has(RT | APPEND) && !request.has(BS) {\n        return Err(SetGround::WithoutBootService);\n    }\n    if request.has(!(NV | BS | RT | APPEND)) {",
+        "if request.has(RT | APPEND) && !request.has(BS) { return Err(SetGround::WithoutBootService); } if \
+         request.has(!(NV | BS | RT | APPEND)) {",
         "step 3 before step 2",
     ),
     edit("step3-rt", WITHOUT_BS, "if request.has(APPEND) && !request.has(BS) {", "RT without BS is let by"),
@@ -171,43 +177,47 @@ pub(super) const EDITS: &[Edit] = &[
         "RT without BS is let by with no payload",
     ),
     // Step 4.
-    edit("step4-disabled", POLICY, "    if true\n        && let Some(ground)", "a disabled engine enforces"),
-    edit("step4-never", POLICY, "    if false\n        && let Some(ground)", "no entry is enforced"),
+    edit("step4-disabled", POLICY, "if true && let Some(ground)", "a disabled engine enforces"),
+    edit("step4-never", POLICY, "if false && let Some(ground)", "no entry is enforced"),
     edit(
         "step4-only-locked",
         POLICY,
-        "    if switches.locked\n        && let Some(ground)",
+        "if switches.locked && let Some(ground)",
         "entries are enforced once the engine is locked",
     ),
     edit(
         "step4-not-deletions",
         POLICY,
-        "    if switches.enabled\n        && !request.is_deletion()\n        && let Some(ground)",
+        "if switches.enabled && !request.is_deletion() && let Some(ground)",
         "a deletion is let past the lock",
     ),
     edit(
         "step4-before-2",
         STEPS_1_TO_3,
-        "    if switches.enabled\n        && let Some(name) = name::decode_request(request.name)\n        && let Some(ground) = refused_by_policy(&policy, &pair, &request, &name)\n    {\n        return ground;\n    }\n    let name = match well_formed(&request) {",
+        "if switches.enabled && let Some(name) = name::decode_request(request.name) && let Some(ground) = \
+         refused_by_policy(&policy, &pair, &request, &name) { return ground; } let name = match \
+         well_formed(&request) {",
         "step 4 before steps 2 and 3",
     ),
     edit(
         "step4-before-3",
         STEPS_1_TO_3,
-        "    if switches.enabled\n        && !request.has(!(NV | BS | RT | APPEND))\n        && request.payload.len() <= MAX_PAYLOAD\n        && let Some(name) = name::decode_request(request.name)\n        && let Some(ground) = refused_by_policy(&policy, &pair, &request, &name)\n    {\n        return ground;\n    }\n    let name = match well_formed(&request) {",
+        "if switches.enabled && !request.has(!(NV | BS | RT | APPEND)) && request.payload.len() <= MAX_PAYLOAD && \
+         let Some(name) = name::decode_request(request.name) && let Some(ground) = refused_by_policy(&policy, \
+         &pair, &request, &name) { return ground; } let name = match well_formed(&request) {",
         "step 4 before step 3",
     ),
-    edit("step4-deletion-size", ASKED, "if true {\n        let length", "a deletion is asked for size and attributes"),
+    edit("step4-deletion-size", ASKED, "if true { let length", "a deletion is asked for size and attributes"),
     edit(
         "step4-deletion-by-payload",
         ASKED,
-        "if !request.payload.is_empty() {\n        let length",
+        "if !request.payload.is_empty() { let length",
         "every empty payload is let past size and attributes",
     ),
     edit(
         "step4-deletion-by-bits",
         ASKED,
-        "if request.has(BS | RT) {\n        let length",
+        "if request.has(BS | RT) { let length",
         "a deletion with BS is asked for size and attributes",
     ),
     edit("step4-min-equal", MIN, "if length <= entry.min_size {", "MinSize itself is too short"),
@@ -239,7 +249,8 @@ pub(super) const EDITS: &[Edit] = &[
     edit(
         "step4-joined-length",
         LENGTH,
-        "let old = pair.find(request.namespace, name).filter(|_| request.has(APPEND)).map_or(0, |found| found.2.payload.len());\n        let length = (old + request.payload.len()) as u32;",
+        "let old = pair.find(request.namespace, name).filter(|_| request.has(APPEND)).map_or(0, |found| \
+         found.2.payload.len()); let length = (old + request.payload.len()) as u32;",
         "an append is measured by the joined length",
     ),
     edit(
@@ -284,19 +295,22 @@ pub(super) const EDITS: &[Edit] = &[
     edit(
         "step4-lock-before-size",
         CHOSEN,
-        "    let entry = policy.choose(request.namespace, name)?;\n    if entry.lock == LockRule::LockNow {\n        return Some(SetGround::LockedNow);\n    }\n",
+        "let entry = policy.choose(request.namespace, name)?; if entry.lock == LockRule::LockNow { return \
+         Some(SetGround::LockedNow); }",
         "step 4: the lock before the size",
     ),
     edit(
         "step4-lock-before-attributes",
         MUST,
-        "if entry.lock == LockRule::LockNow {\n            return Some(SetGround::LockedNow);\n        }\n        if entry.must_have & !request.attributes != 0 {",
+        "if entry.lock == LockRule::LockNow { return Some(SetGround::LockedNow); } if entry.must_have & \
+         !request.attributes != 0 {",
         "step 4: the lock before the attributes",
     ),
     edit(
         "step4-create-lock-before-size",
         CHOSEN,
-        "    let entry = policy.choose(request.namespace, name)?;\n    if entry.lock == LockRule::LockOnCreate && pair.find(request.namespace, name).is_some() {\n        return Some(SetGround::LockedOnCreate);\n    }\n",
+        "let entry = policy.choose(request.namespace, name)?; if entry.lock == LockRule::LockOnCreate && \
+         pair.find(request.namespace, name).is_some() { return Some(SetGround::LockedOnCreate); }",
         "step 4: a lock of type 2 before the size",
     ),
     edit("step4-now-never", NOW, "LockRule::LockNow => None,", "type 1 does not lock"),
@@ -316,13 +330,15 @@ pub(super) const EDITS: &[Edit] = &[
     edit(
         "step4-create-nv",
         ON_CREATE,
-        "pair.find(request.namespace, name).filter(|found| found.0 == Kind::NonVolatile).map(|_| SetGround::LockedOnCreate)",
+        "pair.find(request.namespace, name).filter(|found| found.0 == Kind::NonVolatile).map(|_| \
+         SetGround::LockedOnCreate)",
         "type 2 looks in the non-volatile store",
     ),
     edit(
         "step4-create-volatile",
         ON_CREATE,
-        "pair.find(request.namespace, name).filter(|found| found.0 == Kind::Volatile).map(|_| SetGround::LockedOnCreate)",
+        "pair.find(request.namespace, name).filter(|found| found.0 == Kind::Volatile).map(|_| \
+         SetGround::LockedOnCreate)",
         "type 2 looks in the volatile store",
     ),
     edit(
@@ -340,7 +356,8 @@ pub(super) const EDITS: &[Edit] = &[
     edit(
         "step4-trigger-absent-0",
         "let (_, _, variable) = pair.find(&trigger.namespace, &trigger.name)?;",
-        "let Some((_, _, variable)) = pair.find(&trigger.namespace, &trigger.name) else {\n                return (trigger.value == 0).then_some(SetGround::LockedOnVarState);\n            };",
+        "let Some((_, _, variable)) = pair.find(&trigger.namespace, &trigger.name) else { return (trigger.value == \
+         0).then_some(SetGround::LockedOnVarState); };",
         "an absent trigger is taken as 0",
     ),
     edit(
@@ -364,7 +381,9 @@ pub(super) const EDITS: &[Edit] = &[
     edit(
         "step4-trigger-pattern",
         "let (_, _, variable) = pair.find(&trigger.namespace, &trigger.name)?;",
-        "let mut variables = pair.non_volatile.iter().chain(&pair.volatile);\n            let variable = variables.find(|variable| variable.namespace == trigger.namespace && name::matches(&trigger.name, &variable.name))?;",
+        "let mut variables = pair.non_volatile.iter().chain(&pair.volatile); let variable = \
+         variables.find(|variable| variable.namespace == trigger.namespace && name::matches(&trigger.name, \
+         &variable.name))?;",
         "'#' in a trigger's name stands for a digit",
     ),
     edit(
@@ -394,13 +413,15 @@ pub(super) const EDITS: &[Edit] = &[
     edit(
         "step4-trigger-not-equal",
         TRIGGERED,
-        "(variable.payload.len() == 1 && variable.payload[0] != trigger.value).then_some(SetGround::LockedOnVarState)",
+        "(variable.payload.len() == 1 && variable.payload[0] != \
+         trigger.value).then_some(SetGround::LockedOnVarState)",
         "the trigger locks while it differs from Value",
     ),
     edit(
         "step4-trigger-at-least",
         TRIGGERED,
-        "(variable.payload.len() == 1 && variable.payload[0] >= trigger.value).then_some(SetGround::LockedOnVarState)",
+        "(variable.payload.len() == 1 && variable.payload[0] >= \
+         trigger.value).then_some(SetGround::LockedOnVarState)",
         "the trigger locks from Value on",
     ),
     edit("step4-trigger-exists", TRIGGERED, "Some(SetGround::LockedOnVarState)", "the trigger locks once it exists"),
@@ -413,20 +434,23 @@ pub(super) const EDITS: &[Edit] = &[
     edit(
         "step4-trigger-7-bits",
         TRIGGERED,
-        "(variable.payload.len() == 1 && variable.payload[0] & 0x7F == trigger.value & 0x7F).then_some(SetGround::LockedOnVarState)",
+        "(variable.payload.len() == 1 && variable.payload[0] & 0x7F == trigger.value & \
+         0x7F).then_some(SetGround::LockedOnVarState)",
         "7 bits of Value count",
     ),
     edit(
         "step4-trigger-length-8-bits",
         TRIGGERED,
-        "(variable.payload.len() as u8 == 1 && variable.payload[0] == trigger.value).then_some(SetGround::LockedOnVarState)",
+        "(variable.payload.len() as u8 == 1 && variable.payload[0] == \
+         trigger.value).then_some(SetGround::LockedOnVarState)",
         "8 bits of the trigger's length count",
     ),
     // Step 5.
     edit(
         "step5-before-4",
         POLICY,
-        "    if request.is_deletion() && pair.find(request.namespace, &name).is_none() {\n        return SetGround::DeleteAbsent;\n    }\n    if switches.enabled\n        && let Some(ground)",
+        "if request.is_deletion() && pair.find(request.namespace, &name).is_none() { return \
+         SetGround::DeleteAbsent; } if switches.enabled && let Some(ground)",
         "step 5 before step 4",
     ),
     edit(
@@ -444,19 +468,23 @@ pub(super) const EDITS: &[Edit] = &[
     edit(
         "step5-attributes",
         DELETES,
-        "    if request.is_deletion() && request.attributes != 0 && pair.find(request.namespace, &name).is_some_and(|found| found.2.attributes != request.attributes) {\n        return SetGround::OtherAttributes;\n    }\n    if request.is_deletion() {\n        let Some((kind, place, _))",
+        "if request.is_deletion() && request.attributes != 0 && pair.find(request.namespace, \
+         &name).is_some_and(|found| found.2.attributes != request.attributes) { return SetGround::OtherAttributes; \
+         } if request.is_deletion() { let Some((kind, place, _))",
         "a deletion is asked for the stored attributes",
     ),
     edit(
         "step5-nv",
         "let Some((kind, place, _)) = pair.find(request.namespace, &name) else {",
-        "let Some((kind, place, _)) = pair.find(request.namespace, &name).filter(|found| found.0 == Kind::NonVolatile) else {",
+        "let Some((kind, place, _)) = pair.find(request.namespace, &name).filter(|found| found.0 == \
+         Kind::NonVolatile) else {",
         "only the non-volatile store is deleted from",
     ),
     edit(
         "step5-store-of-request",
         "let Some((kind, place, _)) = pair.find(request.namespace, &name) else {",
-        "let Some((kind, place, _)) = pair.find(request.namespace, &name).filter(|found| request.attributes == 0 || request.has(NV) == (found.0 == Kind::NonVolatile)) else {",
+        "let Some((kind, place, _)) = pair.find(request.namespace, &name).filter(|found| request.attributes == 0 \
+         || request.has(NV) == (found.0 == Kind::NonVolatile)) else {",
         "a deletion looks in the store that its NV bit names",
     ),
     edit("step5-last-fills-gap", DELETED, "pair.of_mut(kind).swap_remove(place);", "the last record fills the gap"),
@@ -475,21 +503,26 @@ pub(super) const EDITS: &[Edit] = &[
     ),
     edit(
         "step5-left-behind",
-        "write_back(non_volatile, &pair.non_volatile);\n        write_back(volatile, &pair.volatile);\n        return SetGround::Deleted;",
-        "for (store, variables) in [(non_volatile, &pair.non_volatile), (volatile, &pair.volatile)] {\n            let bytes = store::encode(variables);\n            store[..bytes.len()].copy_from_slice(&bytes);\n        }\n        return SetGround::Deleted;",
+        "write_back(non_volatile, &pair.non_volatile);\n        write_back(volatile, &pair.volatile);\n        \
+         return SetGround::Deleted;",
+        "for (store, variables) in [(non_volatile, &pair.non_volatile), (volatile, &pair.volatile)] { let bytes = \
+         store::encode(variables); store[..bytes.len()].copy_from_slice(&bytes); } return SetGround::Deleted;",
         "a deletion does not erase the room that is free",
     ),
     // Step 6.
     edit(
         "step6-before-4",
         POLICY,
-        "    if !request.is_deletion() && pair.find(request.namespace, &name).is_some_and(|found| found.2.attributes != request.attributes & !APPEND) {\n        return SetGround::OtherAttributes;\n    }\n    if switches.enabled\n        && let Some(ground)",
+        "if !request.is_deletion() && pair.find(request.namespace, &name).is_some_and(|found| found.2.attributes \
+         != request.attributes & !APPEND) { return SetGround::OtherAttributes; } if switches.enabled && let \
+         Some(ground)",
         "step 6 before step 4",
     ),
     edit(
         "step6-before-5",
         DELETES,
-        "    if pair.find(request.namespace, &name).is_some_and(|found| found.2.attributes != request.attributes & !APPEND) {\n        return SetGround::OtherAttributes;\n    }\n    if request.is_deletion() {\n        let Some((kind, place, _))",
+        "if pair.find(request.namespace, &name).is_some_and(|found| found.2.attributes != request.attributes & \
+         !APPEND) { return SetGround::OtherAttributes; } if request.is_deletion() { let Some((kind, place, _))",
         "step 6 before step 5",
     ),
     edit("step6-nv-only", OTHERS, "(variable.attributes ^ attributes) & NV != 0)", "only NV is compared"),
@@ -513,80 +546,83 @@ pub(super) const EDITS: &[Edit] = &[
     edit(
         "step7-before-4",
         POLICY,
-        "    if request.has(APPEND) && request.payload.is_empty() {\n        return SetGround::EmptyAppend;\n    }\n    if switches.enabled\n        && let Some(ground)",
+        "if request.has(APPEND) && request.payload.is_empty() { return SetGround::EmptyAppend; } if \
+         switches.enabled && let Some(ground)",
         "step 7 before step 4",
     ),
     edit(
         "step7-before-6",
         OTHER_ATTRIBUTES,
-        "    if append && request.payload.is_empty() {\n        return SetGround::EmptyAppend;\n    }\n    if found.as_ref().is_some_and(|(_, _, variable)| variable.attributes != attributes) {",
+        "if append && request.payload.is_empty() { return SetGround::EmptyAppend; } if \
+         found.as_ref().is_some_and(|(_, _, variable)| variable.attributes != attributes) {",
         "step 7 before step 6",
     ),
     edit(
         "step7-absent-14",
         EMPTY_APPEND,
-        "    if append && request.payload.is_empty() {\n        return if found.is_some() { SetGround::EmptyAppend } else { SetGround::DeleteAbsent };\n    }\n",
+        "if append && request.payload.is_empty() { return if found.is_some() { SetGround::EmptyAppend } else { \
+         SetGround::DeleteAbsent }; }",
         "an empty append to nothing answers 14",
     ),
     edit(
         "step7-absent-2",
         EMPTY_APPEND,
-        "    if append && request.payload.is_empty() {\n        return if found.is_some() { SetGround::EmptyAppend } else { SetGround::OtherAttributes };\n    }\n",
+        "if append && request.payload.is_empty() { return if found.is_some() { SetGround::EmptyAppend } else { \
+         SetGround::OtherAttributes }; }",
         "an empty append to nothing answers 2",
     ),
     edit(
         "step7-creates",
         EMPTY_APPEND,
-        "    if append && request.payload.is_empty() && found.is_some() {\n        return SetGround::EmptyAppend;\n    }\n",
+        "if append && request.payload.is_empty() && found.is_some() { return SetGround::EmptyAppend; }",
         "an empty append creates",
     ),
     edit(
         "step7-empties",
         EMPTY_APPEND,
-        "    if append && request.payload.is_empty() {\n        if let Some((kind, place, _)) = found {\n            pair.of_mut(kind).remove(place);\n        }\n        return SetGround::EmptyAppend;\n    }\n",
+        "if append && request.payload.is_empty() { if let Some((kind, place, _)) = found { \
+         pair.of_mut(kind).remove(place); } return SetGround::EmptyAppend; }",
         "an empty append deletes",
     ),
     // Steps 8 and 9.
     edit(
         "step8-below",
         LONG,
-        "    if payload.len() >= MAX_PAYLOAD {\n        return SetGround::AppendTooLong;",
+        "if payload.len() >= MAX_PAYLOAD { return SetGround::AppendTooLong;",
         "an append to 1,024 is too long",
     ),
     edit(
         "step8-1025",
         LONG,
-        "    if payload.len() > MAX_PAYLOAD + 1 {\n        return SetGround::AppendTooLong;",
+        "if payload.len() > MAX_PAYLOAD + 1 { return SetGround::AppendTooLong;",
         "an append to 1,025 is stored",
     ),
-    edit(
-        "step8-never",
-        LONG,
-        "    if false {\n        return SetGround::AppendTooLong;",
-        "an append to any length is stored",
-    ),
+    edit("step8-never", LONG, "if false { return SetGround::AppendTooLong;", "an append to any length is stored"),
     edit(
         "step8-cuts",
         LONG,
-        "    payload.truncate(MAX_PAYLOAD);\n    if payload.len() > MAX_PAYLOAD {\n        return SetGround::AppendTooLong;",
+        "payload.truncate(MAX_PAYLOAD); if payload.len() > MAX_PAYLOAD { return SetGround::AppendTooLong;",
         "an append is cut at 1,024",
     ),
     edit(
         "step8-answers-2",
         "AppendTooLong | NoRoom => Status::OutOfResources,",
-        "AppendTooLong => Status::InvalidParameter,\n            NoRoom => Status::OutOfResources,",
+        "AppendTooLong => Status::InvalidParameter, NoRoom => Status::OutOfResources,",
         "a long append answers 2",
     ),
     edit(
         "step8-before-6",
         OTHER_ATTRIBUTES,
-        "    if append && found.as_ref().is_some_and(|(_, _, variable)| variable.payload.len() + request.payload.len() > MAX_PAYLOAD) {\n        return SetGround::AppendTooLong;\n    }\n    if found.as_ref().is_some_and(|(_, _, variable)| variable.attributes != attributes) {",
+        "if append && found.as_ref().is_some_and(|(_, _, variable)| variable.payload.len() + request.payload.len() \
+         > MAX_PAYLOAD) { return SetGround::AppendTooLong; } if found.as_ref().is_some_and(|(_, _, variable)| \
+         variable.attributes != attributes) {",
         "step 8 before step 6",
     ),
     edit(
         "step9-below",
         ROOM,
-        "if encoded_len(&pair.non_volatile) >= non_volatile.len().max(1) || encoded_len(&pair.volatile) > volatile.len() {",
+        "if encoded_len(&pair.non_volatile) >= non_volatile.len().max(1) || encoded_len(&pair.volatile) > \
+         volatile.len() {",
         "the records must be shorter than the non-volatile store",
     ),
     edit(
@@ -610,37 +646,53 @@ pub(super) const EDITS: &[Edit] = &[
     edit(
         "step9-unpadded",
         "fn encoded_len(variables: &[Variable]) -> usize {\n    variables.iter().map(Variable::record_len).sum()",
-        "fn encoded_len(variables: &[Variable]) -> usize {\n    variables.iter().map(|variable| variable.payload_at() + variable.payload.len()).sum()",
+        "fn encoded_len(variables: &[Variable]) -> usize { variables.iter().map(|variable| variable.payload_at() + \
+         variable.payload.len()).sum()",
         "padding needs no room",
     ),
     edit(
         "step9-two-to-spare",
         ROOM,
-        "if encoded_len(&pair.non_volatile) + 2 > non_volatile.len() && !pair.non_volatile.is_empty() || encoded_len(&pair.volatile) > volatile.len() {",
+        "if encoded_len(&pair.non_volatile) + 2 > non_volatile.len() && !pair.non_volatile.is_empty() || \
+         encoded_len(&pair.volatile) > volatile.len() {",
         "two bytes must stay free in the non-volatile store",
     ),
     edit(
         "step9-old-stays",
         "    let ground = store_payload(&mut pair, &request, &name);\n",
-        "    let before = [encoded_len(&pair.non_volatile), encoded_len(&pair.volatile)];\n    let old = pair.find(request.namespace, &name).map_or(0, |found| found.2.record_len());\n    let ground = store_payload(&mut pair, &request, &name);\n    let grown = encoded_len(&pair.non_volatile) + encoded_len(&pair.volatile) > before[0] + before[1];\n    if grown && encoded_len(&pair.non_volatile) + old > non_volatile.len() && encoded_len(&pair.non_volatile) > before[0] {\n        return SetGround::NoRoom;\n    }\n",
+        "let before = [encoded_len(&pair.non_volatile), encoded_len(&pair.volatile)]; let old = \
+         pair.find(request.namespace, &name).map_or(0, |found| found.2.record_len()); let ground = \
+         store_payload(&mut pair, &request, &name); let grown = encoded_len(&pair.non_volatile) + \
+         encoded_len(&pair.volatile) > before[0] + before[1]; if grown && encoded_len(&pair.non_volatile) + old > \
+         non_volatile.len() && encoded_len(&pair.non_volatile) > before[0] { return SetGround::NoRoom; }",
         "a longer rewrite needs room beside the old record",
     ),
     edit(
         "step9-before-4",
         POLICY,
-        "    let mut after = pair.clone();\n    let stored = !request.is_deletion() && store_payload(&mut after, &request, &name).status() == Status::Success;\n    if stored && (encoded_len(&after.non_volatile) > non_volatile.len() || encoded_len(&after.volatile) > volatile.len()) {\n        return SetGround::NoRoom;\n    }\n    if switches.enabled\n        && let Some(ground)",
+        "let mut after = pair.clone(); let stored = !request.is_deletion() && store_payload(&mut after, &request, \
+         &name).status() == Status::Success; if stored && (encoded_len(&after.non_volatile) > non_volatile.len() \
+         || encoded_len(&after.volatile) > volatile.len()) { return SetGround::NoRoom; } if switches.enabled && \
+         let Some(ground)",
         "step 9 before step 4",
     ),
     edit(
         "step9-before-6",
         "    let ground = store_payload(&mut pair, &request, &name);\n",
-        "    if let Some((kind, _, old)) = pair.find(request.namespace, &name) {\n        let joined = if request.has(APPEND) { old.payload.len() + request.payload.len() } else { request.payload.len() };\n        let records = encoded_len(pair.of(kind)) - old.record_len() + (old.payload_at() + joined).next_multiple_of(4);\n        if records > if kind == Kind::NonVolatile { non_volatile.len() } else { volatile.len() } {\n            return SetGround::NoRoom;\n        }\n    }\n    let ground = store_payload(&mut pair, &request, &name);\n",
+        "if let Some((kind, _, old)) = pair.find(request.namespace, &name) { let joined = if request.has(APPEND) { \
+         old.payload.len() + request.payload.len() } else { request.payload.len() }; let records = \
+         encoded_len(pair.of(kind)) - old.record_len() + (old.payload_at() + joined).next_multiple_of(4); if \
+         records > if kind == Kind::NonVolatile { non_volatile.len() } else { volatile.len() } { return \
+         SetGround::NoRoom; } } let ground = store_payload(&mut pair, &request, &name);",
         "step 9 before step 6",
     ),
     edit(
         "step9-before-7",
         "    let ground = store_payload(&mut pair, &request, &name);\n",
-        "    if request.has(APPEND) && request.payload.is_empty() && pair.find(request.namespace, &name).is_none() {\n        let (records, len) = if request.has(NV) { (&pair.non_volatile, non_volatile.len()) } else { (&pair.volatile, volatile.len()) };\n        if encoded_len(records) + (34 + 2 * name.len()).next_multiple_of(4) > len {\n            return SetGround::NoRoom;\n        }\n    }\n    let ground = store_payload(&mut pair, &request, &name);\n",
+        "if request.has(APPEND) && request.payload.is_empty() && pair.find(request.namespace, &name).is_none() { \
+         let (records, len) = if request.has(NV) { (&pair.non_volatile, non_volatile.len()) } else { \
+         (&pair.volatile, volatile.len()) }; if encoded_len(records) + (34 + 2 * name.len()).next_multiple_of(4) > \
+         len { return SetGround::NoRoom; } } let ground = store_payload(&mut pair, &request, &name);",
         "step 9 before step 7",
     ),
     // Step 10.
@@ -653,13 +705,15 @@ pub(super) const EDITS: &[Edit] = &[
     edit(
         "step10-append-not-creates",
         CREATED,
-        "if append {\n            return SetGround::DeleteAbsent;\n        }\n        pair.of_mut(kind).push(Variable { namespace, name: name.to_vec(), attributes, payload });",
+        "if append { return SetGround::DeleteAbsent; } pair.of_mut(kind).push(Variable { namespace, name: \
+         name.to_vec(), attributes, payload });",
         "an append to nothing answers 14",
     ),
     edit(
         "step10-append-stored",
         CREATED,
-        "pair.of_mut(kind).push(Variable { namespace, name: name.to_vec(), attributes: request.attributes, payload });",
+        "pair.of_mut(kind).push(Variable { namespace, name: name.to_vec(), attributes: request.attributes, payload \
+         });",
         "append is stored among the attributes",
     ),
     edit(
@@ -679,23 +733,28 @@ pub(super) const EDITS: &[Edit] = &[
     edit(
         "step10-append-in-front",
         JOINED,
-        "let mut payload = Vec::new();\n    if append {\n        payload.extend(request.payload);\n        payload.extend(old.payload);\n        if payload.len() > MAX_PAYLOAD {\n            return SetGround::AppendTooLong;\n        }\n        pair.of_mut(kind)[place].payload = payload;\n        return SetGround::AppendJoined;\n    }",
+        "let mut payload = Vec::new(); if append { payload.extend(request.payload); payload.extend(old.payload); \
+         if payload.len() > MAX_PAYLOAD { return SetGround::AppendTooLong; } pair.of_mut(kind)[place].payload = \
+         payload; return SetGround::AppendJoined; }",
         "an append goes before the old bytes",
     ),
     edit("step10-write-appends", JOINED, "let mut payload = old.payload;", "every set appends"),
     edit(
         "step10-rewrite-moves",
         REWRITTEN,
-        "    let mut variable = pair.of_mut(kind).remove(place);\n    variable.payload = payload;\n    pair.of_mut(kind).push(variable);\n",
+        "let mut variable = pair.of_mut(kind).remove(place); variable.payload = payload; \
+         pair.of_mut(kind).push(variable);",
         "a rewrite moves to the end",
     ),
     edit(
         "step10-rewrite-moves-if-longer",
         REWRITTEN,
-        "    let mut variable = pair.of_mut(kind).remove(place);\n    let longer = payload.len() > variable.payload.len();\n    variable.payload = payload;\n    if longer {\n        pair.of_mut(kind).push(variable);\n    } else {\n        pair.of_mut(kind).insert(place, variable);\n    }\n",
+        "let mut variable = pair.of_mut(kind).remove(place); let longer = payload.len() > variable.payload.len(); \
+         variable.payload = payload; if longer { pair.of_mut(kind).push(variable); } else { \
+         pair.of_mut(kind).insert(place, variable); }",
         "a longer rewrite moves to the end",
     ),
-    edit("step10-nothing", REWRITTEN, "    let _ = (kind, place);\n", "a rewrite answers 0 and stores nothing"),
+    edit("step10-nothing", REWRITTEN, "let _ = (kind, place);", "a rewrite answers 0 and stores nothing"),
     edit(
         "step10-erased-zeros",
         "bytes.resize(store.len(), 0xFF);",
@@ -718,7 +777,7 @@ pub(super) const EDITS: &[Edit] = &[
     edit(
         "status-without-bs-3",
         "BadName | LongPayload | WithoutBootService => Status::InvalidParameter",
-        "BadName | LongPayload => Status::InvalidParameter,\n            WithoutBootService => Status::Unsupported",
+        "BadName | LongPayload => Status::InvalidParameter, WithoutBootService => Status::Unsupported",
         "RT without BS answers 3",
     ),
     edit(
@@ -742,7 +801,7 @@ pub(super) const EDITS: &[Edit] = &[
     edit(
         "status-room-5",
         "AppendTooLong | NoRoom => Status::OutOfResources",
-        "AppendTooLong => Status::OutOfResources,\n            NoRoom => Status::BufferTooSmall",
+        "AppendTooLong => Status::OutOfResources, NoRoom => Status::BufferTooSmall",
         "no room answers 5",
     ),
 ];

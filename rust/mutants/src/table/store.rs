@@ -245,7 +245,8 @@ pub(super) const EDITS: &[Edit] = &[
     edit(
         "find-8-units",
         IS,
-        "self.namespace == *namespace && self.name.len() == name.len() && self.name.iter().take(8).eq(name.iter().take(8))",
+        "self.namespace == *namespace && self.name.len() == name.len() && \
+         self.name.iter().take(8).eq(name.iter().take(8))",
         "8 units of a stored name are compared",
     ),
     edit(

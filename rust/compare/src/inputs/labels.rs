@@ -1,0 +1,229 @@
+//! What is counted of the inputs, in words. A class is told by its place in its table.
+
+/// Starts, with the one thing that is wrong.
+pub const START: [&str; 18] = [
+    "power-on, nothing wrong",
+    "power-on, non-volatile store unsound",
+    "power-on, volatile store unsound",
+    "power-on, a variable in both stores",
+    "power-on, non-volatile store over 32,768 bytes",
+    "power-on, volatile store over 32,768 bytes",
+    "power-on, policy record of 8,191 bytes",
+    "power-on, policy record of 8,193 bytes",
+    "power-on, policy record unsound",
+    "restart, nothing wrong",
+    "restart, non-volatile store unsound",
+    "restart, volatile store unsound",
+    "restart, a variable in both stores",
+    "restart, non-volatile store over 32,768 bytes",
+    "restart, volatile store over 32,768 bytes",
+    "restart, policy record of 8,191 bytes",
+    "restart, policy record of 8,193 bytes",
+    "restart, policy record unsound",
+];
+
+/// Registrations at the limits, and with two grounds at once.
+pub const REGISTRATION: [&str; 12] = [
+    "64th entry",
+    "65th entry",
+    "to a sum of 8,190",
+    "to a sum of 8,192",
+    "to a sum of 8,194",
+    "repeat at 64 entries",
+    "repeat at a sum of 8,192",
+    "malformed at 64 entries",
+    "malformed at a sum of 8,192",
+    "malformed repeat",
+    "malformed, engine locked",
+    "repeat, engine locked",
+];
+
+/// Names in packed entries.
+pub const PACKED_NAME: [&str; 8] = [
+    "no bytes",
+    "only a zero unit",
+    "odd length",
+    "no closing zero unit",
+    "zero unit inside",
+    "1 unit",
+    "64 units",
+    "65 units or more",
+];
+
+/// Buffers of a dump, against the sum of Sizes.
+pub const DUMP_BUFFER: [&str; 7] = [
+    "no entries, no bytes",
+    "entries, no bytes",
+    "one byte less",
+    "exact",
+    "one byte more",
+    "longer",
+    "2^16 bytes or more",
+];
+
+/// Names of requests.
+pub const REQUEST_NAME: [&str; 9] =
+    ["0 units", "1 unit", "2 to 63 units", "64 units", "65 units", "more units", "odd length", "zero unit", "with '#'"];
+
+/// Payload lengths.
+pub const PAYLOAD: [&str; 10] = ["0", "1", "2^8 - 1", "2^8", "2^8 + 1", "1,023", "1,024", "1,025", "longer", "another"];
+
+/// Which entries target a variable.
+pub const CHOICE: [&str; 12] = [
+    "none",
+    "none, but one of the name in another namespace",
+    "none, but one with fewer or more units, the others equal",
+    "one, equal units",
+    "one, with '#'",
+    "the whole namespace alone",
+    "the whole namespace, then the chosen one",
+    "the chosen one, then the whole namespace",
+    "equal ranks",
+    "the lower rank first",
+    "the lower rank later",
+    "the chosen one is the 64th",
+];
+
+/// Units under a '#', where all others match.
+pub const UNDER_SIGN: [&str; 9] =
+    ["0-9", "A-F", "a-f", "'#'", "/ : @ G ` g", "zero", "another below 0x80", "0x80 to 0xff", "0x100 and over"];
+
+/// MinSize and MaxSize, with their labels.
+pub(super) const SIZE_VALUES: [(u32, &str); 13] = [
+    (0, "0"),
+    (1, "1"),
+    ((1 << 8) - 1, "2^8 - 1"),
+    (1 << 8, "2^8"),
+    ((1 << 8) + 1, "2^8 + 1"),
+    ((1 << 16) - 1, "2^16 - 1"),
+    (1 << 16, "2^16"),
+    ((1 << 16) + 1, "2^16 + 1"),
+    ((1 << 31) - 1, "2^31 - 1"),
+    (1 << 31, "2^31"),
+    ((1 << 31) + 1, "2^31 + 1"),
+    (u32::MAX - 1, "2^32 - 2"),
+    (u32::MAX, "2^32 - 1"),
+];
+
+/// The labels of MinSize and MaxSize.
+pub fn size_labels() -> [&'static str; 13] {
+    SIZE_VALUES.map(|(_, label)| label)
+}
+
+/// Payload lengths beside the sizes of the chosen entry.
+pub const AGAINST_SIZES: [&str; 4] = ["MinSize - 1", "MinSize", "MaxSize", "MaxSize + 1"];
+
+/// What the trigger of the chosen entry is.
+pub const TRIGGER: [&str; 14] = [
+    "absent",
+    "absent, Value 0",
+    "one byte, Value, non-volatile",
+    "one byte, Value, volatile",
+    "one byte, Value, which is 0",
+    "one byte, another",
+    "two bytes, the first Value",
+    "two bytes, the first another",
+    "more bytes",
+    "257 bytes, the first Value",
+    "name with '#', there",
+    "name with '#', absent, and there what a pattern would target",
+    "the variable itself",
+    "in another namespace than the variable",
+];
+
+/// Lengths that an append makes.
+pub const APPEND_LENGTH: [&str; 4] = ["1,023", "1,024", "1,025", "2,048"];
+
+/// Lengths of stores.
+pub const STORE_LENGTH: [&str; 10] =
+    ["0", "40", "43", "44", "32,767", "32,768", "32,769", "longer", "another", "another, full of records"];
+
+/// NameSize of the first record of a store, with its label.
+pub(super) const NAME_SIZES: [(u32, &str); 11] = [
+    (0, "0"),
+    (2, "2"),
+    (3, "3"),
+    (4, "4"),
+    (5, "5"),
+    (130, "130"),
+    (131, "131"),
+    (132, "132"),
+    (0x1_0004, "2^16 + 4"),
+    (0x8000_0004, "2^31 + 4"),
+    (u32::MAX - 3, "2^32 - 4"),
+];
+
+/// The labels of NameSize.
+pub fn name_size_labels() -> [&'static str; 11] {
+    NAME_SIZES.map(|(_, label)| label)
+}
+
+/// DataSize of the first record of a store, with its label.
+pub(super) const DATA_SIZES: [(u32, &str); 8] = [
+    (0, "0"),
+    (1, "1"),
+    (1024, "1,024"),
+    (1025, "1,025"),
+    (0x1_0001, "2^16 + 1"),
+    (0x8000_0001, "2^31 + 1"),
+    (u32::MAX - 36, "2^32 - 37"),
+    (u32::MAX, "2^32 - 1"),
+];
+
+/// The labels of DataSize.
+pub fn data_size_labels() -> [&'static str; 8] {
+    DATA_SIZES.map(|(_, label)| label)
+}
+
+/// Calls that are lent something unsound, with what is wrong besides.
+pub const UNSOUND: [&str; 9] = [
+    "register, locked",
+    "register, malformed",
+    "dump, buffer too short",
+    "read, bad name",
+    "read, absent",
+    "set, step 1",
+    "set, step 2",
+    "set, step 3",
+    "set, engine disabled",
+];
+
+pub(super) const CALLS: [&str; 9] =
+    ["power-on", "restart", "register", "dump", "lock", "disable", "query", "read", "set"];
+const PLACES: [&str; 3] = ["absent", "non-volatile", "volatile"];
+
+/// The labels of `rows` with each of `columns`.
+fn crossed(rows: &[&str], columns: &[&str]) -> Vec<String> {
+    rows.iter().flat_map(|row| columns.iter().map(move |column| format!("{row}, {column}"))).collect()
+}
+
+/// Every call under every setting of the switches.
+pub fn switch_labels() -> Vec<String> {
+    CALLS.iter().flat_map(|call| (0..8).map(move |bits| format!("{call} {bits:03b}"))).collect()
+}
+
+/// Every type of lock, with where the variable is, for deletions and others.
+pub fn lock_labels() -> Vec<String> {
+    let types = ["no lock", "lock now", "lock on create", "lock on state"];
+    crossed(&["set", "delete"], &crossed(&types, &PLACES).iter().map(String::as_str).collect::<Vec<_>>())
+}
+
+/// Every form of deletion, and the empty append, with where the variable is.
+pub fn deletion_labels() -> Vec<String> {
+    let forms =
+        ["no bits, payload", "no bits, empty", "NV alone, payload", "NV alone, empty", "BS, empty", "empty append"];
+    crossed(&forms, &PLACES)
+}
+
+/// What is stored, with the padding of its record, in a store that is long enough or one byte short.
+pub fn room_labels() -> Vec<String> {
+    let kinds = ["create", "rewrite", "append creates", "append joins"];
+    let paddings = ["0, exact", "0, one short", "1, exact", "1, one short"];
+    let more = ["2, exact", "2, one short", "3, exact", "3, one short"];
+    crossed(&kinds, &[paddings, more].concat())
+}
+
+/// The attribute bits that a request can have where the chosen entry asks for them.
+pub fn known_bit_labels() -> Vec<String> {
+    crossed(&["required", "prohibited"], &["0x1", "0x2", "0x4", "0x40"])
+}

@@ -1,0 +1,203 @@
+//! Counts what the calls are given: the classes of inputs in which a slip of the one or the other
+//! implementation would hide.
+
+pub mod labels;
+mod set;
+
+use crate::call::Call;
+use crate::coverage::{Coverage, Input};
+use crate::state::State;
+use crate::steps;
+use labels::{CALLS, DATA_SIZES, NAME_SIZES, START};
+use reference::{Entry, MAX_ENTRIES, Pair, Policy};
+use varpolicy::{MAX_STORE_BYTES, Namespace, POLICY_BYTES, Switches};
+
+/// Counts what a call is given.
+pub fn count(coverage: &mut Coverage, state: &State, call: &Call) {
+    count_switches(coverage, state.switches, call.name());
+    match call {
+        Call::PowerOn { .. } => count_start(coverage, state, 0),
+        Call::Restart { .. } => count_start(coverage, state, START.len() / 2),
+        Call::Register { entry } => count_registration(coverage, state, entry),
+        Call::Dump { buffer } => count_dump(coverage, &state.policy, buffer.len()),
+        Call::Read { namespace, name } => {
+            count_request_name(coverage, name);
+            count_read(coverage, state, namespace, name);
+        }
+        Call::Set { namespace, name, attributes, payload } => {
+            count_request_name(coverage, name);
+            set::count(coverage, state, (namespace, name), (*attributes, payload.len()));
+        }
+        Call::Lock | Call::Disable | Call::Query => {}
+    }
+    if let Call::PowerOn { .. } | Call::Restart { .. } | Call::Read { .. } | Call::Set { .. } = call {
+        count_first_record(coverage, &state.nv);
+        count_first_record(coverage, &state.volatile);
+    }
+}
+
+fn count_switches(coverage: &mut Coverage, switches: Switches, call: &str) {
+    let bits = [switches.enabled, switches.locked, switches.disabling_allowed];
+    let bits = bits.into_iter().fold(0, |number, bit| 2 * number + usize::from(bit));
+    if let Some(call) = CALLS.iter().position(|known| *known == call) {
+        coverage.input(Input::Switches, 8 * call + bits);
+    }
+}
+
+fn count_start(coverage: &mut Coverage, state: &State, first_label: usize) {
+    let alone = |nv: &[u8], volatile: &[u8]| Pair::decode(nv, volatile).is_some();
+    let (nv, volatile) = (&state.nv[..], &state.volatile[..]);
+    let long = |store: &[u8]| store.len() > MAX_STORE_BYTES;
+    let (nv_sound, volatile_sound) = (alone(nv, &[]), alone(&[], volatile));
+    let length = state.policy.len();
+    let wrong = [
+        !nv_sound && !long(nv),
+        !volatile_sound && !long(volatile),
+        nv_sound && volatile_sound && !alone(nv, volatile),
+        long(nv),
+        long(volatile),
+        length == POLICY_BYTES - 1,
+        length == POLICY_BYTES + 1,
+        length == POLICY_BYTES && Policy::decode(&state.policy).is_none(),
+    ];
+    let mut places = wrong.iter().enumerate().filter(|(_, wrong)| **wrong).map(|(place, _)| place + 1);
+    match (places.next(), places.next()) {
+        (None, _) => coverage.input(Input::Start, first_label),
+        (Some(place), None) => coverage.input(Input::Start, first_label + place),
+        _ => {}
+    }
+}
+
+fn count_registration(coverage: &mut Coverage, state: &State, entry: &[u8]) {
+    count_packed_names(coverage, entry);
+    let decoded = Entry::decode(entry);
+    let locked = state.switches.locked;
+    let Some(policy) = Policy::decode(&state.policy) else {
+        count_if(coverage, Input::Unsound, &[locked, decoded.is_none()], 0);
+        return;
+    };
+    let entries = policy.entries.len();
+    let sum: usize = policy.entries.iter().map(|entry| entry.encode().len()).sum();
+    let malformed = decoded.is_none();
+    let repeat = decoded.is_some_and(|entry| policy.holds(&entry));
+    let fresh = !malformed && !repeat && !locked;
+    let holds = [
+        fresh && entries == MAX_ENTRIES - 1,
+        fresh && entries == MAX_ENTRIES,
+        fresh && sum + entry.len() == POLICY_BYTES - 2,
+        fresh && sum + entry.len() == POLICY_BYTES,
+        fresh && sum + entry.len() == POLICY_BYTES + 2,
+        repeat && !locked && entries == MAX_ENTRIES,
+        repeat && !locked && sum == POLICY_BYTES,
+        malformed && !locked && entries == MAX_ENTRIES,
+        malformed && !locked && sum == POLICY_BYTES,
+        malformed && !locked && with_sizes_in_order(entry).is_some_and(|entry| policy.holds(&entry)),
+        malformed && locked,
+        repeat && locked,
+    ];
+    count_if(coverage, Input::Registration, &holds, 0);
+}
+
+/// Counts the labels, from `first_label` on, of what holds.
+fn count_if(coverage: &mut Coverage, input: Input, holds: &[bool], first_label: usize) {
+    for (place, _) in holds.iter().enumerate().filter(|(_, holds)| **holds) {
+        coverage.input(input, first_label + place);
+    }
+}
+
+/// The entry that the bytes would be with MinSize 0.
+fn with_sizes_in_order(entry: &[u8]) -> Option<Entry> {
+    let mut bytes = entry.to_vec();
+    bytes.get_mut(24..28)?.fill(0);
+    Entry::decode(&bytes)
+}
+
+fn count_packed_names(coverage: &mut Coverage, entry: &[u8]) {
+    let [.., low, high] = entry.get(..8).unwrap_or_default() else {
+        return;
+    };
+    let offset = usize::from(u16::from_le_bytes([*low, *high]));
+    let has_trigger = entry.get(40) == Some(&3);
+    if let Some(label) = entry.get(offset..).and_then(packed_name) {
+        coverage.input(Input::EntryName, label);
+    }
+    if let Some(label) = entry.get(62..offset).filter(|_| has_trigger).and_then(packed_name) {
+        coverage.input(Input::TriggerName, label);
+    }
+}
+
+/// The place in [`labels::PACKED_NAME`] of a packed name.
+fn packed_name(bytes: &[u8]) -> Option<usize> {
+    if bytes.len() % 2 == 1 {
+        return Some(2);
+    }
+    match steps::units(bytes).as_slice() {
+        [] => Some(0),
+        [0] => Some(1),
+        [.., last] if *last != 0 => Some(3),
+        [units @ .., _] if units.contains(&0) => Some(4),
+        [_, _] => Some(5),
+        units if units.len() == 65 => Some(6),
+        units if units.len() > 65 => Some(7),
+        _ => None,
+    }
+}
+
+fn count_dump(coverage: &mut Coverage, record: &[u8], len: usize) {
+    let Some(policy) = Policy::decode(record) else {
+        count_if(coverage, Input::Unsound, &[len == 0], 2);
+        return;
+    };
+    let needed = policy.encode().len();
+    let label = match len {
+        0 if needed == 0 => 0,
+        0 => 1,
+        len if len + 1 == needed => 2,
+        len if len == needed => 3,
+        len if len == needed + 1 => 4,
+        len if len >= 1 << 16 => 6,
+        len if len > needed => 5,
+        _ => return,
+    };
+    coverage.input(Input::DumpBuffer, label);
+}
+
+fn count_request_name(coverage: &mut Coverage, name: &[u8]) {
+    let label = match name.len() {
+        len if len % 2 == 1 => 6,
+        0 => 0,
+        2 => 1,
+        128 => 3,
+        130 => 4,
+        len if len > 128 => 5,
+        _ => 2,
+    };
+    coverage.input(Input::RequestName, label);
+    let mut units = name.chunks_exact(2);
+    let zero = units.clone().any(|unit| unit == [0, 0]);
+    let sign = units.any(|unit| unit == [0x23, 0]);
+    count_if(coverage, Input::RequestName, &[zero, sign], 7);
+}
+
+fn count_read(coverage: &mut Coverage, state: &State, namespace: &Namespace, name: &[u8]) {
+    if Pair::decode(&state.nv, &state.volatile).is_some() {
+        return;
+    }
+    let bad = name.len() % 2 == 1 || name.is_empty();
+    let absent = Pair::decode(&state.nv, &[]).is_some_and(|pair| pair.find(namespace, &steps::units(name)).is_none());
+    count_if(coverage, Input::Unsound, &[bad, !bad && absent], 3);
+}
+
+fn count_first_record(coverage: &mut Coverage, store: &[u8]) {
+    let (Some([0xAA, 0x55]), Some(sizes)) = (store.get(..2), store.get(8..16)) else {
+        return;
+    };
+    let number = |at: usize| u32::from_le_bytes([sizes[at], sizes[at + 1], sizes[at + 2], sizes[at + 3]]);
+    for (input, known, size) in
+        [(Input::NameSize, &NAME_SIZES[..], number(0)), (Input::DataSize, &DATA_SIZES, number(4))]
+    {
+        if let Some(label) = known.iter().position(|(value, _)| *value == size) {
+            coverage.input(input, label);
+        }
+    }
+}

@@ -1,0 +1,248 @@
+//! Counts what a set is given and what it meets in the stores and the policy.
+
+use super::count_if;
+use super::labels::SIZE_VALUES;
+use crate::coverage::{Coverage, Input};
+use crate::state::State;
+use crate::steps::Met;
+use reference::{Entry, LockRule, MAX_ENTRIES, Pair, Policy, Trigger};
+use varpolicy::{MAX_STORE_BYTES, Namespace};
+
+const NUMBER_SIGN: u16 = 0x23;
+
+/// Counts what a set is given and what it meets.
+pub(super) fn count(
+    coverage: &mut Coverage,
+    state: &State,
+    (namespace, name): (&Namespace, &[u8]),
+    (attributes, length): (u32, usize),
+) {
+    count_attributes(coverage, attributes);
+    count_payload(coverage, length);
+    let (Some(pair), Some(policy)) = (Pair::decode(&state.nv, &state.volatile), Policy::decode(&state.policy)) else {
+        count_store(coverage, state.nv.len(), 0);
+        count_store(coverage, state.volatile.len(), 0);
+        let without_bs = attributes & 0x44 != 0 && attributes & 2 == 0;
+        let wrong = [name.is_empty() || length > 1024, attributes & !0x47 != 0, without_bs, !state.switches.enabled];
+        count_if(coverage, Input::Unsound, &wrong, 5);
+        return;
+    };
+    for (store, variables) in [(&state.nv, &pair.non_volatile), (&state.volatile, &pair.volatile)] {
+        count_store(coverage, store.len(), variables.iter().map(|variable| variable.record_len()).sum());
+    }
+    let met = Met::new(state, (&pair, &policy), (namespace, name), (attributes, length));
+    count_under_signs(coverage, &policy, namespace, &met.name);
+    for label in met.steps_at_once() {
+        coverage.input(Input::StepsAtOnce, label);
+    }
+    if !met.comes_to_policy() {
+        return;
+    }
+    count_choice(coverage, &policy, namespace, &met);
+    count_deletion(coverage, &met);
+    if let Some(entry) = met.chosen {
+        count_chosen(coverage, &met, entry);
+    }
+    if let Some(LockRule::LockOnVarState(trigger)) = met.chosen.map(|entry| &entry.lock) {
+        count_trigger(coverage, &met, namespace, trigger);
+    }
+    count_room(coverage, &met);
+}
+
+fn count_attributes(coverage: &mut Coverage, attributes: u32) {
+    let alone = if attributes == 2 { 2 } else { attributes & !2 };
+    if alone.is_power_of_two() {
+        coverage.input(Input::RequestBit, alone.trailing_zeros() as usize);
+    }
+}
+
+fn count_payload(coverage: &mut Coverage, length: usize) {
+    let lengths = [0, 1, 255, 256, 257, 1023, 1024, 1025];
+    let known = lengths.iter().position(|known| *known == length);
+    coverage.input(Input::Payload, known.unwrap_or(if length > 1025 { 8 } else { 9 }));
+}
+
+fn count_store(coverage: &mut Coverage, len: usize, used: usize) {
+    let lengths = [0, 40, 43, 44, MAX_STORE_BYTES - 1, MAX_STORE_BYTES, MAX_STORE_BYTES + 1];
+    let known = lengths.iter().position(|known| *known == len);
+    let other = match len {
+        len if len > MAX_STORE_BYTES => 7,
+        len if len == used => 9,
+        _ => 8,
+    };
+    coverage.input(Input::StoreLength, known.unwrap_or(other));
+}
+
+/// Whether a unit of an entry's name is met by a unit of a variable's.
+fn meets(wanted: u16, unit: u16) -> bool {
+    let is_digit = matches!(unit, 0x30..=0x39 | 0x41..=0x46 | 0x61..=0x66);
+    wanted == unit || (wanted == NUMBER_SIGN && is_digit)
+}
+
+/// The place in [`super::labels::UNDER_SIGN`] of a unit.
+fn under_sign(unit: u16) -> usize {
+    match unit {
+        0x30..=0x39 => 0,
+        0x41..=0x46 => 1,
+        0x61..=0x66 => 2,
+        NUMBER_SIGN => 3,
+        0x2F | 0x3A | 0x40 | 0x47 | 0x60 | 0x67 => 4,
+        0 => 5,
+        1..=0x7F => 6,
+        0x80..=0xFF => 7,
+        _ => 8,
+    }
+}
+
+/// Counts the units that stand under a '#' of an entry where all other units match.
+fn count_under_signs(coverage: &mut Coverage, policy: &Policy, namespace: &Namespace, name: &[u16]) {
+    let as_long = |entry: &&Entry| entry.namespace == *namespace && entry.name.len() == name.len();
+    for entry in policy.entries.iter().filter(as_long) {
+        let apart = entry.name.iter().zip(name).filter(|(wanted, unit)| !meets(**wanted, **unit)).count();
+        if apart > 1 {
+            continue;
+        }
+        let signs = entry.name.iter().zip(name).filter(|(wanted, _)| **wanted == NUMBER_SIGN);
+        for (_, unit) in signs.filter(|(_, unit)| apart == 0 || !meets(NUMBER_SIGN, **unit)) {
+            coverage.input(Input::UnderSign, under_sign(*unit));
+            coverage.unit_under_sign(*unit);
+        }
+    }
+}
+
+fn count_choice(coverage: &mut Coverage, policy: &Policy, namespace: &Namespace, met: &Met) {
+    let Some(chosen) = met.chosen else {
+        let elsewhere = |entry: &Entry| entry.namespace != *namespace && entry.name == met.name;
+        let begins = |entry: &Entry| entry.name.starts_with(&met.name) || met.name.starts_with(&entry.name);
+        let longer = |entry: &Entry| entry.namespace == *namespace && !entry.name.is_empty() && begins(entry);
+        let label = match &policy.entries {
+            entries if entries.iter().any(elsewhere) => 1,
+            entries if entries.iter().any(longer) => 2,
+            _ => 0,
+        };
+        coverage.input(Input::Choice, label);
+        return;
+    };
+    let is_64th = policy.entries.get(MAX_ENTRIES - 1) == Some(chosen);
+    count_if(coverage, Input::Choice, &[is_64th], 11);
+    let targeting: Vec<&Entry> = policy.entries.iter().filter(|entry| entry.targets(namespace, &met.name)).collect();
+    let others = targeting.iter().filter(|entry| entry.name != chosen.name);
+    let place = |entry: &Entry| targeting.iter().position(|other| other.name == entry.name);
+    if others.clone().next().is_none() {
+        let sign = chosen.name.contains(&NUMBER_SIGN);
+        coverage.input(Input::Choice, if chosen.name.is_empty() { 5 } else { 3 + usize::from(sign) });
+    }
+    for other in others {
+        let later = place(other) > place(chosen);
+        let label = match other {
+            other if other.name.is_empty() => 6 + usize::from(later),
+            other if other.rank() == chosen.rank() => 8,
+            _ => 10 - usize::from(later),
+        };
+        coverage.input(Input::Choice, label);
+    }
+}
+
+fn count_chosen(coverage: &mut Coverage, met: &Met, entry: &Entry) {
+    let lock = match entry.lock {
+        LockRule::NoLock => 0,
+        LockRule::LockNow => 1,
+        LockRule::LockOnCreate => 2,
+        LockRule::LockOnVarState(_) => 3,
+    };
+    let deletion = if met.is_deletion() { 12 } else { 0 };
+    coverage.input(Input::Lock, deletion + 3 * lock + met.place());
+    if met.is_deletion() {
+        return;
+    }
+    for (input, size) in [(Input::MinSize, entry.min_size), (Input::MaxSize, entry.max_size)] {
+        if let Some(label) = SIZE_VALUES.iter().position(|(value, _)| *value == size) {
+            coverage.input(input, label);
+        }
+    }
+    let (length, min, max) = (met.length as u64, u64::from(entry.min_size), u64::from(entry.max_size));
+    let against = [length + 1 == min, length == min, length == max, length == max + 1];
+    count_if(coverage, Input::AgainstSizes, &against, 0);
+    for (lacking, given, bits) in [(Input::Required, 0, entry.must_have), (Input::Prohibited, 4, entry.cant_have)] {
+        if !bits.is_power_of_two() {
+            continue;
+        }
+        match [1, 2, 4, 0x40].iter().position(|bit| *bit == bits).filter(|_| met.has(bits)) {
+            None => coverage.input(lacking, bit_but_bs(bits)),
+            Some(label) => coverage.input(Input::KnownBit, given + label),
+        }
+    }
+}
+
+/// The place of a bit among all but BS, which every request that step 4 asks for attributes has.
+fn bit_but_bs(bit: u32) -> usize {
+    let place = bit.trailing_zeros() as usize;
+    place - usize::from(place > 1)
+}
+
+fn count_trigger(coverage: &mut Coverage, met: &Met, namespace: &Namespace, trigger: &Trigger) {
+    let found = met.pair.find(&trigger.namespace, &trigger.name);
+    let payload = found.map(|(_, _, variable)| variable.payload.as_slice());
+    let in_first_store = found.is_some_and(|(kind, ..)| kind == reference::Kind::NonVolatile);
+    let label = match payload {
+        None => 0,
+        Some([byte]) if *byte != trigger.value => 5,
+        Some([_]) => 3 - usize::from(in_first_store),
+        Some([first, _]) => 7 - usize::from(*first == trigger.value),
+        Some([first, rest @ ..]) if *first == trigger.value && rest.len() == 256 => 9,
+        Some(_) => 8,
+    };
+    coverage.input(Input::Trigger, label);
+    let sign = trigger.name.contains(&NUMBER_SIGN);
+    let other_namespace = trigger.namespace != *namespace;
+    let holds = [
+        (1, payload.is_none() && trigger.value == 0),
+        (4, payload == Some(&[0]) && trigger.value == 0),
+        (10, payload.is_some() && sign),
+        (11, payload.is_none() && sign && is_pattern_of_some(met.pair, trigger)),
+        (12, !other_namespace && trigger.name == met.name),
+        (13, other_namespace && payload == Some(&[trigger.value])),
+    ];
+    for (label, _) in holds.iter().filter(|(_, holds)| *holds) {
+        coverage.input(Input::Trigger, *label);
+    }
+}
+
+/// Whether the trigger's name, if it were a pattern, would target a variable that holds Value.
+fn is_pattern_of_some(pair: &Pair, trigger: &Trigger) -> bool {
+    let targeted = |name: &[u16]| {
+        name.len() == trigger.name.len() && trigger.name.iter().zip(name).all(|(wanted, unit)| meets(*wanted, *unit))
+    };
+    let mut variables = pair.non_volatile.iter().chain(&pair.volatile);
+    variables.any(|variable| {
+        variable.namespace == trigger.namespace && targeted(&variable.name) && variable.payload == [trigger.value]
+    })
+}
+
+fn count_deletion(coverage: &mut Coverage, met: &Met) {
+    let empty = met.length == 0;
+    let form = match met.attributes {
+        0 => usize::from(empty),
+        1 => 2 + usize::from(empty),
+        attributes if attributes & 0x40 != 0 && empty => 5,
+        _ if empty => 4,
+        _ => return,
+    };
+    coverage.input(Input::Deletion, 3 * form + met.place());
+}
+
+fn count_room(coverage: &mut Coverage, met: &Met) {
+    if let Some(length) = met.joined() {
+        let known = [1023, 1024, 1025, 2048].iter().position(|known| *known == length);
+        known.into_iter().for_each(|label| coverage.input(Input::AppendLength, label));
+    }
+    if !met.comes_to_room() {
+        return;
+    }
+    let kind = 2 * usize::from(met.has(0x40)) + usize::from(met.found.is_some());
+    let (needed, padding, store_len) = met.room();
+    let exact = needed == store_len;
+    if exact || needed == store_len + 1 {
+        coverage.input(Input::Room, 8 * kind + 2 * padding + usize::from(!exact));
+    }
+}
