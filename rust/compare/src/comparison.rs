@@ -49,6 +49,9 @@ impl Comparison {
         if answer.status != Status::Success {
             check(sides.library == before, describe("a refused call has changed something"))?;
         }
+        if answer.status == Status::VolumeCorrupted {
+            inputs::count_unsound(&mut self.coverage, before.switches, call);
+        }
         check(self.coverage.answer(call.name(), answer.status, ground), describe("no such answer is possible"))?;
         Ok(answer)
     }

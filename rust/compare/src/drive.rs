@@ -299,9 +299,16 @@ fn compare_states(history: &History) -> Result<(), String> {
     check(state.volatile == straight.volatile, "a rebuild has changed the volatile store")?;
     check(state.switches == straight.switches, "a rebuild has changed the switches")?;
     for (state, order) in [(state, &history.order), (straight, &history.straight_order)] {
-        check(state.policy[..] == packed(order)[..], "the policy record does not hold the entries in order")?;
+        check(holds(&state.policy, order), "the policy record does not hold the entries in order")?;
     }
     Ok(())
+}
+
+/// Whether a policy record holds these entries and then zeros.
+fn holds(record: &[u8], entries: &[Vec<u8>]) -> bool {
+    const ZEROS: &[u8; POLICY_BYTES] = &[0; POLICY_BYTES];
+    let rest = entries.iter().try_fold(record, |rest, entry| rest.strip_prefix(entry.as_slice()));
+    rest.is_some_and(|rest| *rest == ZEROS[..rest.len()])
 }
 
 /// Whether two entries of equal rank target one variable, whether or not it exists.

@@ -176,12 +176,11 @@ pub fn data_size_labels() -> [&'static str; 8] {
 }
 
 /// Calls that are lent something unsound, with what is wrong besides.
-pub const UNSOUND: [&str; 9] = [
+pub const UNSOUND: [&str; 8] = [
     "register, locked",
     "register, malformed",
     "dump, buffer too short",
     "read, bad name",
-    "read, absent",
     "set, step 1",
     "set, step 2",
     "set, step 3",

@@ -10,7 +10,7 @@ use crate::state::State;
 use crate::steps;
 use labels::{CALLS, DATA_SIZES, NAME_SIZES, START};
 use reference::{Entry, MAX_ENTRIES, Pair, Policy};
-use varpolicy::{MAX_STORE_BYTES, Namespace, POLICY_BYTES, Switches};
+use varpolicy::{MAX_STORE_BYTES, POLICY_BYTES, Switches};
 
 /// Counts what a call is given.
 pub fn count(coverage: &mut Coverage, state: &State, call: &Call) {
@@ -20,10 +20,7 @@ pub fn count(coverage: &mut Coverage, state: &State, call: &Call) {
         Call::Restart { .. } => count_start(coverage, state, START.len() / 2),
         Call::Register { entry } => count_registration(coverage, state, entry),
         Call::Dump { buffer } => count_dump(coverage, &state.policy, buffer.len()),
-        Call::Read { namespace, name } => {
-            count_request_name(coverage, name);
-            count_read(coverage, state, namespace, name);
-        }
+        Call::Read { name, .. } => count_request_name(coverage, name),
         Call::Set { namespace, name, attributes, payload } => {
             count_request_name(coverage, name);
             set::count(coverage, state, (namespace, name), (*attributes, payload.len()));
@@ -33,6 +30,24 @@ pub fn count(coverage: &mut Coverage, state: &State, call: &Call) {
     if let Call::PowerOn { .. } | Call::Restart { .. } | Call::Read { .. } | Call::Set { .. } = call {
         count_first_record(coverage, &state.nv);
         count_first_record(coverage, &state.volatile);
+    }
+}
+
+/// Counts what else is wrong with a call that was lent something unsound.
+pub fn count_unsound(coverage: &mut Coverage, switches: Switches, call: &Call) {
+    match call {
+        Call::Register { entry } => {
+            count_if(coverage, Input::Unsound, &[switches.locked, Entry::decode(entry).is_none()], 0);
+        }
+        Call::Dump { buffer } => count_if(coverage, Input::Unsound, &[buffer.is_empty()], 2),
+        Call::Read { name, .. } => count_if(coverage, Input::Unsound, &[name.len() % 2 == 1 || name.is_empty()], 3),
+        Call::Set { name, attributes, payload, .. } => {
+            let bad = name.is_empty() || payload.len() > 1024;
+            let without_bs = attributes & 0x44 != 0 && attributes & 2 == 0;
+            let wrong = [bad, attributes & !0x47 != 0, without_bs, !switches.enabled];
+            count_if(coverage, Input::Unsound, &wrong, 4);
+        }
+        _ => {}
     }
 }
 
@@ -73,7 +88,6 @@ fn count_registration(coverage: &mut Coverage, state: &State, entry: &[u8]) {
     let decoded = Entry::decode(entry);
     let locked = state.switches.locked;
     let Some(policy) = Policy::decode(&state.policy) else {
-        count_if(coverage, Input::Unsound, &[locked, decoded.is_none()], 0);
         return;
     };
     let entries = policy.entries.len();
@@ -145,7 +159,6 @@ fn packed_name(bytes: &[u8]) -> Option<usize> {
 
 fn count_dump(coverage: &mut Coverage, record: &[u8], len: usize) {
     let Some(policy) = Policy::decode(record) else {
-        count_if(coverage, Input::Unsound, &[len == 0], 2);
         return;
     };
     let needed = policy.encode().len();
@@ -177,15 +190,6 @@ fn count_request_name(coverage: &mut Coverage, name: &[u8]) {
     let zero = units.clone().any(|unit| unit == [0, 0]);
     let sign = units.any(|unit| unit == [0x23, 0]);
     count_if(coverage, Input::RequestName, &[zero, sign], 7);
-}
-
-fn count_read(coverage: &mut Coverage, state: &State, namespace: &Namespace, name: &[u8]) {
-    if Pair::decode(&state.nv, &state.volatile).is_some() {
-        return;
-    }
-    let bad = name.len() % 2 == 1 || name.is_empty();
-    let absent = Pair::decode(&state.nv, &[]).is_some_and(|pair| pair.find(namespace, &steps::units(name)).is_none());
-    count_if(coverage, Input::Unsound, &[bad, !bad && absent], 3);
 }
 
 fn count_first_record(coverage: &mut Coverage, store: &[u8]) {

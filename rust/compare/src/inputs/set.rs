@@ -22,9 +22,6 @@ pub(super) fn count(
     let (Some(pair), Some(policy)) = (Pair::decode(&state.nv, &state.volatile), Policy::decode(&state.policy)) else {
         count_store(coverage, state.nv.len(), 0);
         count_store(coverage, state.volatile.len(), 0);
-        let without_bs = attributes & 0x44 != 0 && attributes & 2 == 0;
-        let wrong = [name.is_empty() || length > 1024, attributes & !0x47 != 0, without_bs, !state.switches.enabled];
-        count_if(coverage, Input::Unsound, &wrong, 5);
         return;
     };
     for (store, variables) in [(&state.nv, &pair.non_volatile), (&state.volatile, &pair.volatile)] {

@@ -148,7 +148,7 @@ fn packed_names() -> Vec<Vec<u8>> {
         names.push(good[..good.len() - 1].to_vec());
         names.push(good);
     }
-    for count in [2, 5, 64] {
+    for count in 2..=64 {
         for place in 0..count {
             let mut units = name(count);
             units[place] = 0;

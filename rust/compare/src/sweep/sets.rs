@@ -4,6 +4,7 @@ use super::{ERASED, Outcome, Sweep, boundaries, delete, engine, entry, full, rea
 use crate::call::Call;
 use crate::make::{EntryFields, G, record, units};
 use crate::state::State;
+use std::slice::from_ref;
 
 const NAME: &[u16] = &[0x41];
 const OTHER_NAMESPACE: [u8; 16] = [0x0E; 16];
@@ -14,6 +15,7 @@ pub(super) fn run(sweep: &mut Sweep) -> Outcome {
     long_payloads(sweep)?;
     locks(sweep)?;
     trigger_bytes(sweep)?;
+    neighbours(sweep)?;
     deletions(sweep)?;
     steps_at_once(sweep)
 }
@@ -123,6 +125,23 @@ fn trigger_bytes(sweep: &mut Sweep) -> Outcome {
         }
         for length in [2, 3, 4, 5, 256, 257, 513, 1024] {
             sweep.each(&state(&trigger(&vec![value; length]), ERASED, &entries), [set(NAME, 2, vec![1])])?;
+        }
+    }
+    Ok(())
+}
+
+/// Entries that target more than one variable, where one of them exists and another is asked.
+fn neighbours(sweep: &mut Sweep) -> Outcome {
+    let there = record(&G, &units("0"), 3, &[1]);
+    for name in ["#", ""] {
+        for lock_type in 0..3 {
+            let fields = EntryFields { lock_type, ..entry(name) };
+            let triggered = entry(name).with_trigger(G, &units("0"), 1);
+            for fields in [fields, triggered] {
+                let state = state(&store(128, from_ref(&there)), ERASED, &[fields.pack()]);
+                let calls = ["0", "1", "#"].map(|name| [3, 2, 0].map(|bits| set(&units(name), bits, vec![2])));
+                sweep.each(&state, calls.into_iter().flatten())?;
+            }
         }
     }
     Ok(())

@@ -12,6 +12,8 @@ pub(super) fn run(sweep: &mut Sweep) -> Outcome {
     attributes(sweep)?;
     names(sweep)?;
     ends(sweep)?;
+    rests(sweep)?;
+    long_ends(sweep)?;
     repeats(sweep)?;
     room(sweep)?;
     appends(sweep)?;
@@ -124,7 +126,18 @@ fn ends(sweep: &mut Sweep) -> Outcome {
             }
         }
     }
-    long_ends(sweep)
+    Ok(())
+}
+
+/// One byte at each place of a long rest.
+fn rests(sweep: &mut Sweep) -> Outcome {
+    let record = record(&G, &units("AB"), 3, &[1]);
+    for place in 0..100 {
+        let mut bytes = store(record.len() + 100, from_ref(&record));
+        bytes[record.len() + place] = 0xFE;
+        sweep.each(&state(&bytes, ERASED, &[]), lent_stores())?;
+    }
+    Ok(())
 }
 
 /// Stores around the greatest length, erased, full, and with one byte behind the records.

@@ -87,4 +87,10 @@ pub(super) const EDITS: &[Edit] = &[
         "self.entries.iter().take(63).filter(|entry| entry.targets",
         "the 64th entry never speaks",
     ),
+    edit(
+        "record-reversed",
+        "self.entries.iter().flat_map(Entry::encode).collect()",
+        "self.entries.iter().rev().flat_map(Entry::encode).collect()",
+        "the entries stand in the opposite order",
+    ),
 ];

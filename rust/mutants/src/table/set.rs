@@ -445,6 +445,28 @@ pub(super) const EDITS: &[Edit] = &[
          trigger.value).then_some(SetGround::LockedOnVarState)",
         "8 bits of the trigger's length count",
     ),
+    edit(
+        "step4-create-any-target",
+        ON_CREATE,
+        "pair.non_volatile.iter().chain(&pair.volatile).find(|other| entry.targets(&other.namespace, \
+         &other.name)).map(|_| SetGround::LockedOnCreate)",
+        "type 2 locks once any variable that the entry targets exists",
+    ),
+    edit(
+        "step4-any-entry-locks",
+        CHOSEN,
+        "let entry = policy.choose(request.namespace, name)?; if request.is_deletion() && \
+         policy.entries.iter().any(|entry| entry.targets(request.namespace, name) && entry.lock == \
+         LockRule::LockNow) { return Some(SetGround::LockedNow); }",
+        "entries that were not chosen lock too",
+    ),
+    edit(
+        "step4-next-entry-asked",
+        "LockRule::NoLock => None,",
+        "LockRule::NoLock => policy.entries.iter().filter(|entry| entry.targets(request.namespace, \
+         name)).any(|entry| entry.lock == LockRule::LockNow).then_some(SetGround::LockedNow),",
+        "where the chosen entry does not lock, the others are asked",
+    ),
     // Step 5.
     edit(
         "step5-before-4",
