@@ -18,9 +18,9 @@ pub struct Workshop {
 /// What the readings and the comparison say of a mutant.
 pub struct Verdict {
     /// Whether a reading failed.
-    pub readings: bool,
+    readings: bool,
     /// The first words of the difference that the comparison found, or of its panic.
-    pub comparison: Option<String>,
+    comparison: Option<String>,
 }
 
 impl Verdict {

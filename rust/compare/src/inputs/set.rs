@@ -229,9 +229,9 @@ fn count_deletion(coverage: &mut Coverage, met: &Met) {
 }
 
 fn count_room(coverage: &mut Coverage, met: &Met) {
-    if let Some(length) = met.joined() {
-        let known = [1023, 1024, 1025, 2048].iter().position(|known| *known == length);
-        known.into_iter().for_each(|label| coverage.input(Input::AppendLength, label));
+    let joined = met.joined();
+    if let Some(label) = [1023, 1024, 1025, 2048].iter().position(|length| joined == Some(*length)) {
+        coverage.input(Input::AppendLength, label);
     }
     if !met.comes_to_room() {
         return;

@@ -88,7 +88,9 @@ fn names(sweep: &mut Sweep) -> Outcome {
     for count in [1, 2, 5, 64] {
         for place in 0..=count {
             let mut name = vec![0x41; count];
-            name.get_mut(place).into_iter().for_each(|unit| *unit = 0);
+            if let Some(unit) = name.get_mut(place) {
+                *unit = 0;
+            }
             let mut bytes = store(200, &[record(&G, &name, 3, &[1])]);
             if place == count {
                 bytes[32 + 2 * count] = 1;
