@@ -34,7 +34,7 @@ use Rattle.rules.specs.Engine.{State, Call, Answer, stateOf, dumpStatus,
 use Rattle.rules.specs.Engine.Call.{powerOn, restart, register, dump, lock, disable, query, read, set}
 use Rattle.rules.specs.LentLaws.{sizes-sum}
 use Rattle.rules.specs.Grounds.{Not, sumOfSizes, StoreRecords, PairRecords, SoundStores, RecordOf, PayloadAfter, Answers}
-use Rattle.rules.specs.GroundsLaws.{status-exactly}
+use Rattle.rules.specs.GroundsLaws.{success-only, refused-test, status-exactly}
 use Rattle.rules.specs.EngineLaws.{answer-status, step-status, granted-effect}
 use Rattle.rules.specs.StateLaws.{register-granted}
 use Rattle.rules.specs.Effects.{Refusal, answerOf, Beside, SetLeaves, SetByName, Leaves}
@@ -46,30 +46,19 @@ use Rattle.rules.specs.SetLaws.{set-sound, set-formed}
 
 -- ---- a status is 0 or another
 
-pub data Kind (n : Status) : Type 0 where
+data Kind (n : Status) : Type 0 where
   done : n ≡ Success → Kind n
   other : Refusal n → isSuccess n ≡ false → Kind n
 
 other-than : (n : Status) → isSuccess n ≡ false → Refusal n
 other-than n h e = true≢false (sym (ap isSuccess e) ∙ h)
 
-pub kind : (n : Status) → Kind n
-kind Success = Kind.done refl
-kind InvalidParameter = Kind.other (other-than InvalidParameter refl) refl
-kind Unsupported = Kind.other (other-than Unsupported refl) refl
-kind BufferTooSmall = Kind.other (other-than BufferTooSmall refl) refl
-kind WriteProtected = Kind.other (other-than WriteProtected refl) refl
-kind OutOfResources = Kind.other (other-than OutOfResources refl) refl
-kind VolumeCorrupted = Kind.other (other-than VolumeCorrupted refl) refl
-kind NotFound = Kind.other (other-than NotFound refl) refl
-kind AlreadyStarted = Kind.other (other-than AlreadyStarted refl) refl
-
-refused-test : (n : Status) → Refusal n → isSuccess n ≡ false
-refused-test n o = go (kind n)
+kind : (n : Status) → Kind n
+kind n = go (isSuccess n) refl
   where
-    go : Kind n → isSuccess n ≡ false
-    go (Kind.done e) = absurd (o e)
-    go (Kind.other p h) = h
+    go : (b : Bool) → isSuccess n ≡ b → Kind n
+    go true h = Kind.done (success-only n h)
+    go false h = Kind.other (other-than n h) h
 
 -- ---- what stands beside
 
@@ -393,13 +382,6 @@ pub set-by-name : (s : State) (r : Request) → isSuccess (step s (set r) .0 .st
 unfolding setStatusBy
 set-by-name s r h =
     let e = speaking (s .switches .enabled) (chosen (entriesOf (s .policy)) (r .variable)) in
-    let n : status s (set r) ≡ Success = succeeds (status s (set r)) (ap isSuccess (sym (step-status s (set r))) ∙ h) in
+    let n : status s (set r) ≡ Success = success-only (status s (set r)) (ap isSuccess (sym (step-status s (set r))) ∙ h) in
     let k = past-10 (sound (s .nv) (s .vol) and policyValid (s .policy)) (setStatus e (s .nv) (s .vol) r) n in
     subst⁻¹ (SetByName s r) (granted-effect s (set r) h) (by-name s r (and-left _ _ (k .0)) e (ap isSuccess (k .1)))
-  where
-    succeeds : (n : Status) → isSuccess n ≡ true → n ≡ Success
-    succeeds n t = go (kind n)
-      where
-        go : Kind n → n ≡ Success
-        go (Kind.done e) = e
-        go (Kind.other o f) = absurd (true≢false (sym t ∙ f))

@@ -12,6 +12,7 @@ use Rattle.limits.specs.Limits.{maxEntries, policyBytes, maxStore}
 use Rattle.lists.specs.Lists.{Among}
 use Rattle.lists.specs.ListsLaws.{Less, less}
 use Rattle.slices.specs.Test.{_and_}
+use Rattle.slices.specs.TestLaws.{forced-off}
 use Rattle.slices.specs.Bytes.{Bytes}
 use Rattle.slices.specs.Chunks.{flat, contains}
 use Rattle.names.specs.Name.{Variable, named}
@@ -28,7 +29,7 @@ use Rattle.rules.specs.LentLaws.{sizes-sum}
 use Rattle.rules.specs.Engine.{State, Call, powerOnStatus, restartStatus, registerStatus, dumpStatus, readStatus, status, step}
 use Rattle.rules.specs.EngineLaws.{step-status}
 use Rattle.rules.specs.Engine.Call.{powerOn, restart, register, dump, lock, disable, query, read, set}
-use Rattle.rules.specs.Grounds.{HasEntries, sumOfSizes, SoundStores, Applies, Answers, Refused}
+use Rattle.rules.specs.Grounds.{Not, HasEntries, sumOfSizes, SoundStores, Applies, Answers, Refused}
 use Rattle.rules.specs.Grounds.Applies.{powerOnUnsound, powerOnVolatileTooLong, powerOnBadRecord, powerOnDone, restartUnsound, restartBadRecord, restartDone}
 use Rattle.rules.specs.Grounds.Applies.{registerBadRecord, registerLocked, registerMalformed, registerRepeated, registerTooMany, registerTooLong, registerDone, dumpBadRecord, dumpShort, dumpDone}
 use Rattle.rules.specs.Grounds.Applies.{lockLocked, lockDone, disableDisabled, disableLocked, disableNotAllowed, disableDone, queryDone, readUnsound, readBadName, readAbsent, readDone}
@@ -409,6 +410,21 @@ status-exactly s c n = (
   λ a. step-status s c ∙ one-answer s c (status s c) n (status-answers s c) a,
 )
 
+-- a status is 0 or another
+pub success-only : (n : Status) → isSuccess n ≡ true → n ≡ Success
+success-only Success h = refl
+success-only InvalidParameter h = absurd (false≢true h)
+success-only Unsupported h = absurd (false≢true h)
+success-only BufferTooSmall h = absurd (false≢true h)
+success-only WriteProtected h = absurd (false≢true h)
+success-only OutOfResources h = absurd (false≢true h)
+success-only VolumeCorrupted h = absurd (false≢true h)
+success-only NotFound h = absurd (false≢true h)
+success-only AlreadyStarted h = absurd (false≢true h)
+
+pub refused-test : (n : Status) → Not (n ≡ Success) → isSuccess n ≡ false
+refused-test n o = forced-off (isSuccess n) (λ t. absurd (o (success-only n t)))
+
 -- A CALL IS REFUSED EXACTLY WHEN THE RULES GIVE A GROUND FOR IT: the first that applies gives a status other than 0
 pub refused-exactly : (s : State) (c : Call) → (isSuccess (step s c .0 .status) ≡ false) ↔ Refused s c
 refused-exactly s c = (
@@ -417,19 +433,8 @@ refused-exactly s c = (
     answers = status-exactly s c (step s c .0 .status) .0 refl;
     other = λ e. true≢false (sym (ap isSuccess e) ∙ h);
   }),
-  λ r. ap isSuccess (status-exactly s c (r .gives) .1 (r .answers)) ∙ not-success (r .gives) (r .other),
+  λ r. ap isSuccess (status-exactly s c (r .gives) .1 (r .answers)) ∙ refused-test (r .gives) (r .other),
 )
-  where
-    not-success : (n : Status) → (n ≡ Success → ⊥) → isSuccess n ≡ false
-    not-success Success h = absurd (h refl)
-    not-success InvalidParameter h = refl
-    not-success Unsupported h = refl
-    not-success BufferTooSmall h = refl
-    not-success WriteProtected h = refl
-    not-success OutOfResources h = refl
-    not-success VolumeCorrupted h = refl
-    not-success NotFound h = refl
-    not-success AlreadyStarted h = refl
 
 -- and so a set: create, rewrite, append and deletion alike
 pub a-write-is-refused-exactly-when-the-rules-give-a-ground : (s : State) (r : Request) → (isSuccess (step s (set r) .0 .status) ≡ false) ↔ Refused s (set r)
