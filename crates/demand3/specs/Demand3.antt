@@ -11,11 +11,12 @@ use Rattle.policy.specs.Policy.{entriesOf, sizesSum}
 use Rattle.status.specs.Status.{isSuccess}
 use Rattle.rules.specs.Engine as rules
 use Rattle.rules.specs.Engine.{State, Call}
-use Rattle.rules.specs.Engine.Call.{powerOn, restart}
+use Rattle.rules.specs.Engine.Call.{powerOn, restart, dump}
 use Rattle.rules.specs.EngineLaws.{step-status}
 use Rattle.rules.specs.StateLaws.{power-on-sound}
-use Rattle.history.specs.History.{Items, Order, Past, Proper, Complete, Permitted, Demand3, endWith}
+use Rattle.history.specs.History.{Items, Order, Past, Proper, Complete, Permitted, Demand3, end, endWith, registered}
 use Rattle.history.specs.History.ItemOf.{call, ownDump, rebuild}
+use Rattle.history.specs.StandingOrder.{NoneRestarts, registeredSince}
 use Rattle.history.specs.HistoryLaws as general
 use Rattle.history.specs.AnyMoment as moment
 use Rattle.history.specs.AnyMoment.{NoneOutdates, OneRebuild, pastAfter}
@@ -101,16 +102,32 @@ module _ (s : State) (allowed : Bool) (answered0 : isSuccess (rules.step s (powe
       moment.dump-now-rebuild-later machine Reached laws begun reached xs ys buffer x p (uncut xs) room n
       (moment.never-cut machine never-cut ys (endWith machine begun xs)) m
 
-  -- no power-on and no restart of a history is refused, with rebuilds or without: each is refused by damage alone, and no call
-  -- does any
-  pub starts-succeed : (is : Items machine) → ProperFrom is → (again : Bool)
-      → (isSuccess (rules.step (endWith machine begun is) (powerOn again) .0 .status) ≡ true)
-      × (isSuccess (rules.step (endWith machine begun is) (restart again) .0 .status) ≡ true)
-  starts-succeed is p again =
+  -- a dump of the history with room is complete as well, and holds the entries of the policy record
+  pub history-dump : (xs : Items machine) (buffer : Bytes) → ProperFrom xs
+      → sizesSum (endWith machine begun xs .policy) ≤ length buffer
+      → Complete machine (entriesAt xs) (pastAt (xs ++ (call (dump buffer) ∷ [])))
+  history-dump xs buffer p room = moment.history-dump machine Reached laws begun reached xs buffer p (uncut xs) room
+
+  -- what the policy record holds after a rebuild, in order or not, and any calls of which none is a power-on or restart that
+  -- succeeded: the entries as the rebuild registered them, those registered since behind
+  pub entries-after-rebuild : (xs : Items machine) (ds : List Bytes) (x : Order machine) (cs : List Call)
+      → ProperFrom (xs ++ (rebuild ds x ∷ [])) → NoneRestarts machine (endWith machine begun (xs ++ (rebuild ds x ∷ []))) cs
+      → entriesOf (end machine (endWith machine begun (xs ++ (rebuild ds x ∷ []))) cs .policy)
+      ≡ registered machine ds x ++ registeredSince machine (endWith machine begun (xs ++ (rebuild ds x ∷ []))) cs
+  entries-after-rebuild xs ds x cs p n =
+      moment.entries-after-rebuild machine Reached laws begun reached xs ds x cs p (uncut xs)
+      (moment.any-history machine never-cut cs (endWith machine begun (xs ++ (rebuild ds x ∷ [])))) n
+
+  -- no power-on and no restart of a history is refused, with rebuilds or without, whether or not disabling is allowed: each is
+  -- refused by damage alone, and no call does any
+  pub starts-succeed : (is : Items machine) → ProperFrom is → (allowing : Bool)
+      → (isSuccess (rules.step (endWith machine begun is) (powerOn allowing) .0 .status) ≡ true)
+      × (isSuccess (rules.step (endWith machine begun is) (restart allowing) .0 .status) ≡ true)
+  starts-succeed is p allowing =
       let z = endWith machine begun is in
       let w = moment.reached machine Reached laws begun reached is p (uncut is) .sound in (
-        ap isSuccess (step-status z (powerOn again)) ∙ power-on-done z again w,
-        ap isSuccess (step-status z (restart again)) ∙ restart-done z again w,
+        ap isSuccess (step-status z (powerOn allowing)) ∙ power-on-done z allowing w,
+        ap isSuccess (step-status z (restart allowing)) ∙ restart-done z allowing w,
       )
 
   -- ONE REBUILD between any two lists of calls

@@ -88,5 +88,6 @@ machine =
       closing = closingOf;
       -- the buffer has room for the sum of Sizes
       CanDump = λ s buffer. sizesSum (s .policy) ≤ length buffer;
+      -- no call is cut in this edition
       startsAfterCut = λ c. true;
     }

@@ -297,6 +297,22 @@ other-namespace h = let z : _≡_ {A = ℕ} 0x5C 7 = ap (λ (l : Bytes). getD l 
 other-order : Permitted machine d₁₂ (some d₂₁)
 other-order = (List·Permᴰ·swap refl refl, λ v n. ((apart e₁ e₂ other-namespace v, tt), (tt, tt)))
 
+-- and entries that target one variable at different ranks may stand in any order: "A#" and "A1" of one namespace, both of which
+-- target "A1"
+abbrev e₄ : Bytes
+e₄ = entry G 0 (name 0x41 0x31)
+
+both-target : (targets e₁ (variable G 0x41 0x31) ≡ true) × (targets e₄ (variable G 0x41 0x31) ≡ true)
+unfolding rulesOpened
+both-target = (refl, refl)
+
+other-rank : rank e₁ ≡ rank e₄ → ⊥
+unfolding rulesOpened
+other-rank h = let z : _≡_ {A = ℕ} 1 0 = h in omega arith
+
+pub other-ranks : Permitted machine (e₁ ∷ e₄ ∷ []) (some (e₄ ∷ e₁ ∷ []))
+other-ranks = (List·Permᴰ·swap refl refl, λ v n. (((λ p q r. other-rank r), tt), (tt, tt)))
+
 abbrev ProperHere : Items machine → Type 0
 ProperHere = ProperFrom board true (answered .powered)
 

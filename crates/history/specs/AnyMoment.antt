@@ -1,19 +1,21 @@
 -- "At any places in it, as often as you like": where rebuilds may stand, from the same laws of a machine. Demand 3 is of
 -- proper lists; here is that a list stays proper with one more dump or rebuild, and what that says of a history alone.
 use mathlib.Core.Path.{_≡_, refl, sym, _∙_, ap, subst, subst⁻¹}
-use mathlib.Core.List.{List, [], _∷_, _++_, map, List·Permᴰ, List·Permᴰ·trans, Permᴰ·refl, Permᴰ·symm}
-use mathlib.Core.Bool.{Bool, false}
+use mathlib.Core.List.{List, [], _∷_, _++_, map, append-assoc, append-nil, List·Permᴰ, List·Permᴰ·trans, Permᴰ·refl, Permᴰ·symm}
+use mathlib.Core.Bool.{Bool, false, true≢false}
 use mathlib.Core.Option.{none, some}
 use mathlib.Core.Logic.{inl, inr}
-use Rattle.history.specs.History.{Outcome, Machine, Buffer, Entries, Items, Order, Past}
+use Rattle.history.specs.History.{Outcome, Kind, Machine, Buffer, Entry, Entries, Items, Order, Past}
 use Rattle.history.specs.History.Outcome.{granted, refused, cut}
+use Rattle.history.specs.History.Kind.{starts, registers, dumps, keeps}
 use Rattle.history.specs.History.ItemOf.{call, ownDump, rebuild}
 use Rattle.history.specs.History.{outcomeOf, answers, end, AllGranted, rebuilding, registered, endWith}
-use Rattle.history.specs.History.{event, outdates, Complete, Permitted, cutAfter, ProperHistory, Proper}
+use Rattle.history.specs.History.{event, outdates, Complete, Permitted, cutAfter, ProperHistory, Proper, entriesAfter}
+use Rattle.history.specs.StandingOrder.{restarts, NoneRestarts, registeredBy, registeredSince}
 use Rattle.history.specs.HistoryLaws.{Laws, complete-push, holds-after, keeps-entries, rebuild-same}
 
 module _ (M : Machine) where
-  open Machine M using (State, Call, step, kind, entries, dump, CanDump)
+  open Machine M using (State, Call, step, kind, entries, stateIn, dump, CanDump)
 
   -- whether the last call of a list that was not refused was cut (E9)
   abbrev pub cutAtEnd : Bool → State → Items M → Bool
@@ -81,6 +83,12 @@ module _ (M : Machine) where
   past-append (ownDump b ∷ xs) ys past s = past-append xs ys _ _
   past-append (rebuild ds x ∷ xs) ys past s = past-append xs ys _ _
 
+  end-with-append : (xs ys : Items M) (s : State) → endWith M s (xs ++ ys) ≡ endWith M (endWith M s xs) ys
+  end-with-append [] ys s = refl
+  end-with-append (call c ∷ xs) ys s = end-with-append xs ys _
+  end-with-append (ownDump b ∷ xs) ys s = end-with-append xs ys _
+  end-with-append (rebuild ds x ∷ xs) ys s = end-with-append xs ys _
+
   cut-append : (xs ys : Items M) (t : Bool) (s : State) → cutAtEnd t s (xs ++ ys) ≡ cutAtEnd (cutAtEnd t s xs) (endWith M s xs) ys
   cut-append [] ys t s = refl
   cut-append (call c ∷ xs) ys t s = cut-append xs ys _ _
@@ -123,7 +131,7 @@ module _ (M : Machine) where
     never-cut (ownDump b ∷ is) s = never-cut is (step s (dump b) .1)
     never-cut (rebuild ds x ∷ is) s = never-cut is (end M s (rebuilding M s (registered M ds x)))
 
-    any-history : (cs : List Call) (s : State) → ProperHistory M false s cs
+    pub any-history : (cs : List Call) (s : State) → ProperHistory M false s cs
     any-history [] s = tt
     any-history (c ∷ cs) s = (tt, rw (never-after s c) (any-history cs (step s c .1)))
 
@@ -162,7 +170,7 @@ module _ (M : Machine) where
     stays-complete (rebuild es x ∷ is) ds past s n d =
         stays-complete is ds past (end M s (rebuilding M s (registered M es x))) n d
 
-    -- an own dump where it can be taken is complete, and holds the entries of the policy record
+    -- a dump where it can be taken is complete, and holds the entries of the policy record
     own-dump-complete : (b : Buffer M) (past : Past M) (s : State) → Invariant false s → CanDump s b
         → Complete M (entries s) (event M s (dump b) ∷ past)
     own-dump-complete b past s i room =
@@ -218,6 +226,26 @@ module _ (M : Machine) where
         }))
         (p .3)
 
+    -- entries after calls of which none is a power-on or restart that succeeded: those registered stand behind
+    after-since : (κ : Kind (Entry M)) (r : Outcome) (l : Entries M) → restarts M κ r ≡ false → entriesAfter M κ r l ≡ l ++ registeredBy M κ r
+    after-since starts granted l h = absurd (true≢false h)
+    after-since starts refused l h = sym (append-nil l)
+    after-since starts cut l h = sym (append-nil l)
+    after-since (registers e) granted l h = refl
+    after-since (registers e) refused l h = sym (append-nil l)
+    after-since (registers e) cut l h = sym (append-nil l)
+    after-since dumps r l h = sym (append-nil l)
+    after-since keeps r l h = sym (append-nil l)
+
+    entries-since : (cs : List Call) (t : Bool) (s : State) → Invariant t s → ProperHistory M t s cs → NoneRestarts M s cs
+        → entries (end M s cs) ≡ entries s ++ registeredSince M s cs
+    entries-since [] t s i h n = sym (append-nil (entries s))
+    entries-since (c ∷ cs) t s i h n =
+        let e = registeredBy M (kind c) (outcomeOf M s c) in
+        entries-since cs _ (step s c .1) (L .continues c i (h .0)) (h .1) (n .1)
+        ∙ ap (λ l. l ++ registeredSince M (step s c .1) cs) (L .lists c i (h .0) ∙ after-since (kind c) (outcomeOf M s c) (entries s) (n .0))
+        ∙ append-assoc (entries s) e (registeredSince M (step s c .1) cs)
+
     -- a rebuild in order from a dump of the entries as they stand leaves the state, so what follows stays proper
     rebuild-first : (is : Items M) (past : Past M) (s : State) → Invariant false s → Complete M (entries s) past
         → Proper M false past s is → Proper M false past s (rebuild (entries s) none ∷ is)
@@ -230,6 +258,29 @@ module _ (M : Machine) where
       reached is p u =
           let r = reach is false [] s (record { invariant = start; orders = λ ds d. absurd d }) p in
           subst (λ t. Invariant t (endWith M s is)) u (r .invariant)
+
+      -- a dump of the history where it can be taken is complete, and holds the entries of the policy record
+      pub history-dump : (xs : Items M) (b : Buffer M) → Proper M false [] s xs → cutAtEnd false s xs ≡ false → CanDump (endWith M s xs) b
+          → Complete M (entries (endWith M s xs)) (pastAfter [] s (xs ++ (call (dump b) ∷ [])))
+      history-dump xs b p u room =
+          subst⁻¹ (Complete M (entries (endWith M s xs))) (past-append xs (call (dump b) ∷ []) [] s)
+          (own-dump-complete b (pastAfter [] s xs) (endWith M s xs) (reached xs p u) room)
+
+      -- THE ENTRIES AFTER A REBUILD, in order or not, and calls: as it registered them, those registered since behind
+      pub entries-after-rebuild : (xs : Items M) (ds : Entries M) (x : Order M) (cs : List Call) → Proper M false [] s (xs ++ (rebuild ds x ∷ []))
+          → cutAtEnd false s xs ≡ false → ProperHistory M false (endWith M s (xs ++ (rebuild ds x ∷ []))) cs
+          → NoneRestarts M (endWith M s (xs ++ (rebuild ds x ∷ []))) cs
+          → entries (end M (endWith M s (xs ++ (rebuild ds x ∷ []))) cs)
+          ≡ registered M ds x ++ registeredSince M (endWith M s (xs ++ (rebuild ds x ∷ []))) cs
+      entries-after-rebuild xs ds x cs p u h n =
+          let z = endWith M s xs in
+          let r = reach xs false [] s (record { invariant = start; orders = λ ds d. absurd d }) (proper-left xs (rebuild ds x ∷ []) false [] s p) in
+          let i : Invariant false z = subst (λ t. Invariant t z) u (r .invariant) in
+          let q = proper-right xs (rebuild ds x ∷ []) false [] s p in
+          let o = permitted-order (entries z) ds x (r .orders ds (q .1)) (q .2) in
+          let e : endWith M s (xs ++ (rebuild ds x ∷ [])) ≡ stateIn (registered M ds x) z = end-with-append xs (rebuild ds x ∷ []) s ∙ L .rebuildLeaves i o in
+          entries-since cs false _ (subst⁻¹ (Invariant false) e (L .reorders i o)) h n
+          ∙ ap (λ l. l ++ registeredSince M (endWith M s (xs ++ (rebuild ds x ∷ []))) cs) (ap entries e ∙ L .relists i o)
 
       -- an own dump into any buffer may be inserted at any place
       pub insert-dump : (xs ys : Items M) (b : Buffer M) → Proper M false [] s (xs ++ ys) → cutAtEnd false s xs ≡ false

@@ -1,5 +1,5 @@
 -- Demand 3 over any machine, document 01's "Histories and rebuilds": what a history with rebuilds is, and what is claimed.
--- Nothing here knows a byte, a store, a switch or a call by name. Which order of the entries stands when is fixed here; what
+-- Nothing here knows a byte, a store or a switch, and of calls only those that a rebuild makes. Which order of the entries stands when is fixed here; what
 -- another order changes in a state and in an answer is the machine's, `stateIn` and `answerIn`.
 -- Assumes nothing: these are definitions.
 use mathlib.Core.Path.{_≡_}
@@ -61,7 +61,8 @@ pub record Machine : Type 1 where
   -- well-formed entries; the entries of a state, in the order in which they stand
   pub formed : List Symbol → Bool
   pub entries : State → List (List Symbol)
-  -- what another order changes: a state with its entries in that order; of a call's answer what it would be there
+  -- what another order changes: the state with its entries in the order o; what a call's answer becomes in a state whose entries
+  -- stand in the order o
   pub stateIn : List (List Symbol) → State → State
   pub answerIn : Call → List (List Symbol) → Answer → Answer
   -- the variables with a name that step 1 takes; which of them an entry targets, and at which rank
@@ -95,7 +96,8 @@ module _ (M : Machine) where
   abbrev pub Items : Type 0
   Items = List (ItemOf Call Symbol)
 
-  -- in which order the entries stand: none, as without rebuilds; some o, in the order o
+  -- in which order the entries stand: none, as without rebuilds; some o, in the order o. And in which order a rebuild registers:
+  -- none, in the dump's own; some o, in the order o
   abbrev pub Order : Type 0
   Order = Option Entries
 
@@ -208,7 +210,7 @@ module _ (M : Machine) where
   cutAfter t cut = true
 
   -- WHICH LISTS: "of any length, in any order", refused calls too, with rebuilds at any places, each from a complete dump in
-  -- a permitted order; but none directly after a call that was cut
+  -- a permitted order; after a call that was cut (E9) only some calls, and no own dump and no rebuild
   abbrev pub Proper : Bool → Past → State → Items → Type 0
   Proper t past s [] = Unit
   Proper t past s (call c ∷ is) =
@@ -280,7 +282,7 @@ module _ (M : Machine) where
   answersInOrder w s (ownDump b ∷ is) = answersInOrder w s is
   answersInOrder w s (rebuild ds x ∷ is) = answersInOrder (orderRebuilt w ds x) s is
 
-  -- "the same entries": whatever order stands, now and at every moment, is one of the plain history's entries
+  -- "the same entries": whatever order stands, now and at every moment, is a permutation of the plain history's entries
   abbrev pub SameEntries : Order → State → Type 0
   SameEntries none s = Unit
   SameEntries (some o) s = List·Permᴰ (entries s) o
@@ -310,9 +312,10 @@ module _ (M : Machine) where
 
   -- DEMAND 3, "a single claim about the whole list with its rebuilds, and not one for each call", from a state
   pub record Demand3 (s : State) (is : Items) : Type 0 where
-    -- "Every step of every rebuild succeeds"
+    -- "Every step of every rebuild succeeds" (an own dump where `CanDump`)
     pub succeed : RebuildsSucceed s is
-    -- answers and end state are those without the rebuilds, but for the order that stands, which is one of the same entries
+    -- answers and end state are those without the rebuilds, but for the order that stands, which is a permutation of the same
+    -- entries
     pub sameAnswers : answersWith s is ≡ answersInOrder none s is
     pub sameEnd : endWith s is ≡ stateBy (standingOrder none s is) (end s (history is))
     pub sameEntries : AlwaysSameEntries none s is

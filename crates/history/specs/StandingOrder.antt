@@ -1,7 +1,7 @@
--- The order that stands, in document 01's words: after a rebuild in another order and calls of the history of which none is a
--- power-on or restart that succeeded, it is the order in which the rebuild registered, with the entries registered since behind
--- it. Assumes nothing.
-use mathlib.Core.Path.{_≡_, refl, sym, _∙_, ap}
+-- The order that stands, in document 01's words: after a rebuild in another order, or in order where another stood, and calls of the
+-- history of which none is a power-on or restart that succeeded, it is the order in which the rebuild registered, with the entries
+-- registered since behind it; a power-on or restart that succeeded ends it. Assumes nothing.
+use mathlib.Core.Path.{_≡_, refl, sym, _∙_, ap, ap₂}
 use mathlib.Core.List.{List, [], _∷_, _++_, map, append-assoc, append-nil}
 use mathlib.Core.Bool.{Bool, true, false, true≢false}
 use mathlib.Core.Option.{none, some}
@@ -64,7 +64,29 @@ module _ (M : Machine) where
   standing-append (ownDump b ∷ xs) ys w s = standing-append xs ys w s
   standing-append (rebuild ds x ∷ xs) ys w s = standing-append xs ys (orderRebuilt M w ds x) s
 
-  -- THE LAST REBUILD'S ORDER, whatever stood before it
+  -- THE LAST REBUILD'S ORDER: of one in another order, whatever stood before it
   pub last-rebuild : (xs : Items M) (ds o : Entries M) (cs : List Call) (s : State) → NoneRestarts (end M s (history M xs)) cs
       → standingOrder M none s (xs ++ (rebuild ds (some o) ∷ map call cs)) ≡ some (o ++ registeredSince (end M s (history M xs)) cs)
   last-rebuild xs ds o cs s n = standing-append xs (rebuild ds (some o) ∷ map call cs) none s ∙ behind cs (end M s (history M xs)) o n
+
+  -- of one in order, where another order stood
+  pub last-in-order : (xs : Items M) (ds o : Entries M) (cs : List Call) (s : State) → standingOrder M none s xs ≡ some o
+      → NoneRestarts (end M s (history M xs)) cs
+      → standingOrder M none s (xs ++ (rebuild ds none ∷ map call cs)) ≡ some (ds ++ registeredSince (end M s (history M xs)) cs)
+  last-in-order xs ds o cs s h n =
+      standing-append xs (rebuild ds none ∷ map call cs) none s
+      ∙ ap (λ w. standingOrder M (orderRebuilt M w ds none) (end M s (history M xs)) (map call cs)) h
+      ∙ behind cs (end M s (history M xs)) ds n
+
+  -- A POWER-ON OR RESTART THAT SUCCEEDED ENDS IT
+  start-ends : (w : Order M) → orderAfter M starts granted w ≡ none
+  start-ends none = refl
+  start-ends (some o) = refl
+
+  pub start-ends-order : (xs : Items M) (c : Call) (s : State) → kind c ≡ starts → outcomeOf M (end M s (history M xs)) c ≡ granted
+      → standingOrder M none s (xs ++ (call c ∷ [])) ≡ none
+  start-ends-order xs c s k g =
+      let w = standingOrder M none s xs in
+      standing-append xs (call c ∷ []) none s
+      ∙ ap₂ (λ κ r. orderAfter M κ r w) k g
+      ∙ start-ends w
