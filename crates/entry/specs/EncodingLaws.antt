@@ -18,7 +18,7 @@ use Rattle.slices.specs.TestLaws.{and-left, and-right, and-intro}
 use Rattle.slices.specs.Bytes.{Bytes, le16, le32, le16Bytes, le32Bytes, part}
 use Rattle.slices.specs.PartLaws.{drop-step, drop-take, part-take, part-rest, part-none, length-part}
 use Rattle.slices.specs.NumberLaws.{le16-drop, le32-drop, le16-bytes, le32-bytes, bytes-le16, bytes-le32}
-use Rattle.names.specs.Name.{isName, isTerminated}
+use Rattle.names.specs.Name.{Variable, isName, isTerminated}
 use Rattle.names.specs.NameLaws.{isName-length, isTerminated-length, isTerminated-zeros, name-terminated}
 use Rattle.entry.specs.Entry.{version, sizeField, offsetToName, namespaceOf, minSize, maxSize, attributesMustHave, attributesCantHave, lockPolicyType, headerOk, lockOk, nameOk, nameIsEmpty, wellFormed, nameOf, triggerOf, triggerValue}
 use Rattle.entry.specs.EntryLaws.{
@@ -119,13 +119,13 @@ module _ (e : Bytes) (w : wellFormed e ≡ true) where
   plain-offset q = eqb-true (offsetToName e) 44 (rw q at (lock e w))
 
   lock-type : typeOf (lockFields e) ≡ lockPolicyType e
-  unfolding lockFields triggerOf
-  lock-type = go (leb (lockPolicyType e) 2) refl
+  unfolding lockFields
+  lock-type = go (leb (lockPolicyType e) 2) (triggerOf e) refl
     where
-      go : (t : Bool) → leb (lockPolicyType e) 2 ≡ t
-          → typeOf (cond t (plain (lockPolicyType e)) (onVarState (part 44 60 e) (triggerValue e) (getD e 61 0) (part 62 (offsetToName e - 2) e))) ≡ lockPolicyType e
-      go true q = refl
-      go false q = sym (type-3 e w q)
+      go : (t : Bool) (v : Variable) → leb (lockPolicyType e) 2 ≡ t
+          → typeOf (cond t (plain (lockPolicyType e)) (onVarState (v .namespace) (triggerValue e) (getD e 61 0) (v .name))) ≡ lockPolicyType e
+      go true v q = refl
+      go false v q = sym (type-3 e w q)
 
   lock-part : lockBytes (lockFields e) ≡ part 44 (offsetToName e) e
   unfolding lockFields triggerOf

@@ -16,9 +16,9 @@ use Rattle.slices.specs.TestLaws.{and-left, and-right, and-intro}
 use Rattle.slices.specs.Bytes.{Bytes, part, same}
 use Rattle.slices.specs.BytesLaws.{same-eq, same-sym, same-of}
 use Rattle.slices.specs.PartLaws.{length-part, part-none, part-rest}
-use Rattle.names.specs.Name.{isName, isTerminated, named, units, wildcards}
+use Rattle.names.specs.Name.{isName, isTerminated, units, wildcards}
 use Rattle.names.specs.NameLaws.{isName-length, isTerminated-length, isTerminated-name, units-length, wildcards-le}
-use Rattle.entry.specs.Entry.{headerOk, lockOk, nameOk, wellFormed, sizeField, offsetToName, lockPolicyType, nameIsEmpty, nameOf, namespaceOf, triggerOf, rank, sameTarget}
+use Rattle.entry.specs.Entry.{headerOk, lockOk, nameOk, wellFormed, sizeField, offsetToName, lockPolicyType, nameIsEmpty, nameOf, namespaceOf, rank, sameTarget}
 
 -- ---- lengths and places
 pub record Sized (e : Bytes) : Type 0 where
@@ -139,11 +139,6 @@ module _ (e : Bytes) (w : wellFormed e ≡ true) (q : leb (lockPolicyType e) 2 �
 
   pub trigger-name : isName (part 62 (offsetToName e - 2) e) ≡ true
   trigger-name = rw trigger-part at (isTerminated-name (part 62 (offsetToName e) e) trigger-terminated)
-
-  -- it names a variable that step 1 of a set takes
-  pub trigger-named : named (triggerOf e) ≡ true
-  unfolding named triggerOf
-  trigger-named = and-intro _ _ (eq-eqb _ _ (length-part 44 60 e (omega (arith, least-62, sized e w .offset-most)))) trigger-name
 
 -- ---- the same namespace and name
 pub record Same (e f : Bytes) : Type 0 where

@@ -135,17 +135,6 @@ module _ (M : Machine) where
   complete-push e past past′ h ds (inl d) = inl d
   complete-push e past past′ h ds (inr d) = inr (d .0, h ds (d .1))
 
-  -- no answer that is left is a refusal
-  none-refused : (l : List Answer) → All (λ a. outcome a ≡ refused → ⊥) (struckAnswers M l)
-  none-refused [] = tt
-  none-refused (a ∷ l) = go (outcome a) refl (none-refused l)
-    where
-      go : (r : Outcome) → outcome a ≡ r → All (λ a. outcome a ≡ refused → ⊥) (struckAnswers M l)
-          → All (λ a. outcome a ≡ refused → ⊥) (ifRefused r (struckAnswers M l) (a ∷ struckAnswers M l))
-      go granted e h = (λ r. granted-refused (sym e ∙ r), h)
-      go refused e h = h
-      go cut e h = (λ r. cut-refused (sym e ∙ r), h)
-
   -- STRUCK, by `refusedLeaves` alone: the answers and the end of a list with rebuilds, and of a history alone
   module _ (leaves : (s : State) (c : Call) → outcomeOf M s c ≡ refused → step s c .1 ≡ s) where
     -- what a list answers and where it ends
@@ -210,6 +199,17 @@ module _ (M : Machine) where
     struck-proper (rebuild ds x ∷ is) t past past′ s h p =
         let z = end M s (rebuilding M s (registered M ds x)) in
         (p .0, h ds (p .1), p .2, struck-proper is false past past′ z h (p .3))
+
+  -- no answer that is left is a refusal
+  none-refused : (l : List Answer) → All (λ a. outcome a ≡ refused → ⊥) (struckAnswers M l)
+  none-refused [] = tt
+  none-refused (a ∷ l) = go (outcome a) refl (none-refused l)
+    where
+      go : (r : Outcome) → outcome a ≡ r → All (λ a. outcome a ≡ refused → ⊥) (struckAnswers M l)
+          → All (λ a. outcome a ≡ refused → ⊥) (ifRefused r (struckAnswers M l) (a ∷ struckAnswers M l))
+      go granted e h = (λ r. granted-refused (sym e ∙ r), h)
+      go refused e h = h
+      go cut e h = (λ r. cut-refused (sym e ∙ r), h)
 
   module _ (Invariant : Bool → State → Type 0) (L : Laws Invariant) where
     -- COMPLETE DUMPS: one that is complete after a call is the state's entries or was complete before, and the call outdates
