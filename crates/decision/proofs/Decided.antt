@@ -4,12 +4,12 @@ use mathlib.Core.Bool.{Bool, true, false, cond}
 use mathlib.Core.Option.{Option}
 use Rattle.slices.specs.Bytes.{Bytes}
 use Rattle.names.specs.Name.{Variable}
-use Rattle.pair.specs.Pair.{lookup}
+use Rattle.stores.specs.Pair.{lookup}
 use Rattle.status.specs.declared.Status.{Status}
 use Rattle.status.specs.Status.{isSuccess}
-use Rattle.variables.specs.declared.Place.{Place}
-use Rattle.variables.specs.Place.{placeIn, recordAt}
-use Rattle.variables.specs.PlaceLaws.{lookup-place}
+use Rattle.stores.specs.declared.Place.{Place}
+use Rattle.stores.specs.Place.{placeIn, recordAt}
+use Rattle.stores.specs.PlaceLaws.{lookup-place}
 use Rattle.rules.specs.declared.Ground.{Ground}
 use Rattle.rules.specs.Set.{Request, requestStatus, groundBy, groundStatus}
 use Rattle.decision.specs.declared.Decision.{Decision}

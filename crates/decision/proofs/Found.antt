@@ -6,12 +6,12 @@ use mathlib.Core.Bool.{Bool, true, false}
 use mathlib.Core.Option.{Option, none, some}
 use Rattle.slices.specs.Bytes.{Bytes, same, pairwise}
 use Rattle.names.specs.Name.{Variable}
-use Rattle.pair.specs.Pair.{lookup}
+use Rattle.stores.specs.Pair.{lookup}
 use Rattle.store.specs.Parts.{payloadIn}
-use Rattle.variables.specs.declared.Place.{Place}
-use Rattle.variables.specs.declared.Place.the-variants.{NonVolatile, Volatile, Nowhere}
-use Rattle.variables.specs.Place.{placeIn, isSomewhere, recordAt, payloadAt}
-use Rattle.variables.specs.PlaceLaws.{lookup-place}
+use Rattle.stores.specs.declared.Place.{Place}
+use Rattle.stores.specs.declared.Place.the-variants.{NonVolatile, Volatile, Nowhere}
+use Rattle.stores.specs.Place.{placeIn, isSomewhere, recordAt, payloadAt}
+use Rattle.stores.specs.PlaceLaws.{lookup-place}
 use Rattle.rules.specs.Set.{exists, holdsValue}
 
 pub exists-at : (nv vol : Bytes) (p : Place) → exists (recordAt nv vol p) ≡ isSomewhere p

@@ -6,9 +6,9 @@ use mathlib.Core.Option.{Option, none, some}
 use lib.Dec.{eqb}
 use Rattle.slices.specs.Bytes.{Bytes}
 use Rattle.status.specs.declared.Status.the-variants.{InvalidParameter, NotFound}
-use Rattle.variables.specs.declared.Place.{Place}
-use Rattle.variables.specs.declared.Place.the-variants.{NonVolatile, Volatile, Nowhere}
-use Rattle.variables.specs.Place.{isSomewhere, recordAt, attributesAt}
+use Rattle.stores.specs.declared.Place.{Place}
+use Rattle.stores.specs.declared.Place.the-variants.{NonVolatile, Volatile, Nowhere}
+use Rattle.stores.specs.Place.{isSomewhere, recordAt, attributesAt}
 use Rattle.rules.specs.Set.{Request, isDeletion, isEmptyAppend, otherAttributes}
 use Rattle.decision.specs.declared.Decision.{Decision}
 use Rattle.decision.specs.declared.Decision.the-variants.{Refuse, Delete, Keep, Store}

@@ -4,7 +4,7 @@ use Prim.Native.Nat.{ℕ}
 use mathlib.Core.Bool.{Bool, true, false, cond}
 use mathlib.Core.Option.{Option}
 use Rattle.slices.specs.Bytes.{Bytes}
-use Rattle.pair.specs.Pair.{lookup}
+use Rattle.stores.specs.Pair.{lookup}
 use Rattle.status.specs.declared.Status.{Status}
 use Rattle.status.specs.declared.Status.the-variants.{InvalidParameter, NotFound}
 use Rattle.status.specs.Status.{isSuccess}

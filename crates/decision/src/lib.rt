@@ -14,8 +14,8 @@ ghost use Rattle.store.specs.Record.{hasNV, hasBS, hasRT, hasAppend};
 ghost use Rattle.policy.specs.Policy.{entriesOf};
 ghost use Rattle.policy.specs.Choice.{chosen};
 ghost use Rattle.store.specs.Store.{endOf};
-ghost use Rattle.pair.specs.Pair.{lookup};
-ghost use Rattle.variables.specs.Place.{placeIn, isSomewhere, recordAt, Within};
+ghost use Rattle.stores.specs.Pair.{lookup};
+ghost use Rattle.stores.specs.Place.{placeIn, isSomewhere, recordAt, Within};
 ghost use Rattle.rules.specs.Set.{isDeletion, isEmptyAppend, requestStatus, exists, holdsValue, locks, requestGround, groundOf, groundBy, groundStatus};
 ghost use Rattle.rules.specs.Engine.{speaking};
 ghost use Rattle.decision.specs.Decision.{requestOf, writeDecision, decisionOf};
@@ -25,7 +25,7 @@ use entry::Trigger;
 use policy::Choice;
 use rules::Ground;
 use status::Status;
-use variables::Place;
+use stores::Place;
 
 // What steps 1 to 7 decide: a refusal, or what is left to do: take the variable out, leave all as it is, or store the variable.
 pub enum Decision {
@@ -153,7 +153,7 @@ fn exists(
     ensures { λ r.
         ⌜ r ≡ exists (lookup (now (nv .entry)) (now (vol .entry)) (record { namespace = now (namespace .entry); name = now (name .entry) })) ⌝ }
 {
-    variables::is_somewhere(variables::locate(nv, nv_end, vol, vol_end, namespace, name))
+    stores::is_somewhere(stores::locate(nv, nv_end, vol, vol_end, namespace, name))
 }
 
 // Whether the trigger of an entry exists, has exactly one payload byte, and that byte equals Value.
@@ -175,8 +175,8 @@ fn trigger_holds<'a>(
     let from = trigger.namespace;
     let namespace = slices::part(e, from, from + limits::NAMESPACE_BYTES);
     let name = slices::part(e, trigger.name, trigger.name_end);
-    let place = variables::locate(nv, nv_end, vol, vol_end, namespace, name);
-    is_value(variables::payload_at(nv, vol, place), trigger.value)
+    let place = stores::locate(nv, nv_end, vol, vol_end, namespace, name);
+    is_value(stores::payload_at(nv, vol, place), trigger.value)
 }
 
 // Whether the chosen entry locks the variable.
@@ -324,14 +324,14 @@ fn decide_write(nv: &[u8], vol: &[u8], place: Place, attributes: u32, payload: &
         ⌜ ((v : Variable) → r ≡ writeDecision (recordAt (now (nv .entry)) (now (vol .entry)) place)
         (record { variable = v; attributes = attributes; payload = now (payload .entry) })) ⌝ }
 {
-    let found = variables::is_somewhere(place);
+    let found = stores::is_somewhere(place);
     if is_deletion(attributes, payload) {
         if found {
             return Decision::Delete;
         }
         return Decision::Refuse(Status::NotFound);
     }
-    if found & (variables::attributes_at(nv, vol, place) != attributes % 8) {
+    if found & (stores::attributes_at(nv, vol, place) != attributes % 8) {
         return Decision::Refuse(Status::InvalidParameter);
     }
     if is_empty_append(attributes, payload) {

@@ -23,8 +23,8 @@ use Rattle.policy.specs.Policy.{entriesOf, sizesSum, packPolicy, policyValid}
 use Rattle.policy.specs.PolicyLaws.{WellFormed, Entries, policyValid-length, policy-entries, pack-entriesOf, entriesOf-formed, entriesOf-pack, entries-policy, sizesSum-flat}
 use Rattle.policy.specs.Choice.{chosen}
 use Rattle.store.specs.StoreLaws.{storeOk-length}
-use Rattle.pair.specs.Pair.{sound}
-use Rattle.pair.specs.PairLaws.{sound-alone, sound-vol}
+use Rattle.stores.specs.Pair.{sound}
+use Rattle.stores.specs.PairLaws.{sound-alone, sound-vol}
 use Rattle.status.specs.declared.Status.{Status}
 use Rattle.status.specs.declared.Status.the-variants.{Success, VolumeCorrupted}
 use Rattle.status.specs.Status.{isSuccess, statusNumber}

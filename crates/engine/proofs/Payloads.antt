@@ -11,12 +11,12 @@ use Rattle.store.specs.Record.{payloadOf}
 use Rattle.store.specs.Store.{placeOf}
 use Rattle.store.specs.Parts.{HeaderFits}
 use Rattle.store.specs.declared.Found.the-variants.{At}
-use Rattle.pair.specs.Pair.{sound}
+use Rattle.stores.specs.Pair.{sound}
 use Rattle.status.specs.declared.Status.{Status}
 use Rattle.status.specs.declared.Status.the-variants.{InvalidParameter, VolumeCorrupted, NotFound}
 use Rattle.switches.specs.declared.Switches.{Switches}
-use Rattle.variables.specs.declared.Place.the-variants.{Nowhere}
-use Rattle.variables.specs.Place.{placeIn, isSomewhere, payloadAt}
+use Rattle.stores.specs.declared.Place.the-variants.{Nowhere}
+use Rattle.stores.specs.Place.{placeIn, isSomewhere, payloadAt}
 use Rattle.rules.specs.Engine.{stateOf, step}
 use Rattle.rules.specs.Engine.Call.{read}
 use Rattle.engine.specs.declared.Reading.the-variants.{Refused, Stands}

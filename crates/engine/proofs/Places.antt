@@ -16,9 +16,9 @@ use Rattle.store.specs.PlaceLaws.{place-within, ok-at, fits-at}
 use Rattle.store.specs.Parts.{HeaderFits}
 use Rattle.store.specs.declared.Found.{Found}
 use Rattle.store.specs.declared.Found.the-variants.{At, Absent}
-use Rattle.variables.specs.declared.Place.{Place}
-use Rattle.variables.specs.declared.Place.the-variants.{NonVolatile, Volatile}
-use Rattle.variables.specs.Place.{eitherPlace, placeIn}
+use Rattle.stores.specs.declared.Place.{Place}
+use Rattle.stores.specs.declared.Place.the-variants.{NonVolatile, Volatile}
+use Rattle.stores.specs.Place.{eitherPlace, placeIn}
 
 -- the place of a record in one of the two stores
 abbrev pub placeAt : Bool → ℕ → ℕ → Place

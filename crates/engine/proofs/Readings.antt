@@ -6,15 +6,15 @@ use mathlib.Core.Bool.{Bool, true, false, cond}
 use native.Mathlib.Omega.{arith}
 use Rattle.slices.specs.Bytes.{Bytes}
 use Rattle.names.specs.Name.{Variable, named}
-use Rattle.pair.specs.Pair.{sound, lookup}
+use Rattle.stores.specs.Pair.{sound, lookup}
 use Rattle.store.specs.Parts.{attributesIn, payloadIn}
 use Rattle.status.specs.declared.Status.{Status}
 use Rattle.status.specs.declared.Status.the-variants.{Success, InvalidParameter, VolumeCorrupted, NotFound}
 use Rattle.status.specs.Status.{isSuccess}
 use Rattle.switches.specs.declared.Switches.{Switches}
-use Rattle.variables.specs.declared.Place.{Place}
-use Rattle.variables.specs.Place.{placeIn, isSomewhere, recordAt, attributesAt, payloadAt}
-use Rattle.variables.specs.PlaceLaws.{lookup-place}
+use Rattle.stores.specs.declared.Place.{Place}
+use Rattle.stores.specs.Place.{placeIn, isSomewhere, recordAt, attributesAt, payloadAt}
+use Rattle.stores.specs.PlaceLaws.{lookup-place}
 use Rattle.decision.proofs.Found.{exists-place}
 use Rattle.rules.specs.Set.{exists}
 use Rattle.rules.specs.Engine.{State, stateOf, readStatus, status, readAnswer, step}

@@ -17,8 +17,8 @@ use Rattle.policy.specs.Policy.{entriesOf, policyValid}
 use Rattle.policy.specs.Choice.{chosen}
 use Rattle.store.specs.Record.{hasNV, isOf}
 use Rattle.store.specs.Store.{recordsOf, hasRoom, withoutVariable, withRecord}
-use Rattle.pair.specs.Pair.{sound, lookup}
-use Rattle.pair.specs.PairLaws.{lookup-either}
+use Rattle.stores.specs.Pair.{sound, lookup}
+use Rattle.stores.specs.PairLaws.{lookup-either}
 use Rattle.status.specs.declared.Status.{Status}
 use Rattle.status.specs.declared.Status.the-variants.{Success, InvalidParameter, OutOfResources, VolumeCorrupted, NotFound}
 use Rattle.status.specs.Status.{isSuccess}

@@ -14,9 +14,9 @@ use Rattle.slices.specs.TestLaws.{and-no}
 use Rattle.slices.specs.Bytes.{Bytes, overwrite}
 use Rattle.policy.specs.Policy.{emptyPolicy}
 use Rattle.store.specs.Store.{endOf}
-use Rattle.pair.specs.Pair.{sound, soundAlone, pairCheck}
-use Rattle.pair.specs.declared.PairCheck.{PairCheck}
-use Rattle.pair.specs.declared.PairCheck.the-variants.{Sound, Unsound}
+use Rattle.stores.specs.Pair.{sound, soundAlone, pairCheck}
+use Rattle.stores.specs.declared.PairCheck.{PairCheck}
+use Rattle.stores.specs.declared.PairCheck.the-variants.{Sound, Unsound}
 use Rattle.status.specs.declared.Status.{Status}
 use Rattle.status.specs.declared.Status.the-variants.{Success, VolumeCorrupted}
 use Rattle.status.specs.Status.{isSuccess}

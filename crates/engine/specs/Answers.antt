@@ -8,11 +8,11 @@ use mathlib.Core.Option.{Option, none}
 use Rattle.slices.specs.Bytes.{Bytes, part}
 use Rattle.names.specs.Name.{Variable, named}
 use Rattle.store.specs.Record.{nameSize}
-use Rattle.pair.specs.Pair.{sound, lookup}
+use Rattle.stores.specs.Pair.{sound, lookup}
 use Rattle.status.specs.declared.Status.{Status}
 use Rattle.status.specs.declared.Status.the-variants.{InvalidParameter, VolumeCorrupted, NotFound}
-use Rattle.variables.specs.declared.Place.the-variants.{NonVolatile, Volatile, Nowhere}
-use Rattle.variables.specs.Place.{placeIn, isSomewhere}
+use Rattle.stores.specs.declared.Place.the-variants.{NonVolatile, Volatile, Nowhere}
+use Rattle.stores.specs.Place.{placeIn, isSomewhere}
 use Rattle.rules.specs.Engine.{State, Answer, step}
 use Rattle.rules.specs.Engine.Call.{read}
 use Rattle.engine.specs.declared.DumpAnswer.{DumpAnswer}

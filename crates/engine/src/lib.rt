@@ -22,12 +22,12 @@ ghost use Rattle.store.specs.Parts.{HeaderFits};
 ghost use Rattle.engine.specs.Answers.{dumpAnswer, queryAnswer, readingOf, ReadStep, payloadPlace, PointsInto};
 use decision::Decision;
 use entry::Parsed;
-use pair::PairCheck;
 use policy::PolicyCheck;
 use status::Status;
+use stores::PairCheck;
+use stores::Place;
 use switches::SwitchAnswer;
 use switches::Switches;
-use variables::Place;
 
 // A read's status and the variable's attributes.
 pub struct ReadAnswer {
@@ -99,7 +99,7 @@ pub fn power_on(
           stateOf (now (nv .entry)) (now (vol .exit)) (now (policy .exit)) (cond (isSuccess (r .status)) (r .switches) w),
         )) ⌝ }
 {
-    if !pair::check_alone(nv) {
+    if !stores::check_alone(nv) {
         return refused_start();
     }
     let length = vol.len();
@@ -124,7 +124,7 @@ pub fn restart(nv: &[u8], vol: &[u8], policy: &mut [u8], disabling_allowed: bool
           stateOf (now (nv .entry)) (now (vol .entry)) (now (policy .exit)) (cond (isSuccess (r .status)) (r .switches) w),
         )) ⌝ }
 {
-    let checked = pair::check(nv, vol);
+    let checked = stores::check(nv, vol);
     let PairCheck::Sound {
         nv_end: _,
         vol_end: _,
@@ -238,7 +238,7 @@ pub fn look_up(nv: &[u8], vol: &[u8], namespace: &[u8], name: &[u8]) -> Reading
     ensures { λ r.
         ⌜ r ≡ readingOf (now (nv .entry)) (now (vol .entry)) (record { namespace = now (namespace .entry); name = now (name .entry) }) ⌝ }
 {
-    let checked = pair::check(nv, vol);
+    let checked = stores::check(nv, vol);
     let PairCheck::Sound { nv_end, vol_end } = checked else {
         return Reading::Refused(Status::VolumeCorrupted);
     };
@@ -248,8 +248,8 @@ pub fn look_up(nv: &[u8], vol: &[u8], namespace: &[u8], name: &[u8]) -> Reading
     if !names::is_name(name) {
         return Reading::Refused(Status::InvalidParameter);
     }
-    let place = variables::locate(nv, nv_end, vol, vol_end, namespace, name);
-    if !variables::is_somewhere(place) {
+    let place = stores::locate(nv, nv_end, vol, vol_end, namespace, name);
+    if !stores::is_somewhere(place) {
         return Reading::Refused(Status::NotFound);
     }
     Reading::Stands(place)
@@ -270,7 +270,7 @@ pub fn read(nv: &[u8], vol: &[u8], namespace: [u8; 16], name: &[u8]) -> ReadAnsw
         },
         Reading::Stands(place) => ReadAnswer {
             status: Status::Success,
-            attributes: variables::attributes_at(nv, vol, place),
+            attributes: stores::attributes_at(nv, vol, place),
         },
     }
 }
@@ -324,7 +324,7 @@ fn set_variable(
         (set (requestOf (now (namespace .entry)) (now (name .entry)) attributes (now (payload .entry))))
         ≡ (onlyStatus r, stateOf (now (nv .exit)) (now (vol .exit)) (now (policy .entry)) switches) ⌝ }
 {
-    let checked = pair::check(nv, vol);
+    let checked = stores::check(nv, vol);
     let PairCheck::Sound { nv_end, vol_end } = checked else {
         return Status::VolumeCorrupted;
     };
@@ -332,7 +332,7 @@ fn set_variable(
     let PolicyCheck::Valid { count, used: _ } = entries else {
         return Status::VolumeCorrupted;
     };
-    let place = variables::locate(nv, nv_end, vol, vol_end, namespace, name);
+    let place = stores::locate(nv, nv_end, vol, vol_end, namespace, name);
     let decision = decision::decide(
         policy,
         count,

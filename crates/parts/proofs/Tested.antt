@@ -11,7 +11,7 @@ use Rattle.slices.specs.Bytes.{Bytes, overwrite}
 use Rattle.names.specs.Name.{Variable}
 use Rattle.store.specs.Record.{nameSize, dataSize, variableOf}
 use Rattle.store.specs.Parts.{HeaderFits}
-use Rattle.pair.specs.Filter.{hashOf, slotOf}
+use Rattle.stores.specs.Filter.{hashOf, slotOf}
 use Rattle.parts.specs.declared.Found.{Found}
 use Rattle.parts.specs.Parts.{nothing, ifAsked, slotIn, filled, copied, moved}
 

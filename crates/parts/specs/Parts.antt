@@ -14,13 +14,13 @@ use Rattle.policy.specs.declared.Choice.the-variants.{Chosen, Nothing}
 use Rattle.policy.specs.Policy.{entriesOf, policyValid}
 use Rattle.policy.specs.Choice.{choiceOf}
 use Rattle.store.specs.Record.{nameSize, dataSize, variableOf}
-use Rattle.pair.specs.declared.PairCheck.{PairCheck}
-use Rattle.pair.specs.declared.PairCheck.the-variants.{Sound, Unsound}
-use Rattle.pair.specs.Pair.{sound}
-use Rattle.pair.specs.Filter.{hashOf, slotOf}
-use Rattle.variables.specs.declared.Place.{Place}
-use Rattle.variables.specs.declared.Place.the-variants.{NonVolatile, Volatile, Nowhere}
-use Rattle.variables.specs.Place.{placeIn}
+use Rattle.stores.specs.declared.PairCheck.{PairCheck}
+use Rattle.stores.specs.declared.PairCheck.the-variants.{Sound, Unsound}
+use Rattle.stores.specs.Pair.{sound}
+use Rattle.stores.specs.Filter.{hashOf, slotOf}
+use Rattle.stores.specs.declared.Place.{Place}
+use Rattle.stores.specs.declared.Place.the-variants.{NonVolatile, Volatile, Nowhere}
+use Rattle.stores.specs.Place.{placeIn}
 use Rattle.parts.specs.declared.Found.{Found}
 
 -- not valid, not sound, or not found

@@ -6,12 +6,12 @@ ghost use lib.Dec.{leb};
 ghost use Rattle.names.specs.Name.{units, matches};
 ghost use Rattle.store.specs.Parts.{variable};
 ghost use Rattle.policy.specs.Policy.{policyCheck};
-ghost use Rattle.pair.specs.Pair.{pairCheck};
+ghost use Rattle.stores.specs.Pair.{pairCheck};
 ghost use Rattle.parts.specs.Parts.{ofPolicy, ofPair, chosenIn, foundIn, slotIn, filled, copied, moved};
-use pair::PairCheck;
 use policy::Choice;
 use policy::PolicyCheck;
-use variables::Place;
+use stores::PairCheck;
+use stores::Place;
 
 // What a part found, as numbers for C: which case, 0 for nothing, and the two numbers of that case.
 #[repr(C)]
@@ -67,7 +67,7 @@ pub extern "C" fn parts_choose(policy: &[u8], namespace: &[u8; 16], name: &[u8])
 pub extern "C" fn parts_check_stores(nv: &[u8], vol: &[u8]) -> Found
     ensures { λ r. ⌜ r ≡ ofPair (pairCheck (now (nv .entry)) (now (vol .entry))) ⌝ }
 {
-    let checked = pair::check(nv, vol);
+    let checked = stores::check(nv, vol);
     match checked {
         PairCheck::Sound { nv_end, vol_end } => numbers(1, nv_end, vol_end),
         PairCheck::Unsound => numbers(0, 0, 0),
@@ -79,14 +79,14 @@ pub extern "C" fn parts_check_stores(nv: &[u8], vol: &[u8]) -> Found
 pub extern "C" fn parts_find(nv: &[u8], vol: &[u8], namespace: &[u8; 16], name: &[u8]) -> Found
     ensures { λ r. ⌜ r ≡ foundIn (now (nv .entry)) (now (vol .entry)) (variable (now (namespace .entry)) (now (name .entry))) ⌝ }
 {
-    let checked = pair::check(nv, vol);
+    let checked = stores::check(nv, vol);
     let PairCheck::Sound { nv_end, vol_end } = checked else {
         return numbers(0, 0, 0);
     };
     if name.len() == 0 {
         return numbers(0, 0, 0);
     }
-    let place = variables::locate(nv, nv_end, vol, vol_end, namespace, name);
+    let place = stores::locate(nv, nv_end, vol, vol_end, namespace, name);
     match place {
         Place::NonVolatile { at, len } => numbers(1, at, len),
         Place::Volatile { at, len } => numbers(2, at, len),
@@ -109,7 +109,7 @@ pub extern "C" fn parts_slot(s: &[u8]) -> usize
     if s.len() < 32 + n + slices::get32(s, 12) {
         return 0;
     }
-    pair::slot(pair::hash(s))
+    stores::slot(stores::hash(s))
 }
 
 // Whether n bytes from index at on lie within len bytes.

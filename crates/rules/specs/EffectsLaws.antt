@@ -18,7 +18,7 @@ use Rattle.names.specs.Name.{Variable, named}
 use Rattle.policy.specs.Policy.{entriesOf, packPolicy, emptyPolicy, policyValid}
 use Rattle.policy.specs.PolicyLaws as policy
 use Rattle.policy.specs.PolicyLaws.{entriesOf-formed}
-use Rattle.pair.specs.Pair.{sound, lookup}
+use Rattle.stores.specs.Pair.{sound, lookup}
 use Rattle.status.specs.declared.Status.{Status}
 use Rattle.status.specs.declared.Status.the-variants.{Success, InvalidParameter, Unsupported, BufferTooSmall, WriteProtected, OutOfResources, VolumeCorrupted, NotFound, AlreadyStarted}
 use Rattle.status.specs.Status.{isSuccess, statusNumber}

@@ -14,7 +14,7 @@ use Rattle.names.specs.Name.{Variable, named}
 use Rattle.entry.specs.Entry.{wellFormed, sameTarget}
 use Rattle.policy.specs.Policy.{entriesOf, packPolicy, emptyPolicy, policyValid}
 use Rattle.policy.specs.Choice.{chosen}
-use Rattle.pair.specs.Pair.{sound, soundAlone, lookup}
+use Rattle.stores.specs.Pair.{sound, soundAlone, lookup}
 use Rattle.store.specs.Parts.{attributesIn, payloadIn}
 use Rattle.status.specs.declared.Status.{Status}
 use Rattle.status.specs.declared.Status.the-variants.{Success, InvalidParameter, BufferTooSmall, WriteProtected, OutOfResources, VolumeCorrupted, NotFound, AlreadyStarted}

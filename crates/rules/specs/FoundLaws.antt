@@ -22,8 +22,8 @@ use Rattle.store.specs.Record.{isOf, sameVariable, variableOf}
 use Rattle.store.specs.VariableLaws.{isOf-self, isOf-variable, isOf-like}
 use Rattle.store.specs.Store.{recordsOf, storeOk}
 use Rattle.store.specs.StoreLaws as store
-use Rattle.pair.specs.Pair.{allRecords, sound, soundAlone, lookup}
-use Rattle.pair.specs.PairLaws.{sound-nv, sound-vol, sound-distinct, sound-of}
+use Rattle.stores.specs.Pair.{allRecords, sound, soundAlone, lookup}
+use Rattle.stores.specs.PairLaws.{sound-nv, sound-vol, sound-distinct, sound-of}
 use Rattle.rules.specs.Set.{exists}
 use Rattle.rules.specs.Engine.{State}
 use Rattle.rules.specs.Grounds.{Not, PolicyEntries, HasEntries, StoreRecords, Apart, PairRecords, SoundStores, SoundAlone, RecordOf, Absent, Put}

@@ -16,7 +16,7 @@ use Rattle.slices.specs.TestLaws.{forced-off}
 use Rattle.slices.specs.Bytes.{Bytes}
 use Rattle.slices.specs.Chunks.{flat, contains}
 use Rattle.names.specs.Name.{Variable, named}
-use Rattle.pair.specs.Pair.{sound, soundAlone, lookup}
+use Rattle.stores.specs.Pair.{sound, soundAlone, lookup}
 use Rattle.entry.specs.Entry.{sizeField, wellFormed, sameTarget}
 use Rattle.entry.specs.EntryLaws.{sized, sameTarget-same, sameTarget-of}
 use Rattle.policy.specs.Policy.{entriesOf, policyValid}

@@ -14,7 +14,7 @@ use Rattle.names.specs.Name.{Variable, named}
 use Rattle.entry.specs.Entry.{minSize, maxSize, attributesMustHave, attributesCantHave, lockPolicyType, triggerOf, triggerValue}
 use Rattle.store.specs.Record.{hasNV, hasBS, hasRT, hasAppend, attributesOf, payloadOf, encodeRecord}
 use Rattle.store.specs.Store.{withoutVariable, hasRoom, withRecord}
-use Rattle.pair.specs.Pair.{lookup}
+use Rattle.stores.specs.Pair.{lookup}
 use Rattle.status.specs.declared.Status.{Status}
 use Rattle.status.specs.declared.Status.the-variants.{Success, InvalidParameter, Unsupported, WriteProtected, OutOfResources, NotFound}
 use Rattle.status.specs.Status.{isSuccess}

@@ -24,7 +24,7 @@ use Rattle.store.specs.Record.{hasNV, hasAppend, attributesOf, payloadOf, recor
 use Rattle.store.specs.EncodeLaws.{attributesOk-small}
 use Rattle.store.specs.AttributeLaws.{record-attributes}
 use Rattle.store.specs.Store.{recordsOf, hasRoom}
-use Rattle.pair.specs.Pair.{sound, lookup}
+use Rattle.stores.specs.Pair.{sound, lookup}
 use Rattle.status.specs.declared.Status.{Status}
 use Rattle.status.specs.declared.Status.the-variants.{Success, InvalidParameter, Unsupported, WriteProtected, OutOfResources, VolumeCorrupted, NotFound}
 use Rattle.rules.specs.declared.Ground.{Ground}

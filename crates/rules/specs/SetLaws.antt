@@ -19,8 +19,8 @@ use Rattle.store.specs.Record.{hasNV, hasBS, hasRT, hasAppend, attributesOf, pa
 use Rattle.store.specs.AttributeLaws.{nv-stored, attributesOk-stored}
 use Rattle.store.specs.EncodeLaws.{attributes-encode, payload-encode, isOf-encode, encode-ok}
 use Rattle.store.specs.Store.{recordsOf, withoutVariable, hasRoom, withRecord}
-use Rattle.pair.specs.Pair.{sound, lookup}
-use Rattle.pair.specs.PairLaws.{sound-with-nv, sound-with-vol, sound-without, looked-nv, looked-vol, none-nv, none-vol, lookup-with-nv, lookup-with-vol, lookup-with-nv-other, lookup-with-vol-other, lookup-without, lookup-without-other}
+use Rattle.stores.specs.Pair.{sound, lookup}
+use Rattle.stores.specs.PairLaws.{sound-with-nv, sound-with-vol, sound-without, looked-nv, looked-vol, none-nv, none-vol, lookup-with-nv, lookup-with-vol, lookup-with-nv-other, lookup-with-vol-other, lookup-without, lookup-without-other}
 use Rattle.status.specs.declared.Status.{Status}
 use Rattle.status.specs.declared.Status.the-variants.{Success, InvalidParameter, Unsupported, OutOfResources, NotFound}
 use Rattle.status.specs.Status.{isSuccess}

@@ -18,8 +18,8 @@ use Rattle.entry.specs.Entry.{wellFormed, sameTarget}
 use Rattle.policy.specs.Policy.{entriesOf, emptyPolicy, policyValid}
 use Rattle.policy.specs.PolicyLaws.{sizesSum-flat, entries-policy, policy-append}
 use Rattle.policy.specs.Choice.{chosen}
-use Rattle.pair.specs.Pair.{sound, soundAlone}
-use Rattle.pair.specs.PairLaws.{sound-erased}
+use Rattle.stores.specs.Pair.{sound, soundAlone}
+use Rattle.stores.specs.PairLaws.{sound-erased}
 use Rattle.status.specs.declared.Status.{Status}
 use Rattle.status.specs.declared.Status.the-variants.{Success, InvalidParameter, WriteProtected, OutOfResources, VolumeCorrupted, AlreadyStarted}
 use Rattle.status.specs.Status.{isSuccess}

@@ -16,8 +16,8 @@ use Rattle.status.specs.declared.Status.{Status}
 use Rattle.status.specs.declared.Status.the-variants.{Success}
 use Rattle.status.specs.Status.{statusNumber}
 use Rattle.switches.specs.declared.Switches.{Switches}
-use Rattle.variables.specs.declared.Place.the-variants.{NonVolatile, Volatile, Nowhere}
-use Rattle.variables.specs.Place.{attributesAt, payloadAt}
+use Rattle.stores.specs.declared.Place.the-variants.{NonVolatile, Volatile, Nowhere}
+use Rattle.stores.specs.Place.{attributesAt, payloadAt}
 use Rattle.rules.specs.Engine.{State, Answer, stateOf, step}
 use Rattle.rules.specs.Engine.Call.{read}
 use Rattle.engine.specs.declared.Reading.{Reading}

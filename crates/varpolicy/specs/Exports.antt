@@ -13,7 +13,7 @@ use Rattle.store.specs.Record.{hasNV, attributesOf, nameSize, dataSize}
 use Rattle.status.specs.declared.Status.the-variants.{NotFound}
 use Rattle.status.specs.Status.{statusNumber}
 use Rattle.switches.specs.declared.Switches.{Switches}
-use Rattle.variables.specs.declared.Place.the-variants.{NonVolatile, Volatile, Nowhere}
+use Rattle.stores.specs.declared.Place.the-variants.{NonVolatile, Volatile, Nowhere}
 use Rattle.rules.specs.Engine.{State, Answer, step}
 use Rattle.rules.specs.Engine.Call.{read}
 use Rattle.engine.specs.declared.Reading.{Reading}

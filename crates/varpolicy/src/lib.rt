@@ -15,11 +15,11 @@ ghost use Rattle.varpolicy.specs.Exports.{numbered, statusAlone, started
 use engine::Reading;
 use status::Status;
 use status::number;
+use stores::Place;
 use switches::SwitchAnswer;
 use switches::Switches;
 use switches::disable_lent;
 use switches::lock_lent;
-use variables::Place;
 
 // What a power-on or restart answers.
 #[repr(C)]

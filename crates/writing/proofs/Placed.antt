@@ -13,10 +13,10 @@ use Rattle.store.specs.Store.{recordsOf, placeFrom, placeOf}
 use Rattle.store.specs.PlaceLaws.{split-at}
 use Rattle.store.specs.declared.Found.{Found}
 use Rattle.store.specs.declared.Found.the-variants.{At, Absent}
-use Rattle.pair.specs.Pair.{sound}
-use Rattle.pair.specs.PairLaws.{lookup-nv, looked, looked-nv}
-use Rattle.variables.specs.declared.Place.{Place}
-use Rattle.variables.specs.Place.{eitherPlace, placeIn}
+use Rattle.stores.specs.Pair.{sound}
+use Rattle.stores.specs.PairLaws.{lookup-nv, looked, looked-nv}
+use Rattle.stores.specs.declared.Place.{Place}
+use Rattle.stores.specs.Place.{eitherPlace, placeIn}
 use Rattle.writing.specs.Written.{foundNv, foundVol}
 
 absent-from : (p : Bytes → Bool) (rs : List Bytes) (at : ℕ) → contains p rs ≡ false → placeFrom p at rs ≡ Absent

@@ -19,7 +19,7 @@ use Rattle.status.specs.declared.Status.{Status}
 use Rattle.status.specs.declared.Status.the-variants.{Success, OutOfResources}
 use Rattle.rules.specs.Set.{payloadAfter}
 use Rattle.writing.specs.Written.{recordIn, newRecord, roomStatus, storeStatus, storeAfter, Writable, Storing, pairStatus, nvAfter, volAfter}
-use Rattle.pair.specs.PairLaws.{sound-nv, sound-vol}
+use Rattle.stores.specs.PairLaws.{sound-nv, sound-vol}
 
 -- ---- the payload afterwards
 pub after-plain : (o : Option Bytes) (a : ℕ) (payload : Bytes) → hasAppend a ≡ false → payloadAfter o a payload ≡ payload

@@ -15,12 +15,12 @@ use Rattle.store.specs.Record.{hasNV, hasBS, isOf, encodeRecord}
 use Rattle.store.specs.Store.{recordsOf, storeOk, hasRoom, withRecord}
 use Rattle.store.specs.declared.Found.{Found}
 use Rattle.store.specs.declared.Found.the-variants.{At, Absent}
-use Rattle.variables.specs.declared.Place.{Place}
-use Rattle.variables.specs.declared.Place.the-variants.{NonVolatile, Volatile, Nowhere}
+use Rattle.stores.specs.declared.Place.{Place}
+use Rattle.stores.specs.declared.Place.the-variants.{NonVolatile, Volatile, Nowhere}
 use Rattle.status.specs.declared.Status.{Status}
 use Rattle.status.specs.declared.Status.the-variants.{Success, OutOfResources}
 use Rattle.status.specs.Status.{isSuccess}
-use Rattle.pair.specs.Pair.{sound}
+use Rattle.stores.specs.Pair.{sound}
 use Rattle.rules.specs.Set.{payloadAfter, storedAttributes, storeOf}
 
 -- a place in the pair, as a place in one store

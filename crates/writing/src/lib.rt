@@ -1,15 +1,15 @@
 // Steps 8 to 10 of a set in the store that it writes, and the deletion of a variable.
 ghost use mathlib.Core.Path.{_≡_};
 ghost use mathlib.Core.Bool.{true, false};
-ghost use Rattle.pair.specs.Pair.{sound};
+ghost use Rattle.stores.specs.Pair.{sound};
 ghost use Rattle.store.specs.Parts.{variable};
 ghost use Rattle.store.specs.Record.{hasAppend};
 ghost use Rattle.store.specs.Store.{endOf, placeOf, withoutVariable};
-ghost use Rattle.variables.specs.Place.{placeIn};
+ghost use Rattle.stores.specs.Place.{placeIn};
 ghost use Rattle.writing.specs.Written.{foundNv, foundVol, storeStatus, storeAfter, Writable, Storing, pairStatus, nvAfter, volAfter};
 use status::Status;
 use store::Found;
-use variables::Place;
+use stores::Place;
 
 // A place in the pair, as a place in the non-volatile store.
 pub fn found_nv(place: Place) -> Found

@@ -1,6 +1,6 @@
 use Rattle.decision.proofs.Decided.{request-refuses, ground-refuses, write-decides}
-use Rattle.variables.specs.PlaceLaws.{place-within-stores}
-use Rattle.variables.specs.Place.{Within}
+use Rattle.stores.specs.PlaceLaws.{place-within-stores}
+use Rattle.stores.specs.Place.{Within}
 use borrow.Author.Tests.{not-true, not-false}
 use mathlib.Core.Path.{sym, subst, _∙_}
 use borrow.Author.Needs.{needs}

@@ -7,8 +7,8 @@ use Rattle.decision.proofs.decide_write.Reads as reads
 use Rattle.decision.proofs.decide_write.Lts as lts
 use Rattle.decision.proofs.is_deletion.Reads as is-deletion-reads
 use Rattle.decision.proofs.is_empty_append.Reads as is-empty-append-reads
-use Rattle.variables.proofs.is_somewhere.Reads as is-somewhere-reads
-use Rattle.variables.proofs.attributes_at.Reads as attributes-at-reads
+use Rattle.stores.proofs.is_somewhere.Reads as is-somewhere-reads
+use Rattle.stores.proofs.attributes_at.Reads as attributes-at-reads
 
 is-somewhere-requires : tie.Need-is-somewhere-requires
 is-somewhere-requires c κs = search needs

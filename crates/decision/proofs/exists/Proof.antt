@@ -5,8 +5,8 @@ use Rattle.decision.proofs.exists.Statement.{statement}
 use Rattle.decision.proofs.exists.Tie as tie
 use Rattle.decision.proofs.exists.Reads as reads
 use Rattle.decision.proofs.exists.Lts as lts
-use Rattle.variables.proofs.is_somewhere.Reads as is-somewhere-reads
-use Rattle.variables.proofs.locate.Reads as locate-reads
+use Rattle.stores.proofs.is_somewhere.Reads as is-somewhere-reads
+use Rattle.stores.proofs.locate.Reads as locate-reads
 
 locate-requires : tie.Need-locate-requires
 locate-requires c κs = search needs

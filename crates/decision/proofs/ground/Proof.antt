@@ -1,5 +1,5 @@
 use Rattle.decision.specs.Decision.{requestOf}
-use Rattle.pair.specs.Pair.{lookup}
+use Rattle.stores.specs.Pair.{lookup}
 use Rattle.decision.proofs.Spoken.{header-within, end-within, entry-formed, entry-chosen}
 use Rattle.decision.proofs.Grounds.{speaking-ground, silent-ground, unchosen-ground}
 use Rattle.policy.specs.ChoiceLaws.{choice-none}

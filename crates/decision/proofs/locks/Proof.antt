@@ -1,4 +1,4 @@
-use Rattle.pair.specs.Pair.{lookup}
+use Rattle.stores.specs.Pair.{lookup}
 use Rattle.decision.proofs.Rules.{rule-locks, rule-trigger, trigger-is}
 use mathlib.Core.Path.{_≡_, sym, ap, _∙_}
 use borrow.Author.Needs.{needs}

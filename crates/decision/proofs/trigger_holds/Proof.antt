@@ -1,6 +1,6 @@
 use Rattle.decision.proofs.Found.{trigger-by}
-use Rattle.variables.specs.PlaceLaws.{place-within-stores}
-use Rattle.variables.specs.Place.{Within}
+use Rattle.stores.specs.PlaceLaws.{place-within-stores}
+use Rattle.stores.specs.Place.{Within}
 use mathlib.Core.Path.{sym, subst}
 use borrow.Author.Needs.{needs}
 use Rattle.decision.proofs.trigger_holds.Statement.{statement}
@@ -9,8 +9,8 @@ use Rattle.decision.proofs.trigger_holds.Reads as reads
 use Rattle.decision.proofs.trigger_holds.Lts as lts
 use Rattle.decision.proofs.is_value.Reads as is-value-reads
 use Rattle.slices.proofs.part.Reads as part-reads
-use Rattle.variables.proofs.locate.Reads as locate-reads
-use Rattle.variables.proofs.payload_at.Reads as payload-at-reads
+use Rattle.stores.proofs.locate.Reads as locate-reads
+use Rattle.stores.proofs.payload_at.Reads as payload-at-reads
 
 add-part : tie.Need-add-part
 add-part c = search needs

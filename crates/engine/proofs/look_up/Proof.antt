@@ -12,9 +12,9 @@ use Rattle.engine.proofs.look_up.Tie as tie
 use Rattle.engine.proofs.look_up.Reads as reads
 use Rattle.engine.proofs.look_up.Lts as lts
 use Rattle.names.proofs.is_name.Reads as is-name-reads
-use Rattle.pair.proofs.check.Reads as check-reads
-use Rattle.variables.proofs.is_somewhere.Reads as is-somewhere-reads
-use Rattle.variables.proofs.locate.Reads as locate-reads
+use Rattle.stores.proofs.check.Reads as check-reads
+use Rattle.stores.proofs.is_somewhere.Reads as is-somewhere-reads
+use Rattle.stores.proofs.locate.Reads as locate-reads
 
 check-requires : tie.Need-check-requires
 check-requires c κs = search needs

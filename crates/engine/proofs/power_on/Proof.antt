@@ -8,7 +8,7 @@ use Rattle.engine.proofs.power_on.Reads as reads
 use Rattle.engine.proofs.power_on.Lts as lts
 use Rattle.engine.proofs.fresh_start.Reads as fresh-start-reads
 use Rattle.engine.proofs.refused_start.Reads as refused-start-reads
-use Rattle.pair.proofs.check_alone.Reads as check-alone-reads
+use Rattle.stores.proofs.check_alone.Reads as check-alone-reads
 use Rattle.policy.proofs.clear.Reads as clear-reads
 use Rattle.slices.proofs.fill.Reads as fill-reads
 

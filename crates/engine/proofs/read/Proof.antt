@@ -1,6 +1,6 @@
 use Rattle.engine.proofs.Readings.{stands-at, read-refused, read-stands}
-use Rattle.variables.specs.PlaceLaws.{place-within-stores}
-use Rattle.variables.specs.Place.{Within}
+use Rattle.stores.specs.PlaceLaws.{place-within-stores}
+use Rattle.stores.specs.Place.{Within}
 use mathlib.Core.Path.{sym, subst, _∙_}
 use borrow.Author.Needs.{needs}
 use Rattle.engine.proofs.read.Statement.{statement}
@@ -8,7 +8,7 @@ use Rattle.engine.proofs.read.Tie as tie
 use Rattle.engine.proofs.read.Reads as reads
 use Rattle.engine.proofs.read.Lts as lts
 use Rattle.engine.proofs.look_up.Reads as look-up-reads
-use Rattle.variables.proofs.attributes_at.Reads as attributes-at-reads
+use Rattle.stores.proofs.attributes_at.Reads as attributes-at-reads
 
 slice-aggregate-look-up : tie.Need-slice-aggregate-look-up
 slice-aggregate-look-up c = search needs

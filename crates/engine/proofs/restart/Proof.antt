@@ -7,7 +7,7 @@ use Rattle.engine.proofs.restart.Reads as reads
 use Rattle.engine.proofs.restart.Lts as lts
 use Rattle.engine.proofs.fresh_start.Reads as fresh-start-reads
 use Rattle.engine.proofs.refused_start.Reads as refused-start-reads
-use Rattle.pair.proofs.check.Reads as check-reads
+use Rattle.stores.proofs.check.Reads as check-reads
 use Rattle.policy.proofs.clear.Reads as clear-reads
 
 check-requires : tie.Need-check-requires

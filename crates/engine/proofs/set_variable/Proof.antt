@@ -9,9 +9,9 @@ use Rattle.engine.proofs.set_variable.Tie as tie
 use Rattle.engine.proofs.set_variable.Reads as reads
 use Rattle.engine.proofs.set_variable.Lts as lts
 use Rattle.decision.proofs.decide.Reads as decide-reads
-use Rattle.pair.proofs.check.Reads as check-reads
+use Rattle.stores.proofs.check.Reads as check-reads
 use Rattle.policy.proofs.check.Reads as check-reads′
-use Rattle.variables.proofs.locate.Reads as locate-reads
+use Rattle.stores.proofs.locate.Reads as locate-reads
 use Rattle.writing.proofs.delete.Reads as delete-reads
 use Rattle.writing.proofs.store_variable.Reads as store-variable-reads
 

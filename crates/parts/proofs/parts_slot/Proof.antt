@@ -4,7 +4,7 @@ use mathlib.Core.Path.{ap, _∙_}
 use native.Mathlib.Omega.{arith}
 use lib.ListN.{length}
 use Rattle.store.specs.Record.{nameSize, dataSize}
-use Rattle.pair.specs.Filter.{slotOf}
+use Rattle.stores.specs.Filter.{slotOf}
 use Rattle.parts.proofs.Tested.{slot-short, slot-nameless, slot-cut, slot-is}
 use borrow.Author.Needs.{needs}
 use Rattle.parts.proofs.parts_slot.Statement.{statement}

@@ -2,7 +2,7 @@
 use mathlib.Core.Path.{sym, ap, _∙_}
 use mathlib.Core.Bool.{true, false}
 use borrow.Author.Needs.{needs}
-use Rattle.variables.specs.declared.Place.the-variants.{NonVolatile, Volatile, Nowhere}
+use Rattle.stores.specs.declared.Place.the-variants.{NonVolatile, Volatile, Nowhere}
 use Rattle.engine.specs.declared.Reading.the-variants.{Refused, Stands}
 use Rattle.varpolicy.proofs.Readings.{read-found}
 use Rattle.engine.proofs.Payloads.{record-asks}

@@ -1,5 +1,5 @@
 use Rattle.writing.proofs.Placed.{found-nv-is, found-vol-is}
-use Rattle.pair.specs.PairLaws.{sound-nv, sound-vol}
+use Rattle.stores.specs.PairLaws.{sound-nv, sound-vol}
 use mathlib.Core.Path.{_∙_}
 use borrow.Author.Needs.{needs}
 use Rattle.writing.proofs.delete.Statement.{statement}

@@ -1,3 +1,0 @@
-pub mod Pair
-pub mod Filter
-pub mod PairLaws

@@ -1,0 +1,175 @@
+-- Laws of the filter and of the scan: what has been seen holds no variable twice, and the filter has it. Assumes nothing.
+use Prim.Native.Nat.{ℕ, _+_, _≤_, _<_}
+use mathlib.Core.Path.{_≡_, refl, sym, ap, _∙_}
+use mathlib.Core.List.{List, [], _∷_, _++_, append-assoc, append-nil}
+use mathlib.Core.Bool.{Bool, true, false, _||_, cond}
+use native.Mathlib.Omega.{arith}
+use lib.ListN.{length, getD, take, drop, set, length-set}
+use lib.Seq.{length-take-le, getD-set-same, getD-set-other, take-add, drop-drop}
+use lib.Dec.{eqb}
+use borrow.Author.Tests.{eqb-true, eqb-false}
+use Rattle.slices.specs.TestLaws.{forced-off}
+use Rattle.slices.specs.Bytes.{Bytes, part}
+use Rattle.slices.specs.PartLaws.{part-of}
+use Rattle.slices.specs.Chunks.{flat, chunks, chunksFrom, used, contains, distinct}
+use Rattle.slices.specs.ChunksLaws.{All, nil, more, flat-append, flat-one, chunks-stop, chunks-step, chunks-flat, chunks-items, item-first, at-within, used-here, used-again}
+use Rattle.slices.specs.ItemsLaws.{contains-append, all-append, all-map, or-left-off, or-right-off, distinct-append, distinct-repeated}
+use Rattle.store.specs.Record.{nameSize, namespaceOf, nameOf, recordLength, variableOf, isOf, sameVariable}
+use Rattle.store.specs.RecordLaws.{recordLength-within, recordLength-local, recordLength-free}
+use Rattle.store.specs.VariableLaws.{isOf-variable, sameVariable-sym, sameVariable-like}
+use Rattle.store.specs.Parts.{variable}
+use Rattle.store.specs.Store.{recordsOf, endOf}
+use Rattle.stores.specs.Filter.{hashOf, slotOf, fingerprintOf, keyOf, Marked, several, this, Filter, scanned}
+use Rattle.stores.specs.declared.Scanned.the-variants.{End, Repeated}
+
+-- ---- the filter
+key-like : (r q : Bytes) → sameVariable r q ≡ true → keyOf q ≡ keyOf r
+unfolding keyOf
+key-like r q e = ap hashOf (sym (isOf-variable (variableOf r) q e))
+
+-- a slot that says neither its fingerprint nor several: the variable was not seen
+clear : (t r : Bytes) (rs : List Bytes) → All (Marked t) rs → (getD t (slotOf (keyOf r)) 0 ≡ 255 → ⊥) → (getD t (slotOf (keyOf r)) 0 ≡ fingerprintOf (keyOf r) → ⊥)
+    → contains (sameVariable r) rs ≡ false
+unfolding contains
+clear t r [] nil a b = refl
+clear t r (q ∷ rs) (more m ms) a b = rw (forced-off (sameVariable r q) (λ e. absurd (hit m (key-like r q e)))) (clear t r rs ms a b)
+  where
+    hit : Marked t q → keyOf q ≡ keyOf r → ⊥
+    hit (several x) k = a (rw k at x)
+    hit (this x) k = b (rw k at x)
+
+-- the filter after r was seen
+module _ (t r : Bytes) (x : ℕ) (h : slotOf (keyOf r) < length t) (e : x ≡ cond (eqb (getD t (slotOf (keyOf r)) 0) 0) (fingerprintOf (keyOf r)) 255) where
+  marked-self : Marked (set t (slotOf (keyOf r)) x) r
+  marked-self = go (eqb (getD t (slotOf (keyOf r)) 0) 0) refl
+    where
+      go : (b : Bool) → eqb (getD t (slotOf (keyOf r)) 0) 0 ≡ b → Marked (set t (slotOf (keyOf r)) x) r
+      go true q = this (getD-set-same t (slotOf (keyOf r)) x 0 h ∙ e ∙ rw q)
+      go false q = several (getD-set-same t (slotOf (keyOf r)) x 0 h ∙ e ∙ rw q)
+
+  marked-kept : (q : Bytes) → Marked t q → Marked (set t (slotOf (keyOf r)) x) q
+  marked-kept q m = go (eqb (slotOf (keyOf q)) (slotOf (keyOf r))) refl
+    where
+      same-slot : slotOf (keyOf q) ≡ slotOf (keyOf r) → (b : Bool) → eqb (getD t (slotOf (keyOf r)) 0) 0 ≡ b → Marked t q → Marked (set t (slotOf (keyOf r)) x) q
+      same-slot k true z (several y) = absurd (let w = eqb-true (getD t (slotOf (keyOf r)) 0) 0 z in let y′ = rw k at y in omega arith)
+      same-slot k true z (this y) = absurd (let w = eqb-true (getD t (slotOf (keyOf r)) 0) 0 z in let y′ = rw k at y in omega arith)
+      same-slot k false z m = several (ap (λ (i : ℕ). getD (set t (slotOf (keyOf r)) x) i 0) k ∙ getD-set-same t (slotOf (keyOf r)) x 0 h ∙ e ∙ rw z)
+
+      other-slot : (slotOf (keyOf q) ≡ slotOf (keyOf r) → ⊥) → Marked t q → Marked (set t (slotOf (keyOf r)) x) q
+      other-slot k (several y) = several (getD-set-other t (slotOf (keyOf r)) (slotOf (keyOf q)) x 0 k ∙ y)
+      other-slot k (this y) = this (getD-set-other t (slotOf (keyOf r)) (slotOf (keyOf q)) x 0 k ∙ y)
+
+      go : (b : Bool) → eqb (slotOf (keyOf q)) (slotOf (keyOf r)) ≡ b → Marked (set t (slotOf (keyOf r)) x) q
+      go true z = same-slot (eqb-true (slotOf (keyOf q)) (slotOf (keyOf r)) z) (eqb (getD t (slotOf (keyOf r)) 0) 0) refl m
+      go false z = other-slot (eqb-false (slotOf (keyOf q)) (slotOf (keyOf r)) z) m
+
+  filter-more : (rs : List Bytes) → Filter t rs → Filter (set t (slotOf (keyOf r)) x) (rs ++ (r ∷ []))
+  filter-more rs f = record { room = simp length-set (f .room); marks = all-append rs (r ∷ []) (all-map marked-kept rs (f .marks)) (more marked-self nil) }
+
+-- ---- a scan that has come to the index at, behind the records os
+pub record Seen (nonVolatile : Bool) (at : ℕ) (s : Bytes) (os : List Bytes) (t : Bytes) : Type 0 where
+  pub within : at ≤ length s
+  pub end : endOf nonVolatile s ≡ at + endOf nonVolatile (drop at s)
+  pub split : recordsOf nonVolatile s ≡ recordsOf nonVolatile (take at s) ++ recordsOf nonVolatile (drop at s)
+  pub whole : flat (recordsOf nonVolatile (take at s)) ≡ take at s
+  pub free : distinct sameVariable (os ++ recordsOf nonVolatile (take at s)) ≡ true
+  pub filter : Filter t (os ++ recordsOf nonVolatile (take at s))
+
+pub seen-start : (nonVolatile : Bool) (s : Bytes) (os : List Bytes) (t : Bytes) → distinct sameVariable os ≡ true → Filter t os → Seen nonVolatile 0 s os t
+unfolding chunks chunksFrom flat
+seen-start nonVolatile s os t d f =
+    record { within = omega arith; end = omega arith; split = refl; whole = refl; free = rw append-nil d; filter = rw append-nil f }
+
+module _ (nonVolatile : Bool) (at n : ℕ) (s : Bytes) (os : List Bytes) (t : Bytes) (w : Seen nonVolatile at s os t) (e : recordLength nonVolatile (drop at s) ≡ n) where
+  abbrev first : Bytes → ℕ
+  first = recordLength nonVolatile
+
+  abbrev seen : List Bytes
+  seen = recordsOf nonVolatile (take at s)
+
+  seen-end : n ≡ 0 → recordsOf nonVolatile s ≡ seen
+  seen-end z = w .split ∙ rw (chunks-stop first (drop at s) (e ∙ z)) (append-nil seen)
+
+  module _ (h : 0 < n) where
+    -- the record at hand
+    abbrev r : Bytes
+    r = take n (drop at s)
+
+    here-is : recordsOf nonVolatile s ≡ seen ++ (r ∷ recordsOf nonVolatile (drop (at + n) s))
+    here-is = w .split ∙ rw (chunks-step first (recordLength-within nonVolatile) n (drop at s) e h, drop-drop)
+
+    bytes-one : take (at + n) s ≡ flat (seen ++ (r ∷ [])) ++ []
+    bytes-one = rw (append-nil, flat-append seen (r ∷ []), flat-one, w .whole) (take-add at n s)
+
+    grown : recordsOf nonVolatile (take (at + n) s) ≡ seen ++ (r ∷ [])
+    grown = ap (recordsOf nonVolatile) bytes-one
+        ∙ chunks-flat first (recordLength-within nonVolatile) (seen ++ (r ∷ [])) []
+        (all-append seen (r ∷ []) (chunks-items first (recordLength-within nonVolatile) (recordLength-local nonVolatile) (take at s))
+        (more (item-first first (recordLength-within nonVolatile) (recordLength-local nonVolatile) n (drop at s) e h) nil))
+        (recordLength-free nonVolatile 0)
+
+    one-more : os ++ recordsOf nonVolatile (take (at + n) s) ≡ (os ++ seen) ++ (r ∷ [])
+    one-more = ap (λ (rs : List Bytes). os ++ rs) grown ∙ sym (append-assoc os seen (r ∷ []))
+
+    seen-more : (x : ℕ) → contains (sameVariable r) (os ++ seen) ≡ false → slotOf (keyOf r) < length t
+        → x ≡ cond (eqb (getD t (slotOf (keyOf r)) 0) 0) (fingerprintOf (keyOf r)) 255 → Seen nonVolatile (at + n) s os (set t (slotOf (keyOf r)) x)
+    seen-more x a k q = record {
+      within = at-within first (recordLength-within nonVolatile) at n s e (w .within);
+      end = used-again first (recordLength-within nonVolatile) at n s e h (w .end);
+      split = here-is ∙ sym (append-assoc seen (r ∷ []) (recordsOf nonVolatile (drop (at + n) s))) ∙ rw grown;
+      whole = ap flat grown ∙ sym (bytes-one ∙ append-nil (flat (seen ++ (r ∷ []))));
+      free = rw one-more (distinct-append sameVariable sameVariable-sym sameVariable-like r (os ++ seen) a (w .free));
+      filter = rw one-more (filter-more t r x k q (os ++ seen) (w .filter));
+    }
+
+    -- ---- as the code says it
+    pub repeated : {x : Bool} → x ≡ contains (sameVariable r) (os ++ seen) → x ≡ true → distinct sameVariable (os ++ recordsOf nonVolatile s) ≡ false
+    repeated q z =
+        ap (λ (rs : List Bytes). distinct sameVariable rs) (ap (λ (rs : List Bytes). os ++ rs) here-is ∙ sym (append-assoc os seen (r ∷ recordsOf nonVolatile (drop (at + n) s))))
+        ∙ distinct-repeated sameVariable sameVariable-sym (os ++ seen) r (recordsOf nonVolatile (drop (at + n) s)) (sym q ∙ z)
+
+    module _ {hh k f : ℕ} (a : hh ≡ keyOf r) (b : k ≡ slotOf hh) (c : f ≡ fingerprintOf hh) where
+      slot-is : k ≡ slotOf (keyOf r)
+      slot-is = rw a at b
+
+      fingerprint-is : f ≡ fingerprintOf (keyOf r)
+      fingerprint-is = rw a at c
+
+      pub unseen-filter : (eqb (getD t k 0) 255 || eqb (getD t k 0) f) ≡ false → contains (sameVariable r) (os ++ seen) ≡ false
+      unseen-filter z =
+          let p : getD t k 0 ≡ 255 → ⊥ = eqb-false _ _ (or-left-off (eqb (getD t k 0) 255) (eqb (getD t k 0) f) z) in
+          let q : getD t k 0 ≡ f → ⊥ = eqb-false _ _ (or-right-off (eqb (getD t k 0) 255) (eqb (getD t k 0) f) z) in
+          clear t r (os ++ seen) (w .filter .marks) (rw slot-is at p) (λ y. q (ap (λ (i : ℕ). getD t i 0) slot-is ∙ y ∙ sym fingerprint-is))
+
+      pub seen-step : {x : ℕ} → x ≡ cond (eqb (getD t k 0) 0) f 255 → k < 8192 → contains (sameVariable r) (os ++ seen) ≡ false → Seen nonVolatile (at + n) s os (set t k x)
+      seen-step {x} d g u =
+          let g′ : slotOf (keyOf r) < length t = rw (w .filter .room) (rw slot-is at g) in
+          rw slot-is (seen-more x u g′ (rw (slot-is, fingerprint-is) at d))
+
+  pub ends : n ≡ 0 → End at ≡ scanned nonVolatile s os
+  unfolding scanned
+  ends z = rw (seen-end z, w .free) (ap End (used-here first (recordLength-within nonVolatile) at n s e z (w .end)))
+
+  pub ends-filter : n ≡ 0 → Filter t (os ++ recordsOf nonVolatile s)
+  ends-filter z = rw (seen-end z) (w .filter)
+
+pub scanned-repeated : (nonVolatile : Bool) (s : Bytes) (os : List Bytes) → distinct sameVariable (os ++ recordsOf nonVolatile s) ≡ false → Repeated ≡ scanned nonVolatile s os
+unfolding scanned
+scanned-repeated nonVolatile s os e = rw e
+
+pub seen-used : (nonVolatile : Bool) (at : ℕ) (s : Bytes) (os : List Bytes) (t : Bytes) → Seen nonVolatile at s os t → at ≡ endOf nonVolatile (take at s)
+unfolding used
+seen-used nonVolatile at s os t w = rw (w .whole) (sym (length-take-le at s (w .within)))
+
+-- the record at hand, as the code lends it
+pub key-at : {hh : ℕ} (at n : ℕ) (s : Bytes) → hh ≡ hashOf (variableOf (part at (at + n) s)) → hh ≡ keyOf (take n (drop at s))
+unfolding keyOf
+key-at at n s e = rw part-of at e
+
+pub search-at : {x : Bool} (at n : ℕ) (s : Bytes) (rs : List Bytes) → x ≡ contains (sameVariable (part at (at + n) s)) rs → x ≡ contains (sameVariable (take n (drop at s))) rs
+search-at at n s rs e = e ∙ ap (λ (r : Bytes). contains (sameVariable r) rs) (part-of at n s)
+
+pub search-is : {x y : Bool} {n : ℕ} (r : Bytes) (os rs : List Bytes) → n ≡ nameSize r → x ≡ contains (isOf (variable (part 16 32 r) (part 32 (30 + n) r))) os
+    → y ≡ contains (isOf (variable (part 16 32 r) (part 32 (30 + n) r))) rs → (x || y) ≡ contains (sameVariable r) (os ++ rs)
+unfolding namespaceOf nameOf
+search-is r os rs e p q = rw (p, q, e) (sym (contains-append (sameVariable r) os rs))

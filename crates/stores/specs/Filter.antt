@@ -1,0 +1,44 @@
+-- A filter over the records seen: a slot for each hash.
+-- Assumes nothing: these are definitions.
+use Prim.Native.Nat.{ℕ, _+_, _*_, _/_, _%_}
+use mathlib.Core.Path.{_≡_}
+use mathlib.Core.List.{List, _++_}
+use mathlib.Core.Bool.{Bool, cond}
+use lib.ListN.{length, getD}
+use Rattle.slices.specs.Bytes.{Bytes}
+use Rattle.slices.specs.Hash.{hashFrom}
+use Rattle.slices.specs.Chunks.{distinct}
+use Rattle.slices.specs.ChunksLaws.{All}
+use Rattle.names.specs.Name.{Variable}
+use Rattle.store.specs.Record.{variableOf, sameVariable}
+use Rattle.store.specs.Store.{recordsOf, endOf}
+use Rattle.stores.specs.declared.Scanned.{Scanned}
+use Rattle.stores.specs.declared.Scanned.the-variants.{End, Repeated}
+
+-- the hash of a variable
+unfoldable pub hashOf : Variable → ℕ
+hashOf v = hashFrom (hashFrom 0 (v .namespace)) (v .name) % 4294967296 * 2654435761
+
+abbrev pub slotOf : ℕ → ℕ
+slotOf h = h / 524288 % 8192
+
+abbrev pub fingerprintOf : ℕ → ℕ
+fingerprintOf h = h / 4294967296 % 254 + 1
+
+-- the hash of a record
+unfoldable pub keyOf : Bytes → ℕ
+keyOf r = hashOf (variableOf r)
+
+-- the slot of the record says that its fingerprint, or several, were seen
+pub data Marked (t r : Bytes) : Type 0 where
+  several : getD t (slotOf (keyOf r)) 0 ≡ 255 → Marked t r
+  this : getD t (slotOf (keyOf r)) 0 ≡ fingerprintOf (keyOf r) → Marked t r
+
+-- a filter that has every record of the list
+pub record Filter (t : Bytes) (rs : List Bytes) : Type 0 where
+  pub room : length t ≡ 8192
+  pub marks : All (Marked t) rs
+
+-- what a scan of a store finds, behind the records os
+unfoldable pub scanned : Bool → Bytes → List Bytes → Scanned
+scanned nonVolatile s os = cond (distinct sameVariable (os ++ recordsOf nonVolatile s)) (End (endOf nonVolatile s)) Repeated

@@ -1,0 +1,5 @@
+pub mod Pair
+pub mod Filter
+pub mod PairLaws
+pub mod Place
+pub mod PlaceLaws
