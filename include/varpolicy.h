@@ -6,19 +6,19 @@
   - a non-volatile and a volatile store of variables, 0 to 32,768 bytes each: records with EDK2's
     variable header (0x55AA, state 0x3F) end to end, then 0xFF;
   - a policy record of exactly 8,192 bytes: packed entries end to end, then zeros;
-  - three switches, varpolicy_switches.
+  - three switches, varpolicy_switches, in each byte of which every value has a meaning.
 
   A call checks all of each store and policy record that it is lent, and answers
   VARPOLICY_VOLUME_CORRUPTED before all else if one is not so. The exceptions: varpolicy_power_on takes
   a volatile store with any content, and varpolicy_power_on and varpolicy_restart a policy record with
-  any content; of these they check the length. The switches are not checked.
+  any content; of these they check the length.
 
   A call that answers anything but VARPOLICY_SUCCESS leaves everything as it was, and every number
-  beside the status is zero, but for the needed length at VARPOLICY_BUFFER_TOO_SMALL and the switches of
-  a refused start.
+  beside the status is zero. Two exceptions: beside VARPOLICY_BUFFER_TOO_SMALL stands the length that
+  is needed, and a refused start hands back switches.
 
-  A status is the low part of an EFI_STATUS, without the high bit. The statuses of a call are listed
-  in the order in which they are tested.
+  A status is an EFI_STATUS without its error bit. The statuses of a call are listed in the order in
+  which they are tested.
 
   Pointers: each must be valid for its length, and not NULL even where the length is 0. What is lent
   for writing may not overlap anything else lent to the same call. Nothing is kept after a call, so
@@ -92,14 +92,14 @@ extern "C" {
 /**
   The switches of an engine: kept by the caller, lent to the calls.
 
-  Each byte must be 0 or 1, as a bool of C is. The compiled code relies on it, does not check it, and
-  nothing is proved of other values: write `x != 0` for a byte from elsewhere. The same holds of the
-  parameter disabling_allowed.
+  Each of the 256 values of each byte has a meaning, and what is proved of the calls is proved of all. A
+  byte that is neither 0 nor 1 is read on the safe side: the engine is enabled, is locked, and may not
+  be disabled. The calls themselves write and hand back 0 and 1.
 **/
 typedef struct {
-  bool enabled;           /* entries are enforced */
-  bool locked;            /* no more entries are registered */
-  bool disabling_allowed; /* the engine may be disabled */
+  uint8_t enabled;           /* entries are enforced: any value but 0 */
+  uint8_t locked;            /* no more entries are registered: any value but 0 */
+  uint8_t disabling_allowed; /* the engine may be disabled: 1, and no other value */
 } varpolicy_switches;
 
 /** What varpolicy_power_on and varpolicy_restart answer. **/
@@ -139,12 +139,12 @@ typedef struct {
   @param[in]  vol_len            Its length.
   @param[out] policy             The policy record, with any content.
   @param[in]  policy_len         Its length, VARPOLICY_POLICY_BYTES.
-  @param[in]  disabling_allowed  Whether varpolicy_disable may succeed.
+  @param[in]  disabling_allowed  Whether varpolicy_disable may succeed: 1, and no other value.
 
   @retval VARPOLICY_VOLUME_CORRUPTED  The non-volatile store is unsound, the volatile one has more than
                                       VARPOLICY_MAX_STORE_BYTES bytes, or the policy record is of another
-                                      length. The switches handed back are enabled, locked, and without
-                                      leave to disable; an engine already running keeps its own.
+                                      length. The switches handed back are the strictest: enabled, locked,
+                                      disabling not allowed. A running engine goes on with those it had.
   @retval VARPOLICY_SUCCESS           The engine is on, with the switches handed back.
 **/
 VARPOLICY_CALL varpolicy_started
@@ -155,7 +155,7 @@ varpolicy_power_on (
   size_t         vol_len,
   uint8_t       *policy,
   size_t         policy_len,
-  bool           disabling_allowed
+  uint8_t        disabling_allowed
   );
 
 /**
@@ -168,7 +168,7 @@ varpolicy_power_on (
   @param[in]  vol_len            Its length.
   @param[out] policy             The policy record, with any content.
   @param[in]  policy_len         Its length, VARPOLICY_POLICY_BYTES.
-  @param[in]  disabling_allowed  Whether varpolicy_disable may succeed.
+  @param[in]  disabling_allowed  Whether varpolicy_disable may succeed: 1, and no other value.
 
   @retval VARPOLICY_VOLUME_CORRUPTED  The stores are unsound, or the policy record is of another length.
                                       The switches are as in varpolicy_power_on.
@@ -182,7 +182,7 @@ varpolicy_restart (
   size_t         vol_len,
   uint8_t       *policy,
   size_t         policy_len,
-  bool           disabling_allowed
+  uint8_t        disabling_allowed
   );
 
 /**
@@ -194,8 +194,9 @@ varpolicy_restart (
   @param[in]     entry       The packed entry.
   @param[in]     entry_len   Its length, which its Size must equal.
 
-  @retval VARPOLICY_VOLUME_CORRUPTED   The policy record is not distinct well-formed entries within the
-                                       limits and then zeros, in VARPOLICY_POLICY_BYTES bytes.
+  @retval VARPOLICY_VOLUME_CORRUPTED   The policy record is not valid: VARPOLICY_POLICY_BYTES bytes, of them
+                                       at most VARPOLICY_MAX_ENTRIES well-formed entries, no two for one
+                                       namespace and name, and then zeros.
   @retval VARPOLICY_WRITE_PROTECTED    The engine is locked.
   @retval VARPOLICY_INVALID_PARAMETER  The entry is malformed.
   @retval VARPOLICY_ALREADY_STARTED    An entry of the same namespace and name is registered.
@@ -237,10 +238,10 @@ varpolicy_dump (
 /**
   Locks the engine: no entry is registered until the next power-on or restart.
 
-  @param[in,out] switches  The switches.
+  @param[in,out] switches  The switches. Of a refused call they may lie in read-only memory.
 
-  @retval VARPOLICY_WRITE_PROTECTED  The engine is locked already.
-  @retval VARPOLICY_SUCCESS          The engine is locked.
+  @retval VARPOLICY_WRITE_PROTECTED  The engine is locked already. Nothing is stored.
+  @retval VARPOLICY_SUCCESS          The engine is locked: locked is 1, and no other byte is changed.
 **/
 VARPOLICY_CALL uint32_t
 varpolicy_lock (
@@ -250,11 +251,11 @@ varpolicy_lock (
 /**
   Disables the engine: no entry is enforced until the next power-on or restart.
 
-  @param[in,out] switches  The switches.
+  @param[in,out] switches  The switches. Of a refused call they may lie in read-only memory.
 
-  @retval VARPOLICY_ALREADY_STARTED  The engine is disabled already.
-  @retval VARPOLICY_WRITE_PROTECTED  The engine is locked, or disabling is not allowed.
-  @retval VARPOLICY_SUCCESS          The engine is disabled.
+  @retval VARPOLICY_ALREADY_STARTED  The engine is disabled already. Nothing is stored.
+  @retval VARPOLICY_WRITE_PROTECTED  The engine is locked, or disabling is not allowed. Nothing is stored.
+  @retval VARPOLICY_SUCCESS          The engine is disabled: enabled is 0, and no other byte is changed.
 **/
 VARPOLICY_CALL uint32_t
 varpolicy_disable (

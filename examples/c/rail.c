@@ -72,7 +72,7 @@ int main(void) {
   varpolicy_found   found;
 
   memset(NonVolatile, 0xFF, sizeof NonVolatile);
-  started  = varpolicy_power_on(NonVolatile, sizeof NonVolatile, Volatile, sizeof Volatile, Policy, sizeof Policy, false);
+  started  = varpolicy_power_on(NonVolatile, sizeof NonVolatile, Volatile, sizeof Volatile, Policy, sizeof Policy, 0);
   Switches = started.switches;
   if (started.status != VARPOLICY_SUCCESS ||
       varpolicy_register(Policy, sizeof Policy, Switches, entry, size) != VARPOLICY_SUCCESS ||

@@ -13,7 +13,7 @@ use Rattle.rules.specs.Engine as rules
 use Rattle.rules.specs.Engine.{State, Call}
 use Rattle.rules.specs.Engine.Call.{powerOn, restart, dump}
 use Rattle.rules.specs.EngineLaws.{step-status}
-use Rattle.rules.specs.StateLaws.{power-on-sound}
+use Rattle.rules.specs.StateLaws.{power-on-sound, power-on-done, restart-done}
 use Rattle.history.specs.History.{Items, Order, Past, Proper, Complete, Permitted, Demand3, end, endWith, registered}
 use Rattle.history.specs.History.ItemOf.{call, ownDump, rebuild}
 use Rattle.history.specs.StandingOrder.{NoneRestarts, registeredSince}
@@ -21,10 +21,9 @@ use Rattle.history.specs.HistoryLaws as general
 use Rattle.history.specs.AnyMoment as moment
 use Rattle.history.specs.AnyMoment.{NoneOutdates, OneRebuild, pastAfter}
 use Rattle.demand3.specs.Machine.{machine}
-use Rattle.demand3.specs.MachineLaws.{Reached, laws, power-on-done, restart-done, never-cut}
+use Rattle.demand3.specs.MachineLaws.{Reached, laws, never-cut}
 
--- "A history starts from the state that a power-on with answer 0 left, whatever the stores held and whether or not disabling
--- is allowed"
+-- where a history begins (RULES.md, 12.1): the state that the power-on left
 abbrev pub poweredOn : State → Bool → State
 poweredOn s allowed = rules.step s (powerOn allowed) .1
 
@@ -37,7 +36,7 @@ pub demand-3 : (s : State) (allowed : Bool) → isSuccess (rules.step s (powerOn
     → (is : Items machine) → Proper machine false [] (poweredOn s allowed) is → Demand3 machine (poweredOn s allowed) is
 demand-3 s allowed h is p = general.demand-3 machine Reached laws (poweredOn s allowed) (start s allowed h) is p
 
--- ---- "AT ANY PLACES IN IT, AS OFTEN AS YOU LIKE": which lists are proper
+-- ---- WHERE REBUILDS MAY STAND (RULES.md, 12.3): which lists are proper
 
 module _ (s : State) (allowed : Bool) (answered0 : isSuccess (rules.step s (powerOn allowed) .0 .status) ≡ true) where
   -- where the history starts
@@ -92,8 +91,8 @@ module _ (s : State) (allowed : Bool) (answered0 : isSuccess (rules.step s (powe
   append-rebuild is ds x p d m =
       moment.append-rebuild machine Reached laws begun reached is ds x p (uncut is) d m
 
-  -- an own dump with room serves a rebuild at any later moment, in order or in any permitted other order, unless a registration,
-  -- power-on or restart of the history that succeeded outdates it
+  -- an own dump with room serves a rebuild at any later moment, in order or in any permitted other order, unless a granted
+  -- call of the history outdates it
   pub dump-now-rebuild-later : (xs ys : Items machine) (buffer : Bytes) (x : Order machine) → ProperFrom (xs ++ ys)
       → sizesSum (endWith machine begun xs .policy) ≤ length buffer
       → NoneOutdates machine (endWith machine begun xs) ys → Permitted machine (entriesAt xs) x
@@ -108,8 +107,8 @@ module _ (s : State) (allowed : Bool) (answered0 : isSuccess (rules.step s (powe
       → Complete machine (entriesAt xs) (pastAt (xs ++ (call (dump buffer) ∷ [])))
   history-dump xs buffer p room = moment.history-dump machine Reached laws begun reached xs buffer p (uncut xs) room
 
-  -- what the policy record holds after a rebuild, in order or not, and any calls of which none is a power-on or restart that
-  -- succeeded: the entries as the rebuild registered them, those registered since behind
+  -- what the policy record holds after a rebuild, in order or not, and any calls of which none is a granted start: the
+  -- entries in the rebuild's order, and behind them what was registered later
   pub entries-after-rebuild : (xs : Items machine) (ds : List Bytes) (x : Order machine) (cs : List Call)
       → ProperFrom (xs ++ (rebuild ds x ∷ [])) → NoneRestarts machine (endWith machine begun (xs ++ (rebuild ds x ∷ []))) cs
       → entriesOf (end machine (endWith machine begun (xs ++ (rebuild ds x ∷ []))) cs .policy)

@@ -17,7 +17,7 @@ use Rattle.history.specs.History.{Outcome, Kind, Machine}
 use Rattle.history.specs.History.Outcome.{granted, refused}
 use Rattle.history.specs.History.Kind.{starts, registers, dumps, keeps}
 
--- "Refused means a status other than 0." No call is cut in this edition
+-- granted is status 0, refused any other; no call of this engine is cut
 abbrev pub outcomeBy : Bool → Outcome
 outcomeBy b = cond b granted refused
 
@@ -32,33 +32,31 @@ kindOf query = keeps
 kindOf (read v) = keeps
 kindOf (set r) = keeps
 
--- WHAT ANOTHER ORDER CHANGES, "all else is equal": the entries in the policy record
+-- WHAT ANOTHER ORDER CHANGES (RULES.md, 12.5), and nothing else: the entries in the policy record
 abbrev pub stateIn : List Bytes → State → State
 stateIn o s = stateOf (s .nv) (s .vol) (over o (s .policy)) (s .switches)
 
 -- and those in the buffer of a dump that answered 0
+abbrev pub inBuffer : Kind Bytes → List Bytes → Bytes → Bytes
+inBuffer starts o b = b
+inBuffer (registers e) o b = b
+inBuffer dumps o b = over o b
+inBuffer keeps o b = b
+
 abbrev pub answerIn : Call → List Bytes → Answer → Answer
-answerIn (powerOn allowed) o a = a
-answerIn (restart allowed) o a = a
-answerIn (register e) o a = a
-answerIn (dump buffer) o a =
+answerIn c o a =
     record {
       status = a .status;
       number = a .number;
-      bytes = cond (isSuccess (a .status)) (over o (a .bytes)) (a .bytes);
+      bytes = cond (isSuccess (a .status)) (inBuffer (kindOf c) o (a .bytes)) (a .bytes);
       switches = a .switches;
     }
-answerIn lock o a = a
-answerIn disable o a = a
-answerIn query o a = a
-answerIn (read v) o a = a
-answerIn (set r) o a = a
 
--- A REBUILD'S CALLS. "restart over the same stores with the old engine's disable setting", its third switch
+-- A REBUILD'S CALLS (RULES.md, 12.3): restart with disabling allowed as it was
 abbrev pub restartOf : State → Call
 restartOf k = restart (k .switches .«disabling_allowed»)
 
--- "then disable, then lock, each only if the old engine was"
+-- disable if the engine was disabled, and then lock if it was locked
 abbrev pub closingOf : State → List Call
 closingOf k = cond (k .switches .enabled) [] (disable ∷ []) ++ cond (k .switches .locked) (lock ∷ []) []
 
@@ -88,6 +86,6 @@ machine =
       closing = closingOf;
       -- the buffer has room for the sum of Sizes
       CanDump = λ s buffer. sizesSum (s .policy) ≤ length buffer;
-      -- no call is cut in this edition
+      -- no call of this engine is cut
       startsAfterCut = λ c. true;
     }

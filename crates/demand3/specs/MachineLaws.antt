@@ -2,45 +2,41 @@
 use Prim.Native.Nat.{ℕ, suc, _+_, _≤_}
 use mathlib.Core.Path.{_≡_, refl, sym, ap, ap₂, _∙_, subst, subst⁻¹}
 use mathlib.Core.List.{List, [], _∷_, _++_, map, append-assoc, append-nil, List·Permᴰ, Permᴰ·refl, Permᴰ·append-right}
-use mathlib.Core.Bool.{Bool, true, false, _||_, cond, false≢true}
+use mathlib.Core.Bool.{Bool, true, false, cond}
 use mathlib.Core.Option.{Option, none}
 use native.Mathlib.Omega.{arith}
 use lib.ListN.{length, take, length-append}
-use lib.Dec.{eqb}
 use borrow.Author.Tests.{le-leb}
-use Rattle.limits.specs.Limits.{maxEntries, policyBytes, maxStore}
+use Rattle.limits.specs.Limits.{maxEntries, policyBytes}
 use Rattle.lists.specs.Lists as lists
 use Rattle.lists.specs.Lists.{over}
 use Rattle.lists.specs.ListsLaws.{length-perm, flat-perm, over-over}
 use Rattle.slices.specs.Test.{_and_}
-use Rattle.slices.specs.Bytes.{Bytes, overwrite, padded}
+use Rattle.slices.specs.Bytes.{Bytes, padded}
 use Rattle.slices.specs.Chunks.{flat, packed}
-use Rattle.slices.specs.ChunksLaws.{nil, more}
-use Rattle.slices.specs.ItemsLaws.{all-append, all-right, all-here}
+use Rattle.slices.specs.ItemsLaws.{all-right, all-here}
 use Rattle.names.specs.Name.{named}
 use Rattle.entry.specs.Entry.{sameTarget}
 use Rattle.policy.specs.Policy.{entriesOf, sizesSum, packPolicy, policyValid}
 use Rattle.policy.specs.PolicyLaws.{WellFormed, Entries, policyValid-length, policy-entries, pack-entriesOf, entriesOf-formed, entriesOf-pack, entries-policy, sizesSum-flat}
 use Rattle.policy.specs.Choice.{chosen}
-use Rattle.store.specs.StoreLaws.{storeOk-length}
 use Rattle.stores.specs.Pair.{sound}
-use Rattle.stores.specs.PairLaws.{sound-alone, sound-vol}
 use Rattle.status.specs.declared.Status.{Status}
-use Rattle.status.specs.declared.Status.the-variants.{Success, VolumeCorrupted}
-use Rattle.status.specs.Status.{isSuccess, statusNumber}
+use Rattle.status.specs.declared.Status.the-variants.{Success}
+use Rattle.status.specs.Status.{isSuccess}
 use Rattle.switches.specs.declared.Switches.{Switches}
 use Rattle.switches.specs.Switches.{freshSwitches}
-use Rattle.rules.specs.Set.{Request, badRequest, requestStatus, setStatus}
-use Rattle.rules.specs.Engine.{State, Answer, Call, stateOf, powerOnStatus, restartStatus, registerStatus, dumpStatus, speaking, setStatusBy, status, answer, after, effect, step}
+use Rattle.rules.specs.Set.{Request, badRequest, requestStatus, decision}
+use Rattle.rules.specs.Engine.{State, Call, stateOf, powerOnStatus, restartStatus, registerStatus, dumpStatus, speaking, decisionBy, decisionIn, status, given, refusal, answer, after, effect, step}
 use Rattle.rules.specs.Engine.Call.{powerOn, restart, register, dump, lock, disable, query, read, set}
 use Rattle.rules.specs.EngineLaws.{step-status, refused-changes-nothing, granted-effect}
-use Rattle.rules.specs.StateLaws.{Sound, register-granted, step-sound}
+use Rattle.rules.specs.StateLaws.{Sound, power-on-lists, restart-lists, register-lists, step-sound, restart-done}
 use Rattle.history.specs.History.{Outcome, Kind, entriesAfter, outcomeOf, cutAfter, AllGranted, end, rebuilding}
 use Rattle.history.specs.History.Outcome.{granted, refused, cut}
 use Rattle.history.specs.History.Kind.{starts, registers, dumps, keeps}
 use Rattle.history.specs.HistoryLaws.{granted-refused, SameChoice, Laws}
 use Rattle.demand3.specs.Machine.{stateIn, answerIn, outcomeBy, kindOf, restartOf, closingOf, machine}
-use Rattle.demand3.specs.OrderLaws.{flat-same, flat-length, length-flat, contains-perm, entries-perm, entries-left, entries-new, over-pack, overwrite-perm, overwrite-take}
+use Rattle.demand3.specs.OrderLaws.{flat-length, length-flat, contains-perm, entries-perm, entries-left, entries-new, over-pack, overwrite-perm, overwrite-take}
 use Rattle.rules.specs.FoundLaws.{all-lists, lists-all}
 
 -- ---- another order of the entries: a state of the rules with the record of the entries o
@@ -56,17 +52,17 @@ unfolding dumpStatus
 dump-same es o buffer d = rw (length-flat d)
 
 -- a set of a name that step 1 does not take never comes to the choice
-set-unnamed : (x y : Option Bytes) (nv vol : Bytes) (r : Request) → named (r .variable) ≡ false → setStatus x nv vol r ≡ setStatus y nv vol r
-unfolding setStatus requestStatus badRequest
+set-unnamed : (x y : Option Bytes) (nv vol : Bytes) (r : Request) → named (r .variable) ≡ false → decision x nv vol r ≡ decision y nv vol r
+unfolding decision requestStatus badRequest
 set-unnamed x y nv vol r h = rw h
 
 set-same : (es o : List Bytes) (enabled : Bool) (nv vol : Bytes) (r : Request) → SameChoice machine es o
-    → setStatusBy (chosen o) enabled nv vol r ≡ setStatusBy (chosen es) enabled nv vol r
-unfolding setStatusBy chosen
+    → decisionBy (chosen o) enabled nv vol r ≡ decisionBy (chosen es) enabled nv vol r
+unfolding decisionBy chosen
 set-same es o enabled nv vol r l = go (named (r .variable)) refl
   where
-    go : (b : Bool) → named (r .variable) ≡ b → setStatusBy (chosen o) enabled nv vol r ≡ setStatusBy (chosen es) enabled nv vol r
-    go true e = ap (λ (x : Option Bytes). setStatus (speaking enabled x) nv vol r) (sym (l .choice (r .variable) e))
+    go : (b : Bool) → named (r .variable) ≡ b → decisionBy (chosen o) enabled nv vol r ≡ decisionBy (chosen es) enabled nv vol r
+    go true e = ap (λ (x : Option Bytes). decision (speaking enabled x) nv vol r) (sym (l .choice (r .variable) e))
     go false e = set-unnamed _ _ nv vol r e
 
 module _ (s : State) (w : Sound s) (o : List Bytes) where
@@ -89,67 +85,69 @@ module _ (s : State) (w : Sound s) (o : List Bytes) where
     reordered-sound : Sound (withEntries s o)
     reordered-sound = record { stores = w .stores; policy = valid-o; leave = w .leave }
 
-    -- what a call answers there, whatever its status
-    dumped-same : (n : Status) (b k : Bool) (buffer : Bytes) → _≡_ {A = Answer}
-        (record { status = n; number = cond k (length (flat o)) 0; bytes = cond b (overwrite buffer 0 (flat o)) buffer; switches = none })
-        (record { status = n; number = cond k (length (flat es)) 0; bytes = cond b (over o (cond b (overwrite buffer 0 (flat es)) buffer)) (cond b (overwrite buffer 0 (flat es)) buffer); switches = none })
-    dumped-same n true k buffer =
-        ap₂ (λ (m : ℕ) (l : Bytes). record { status = n; number = cond k m 0; bytes = l; switches = none }) (length-flat d) (overwrite-perm d buffer)
-    dumped-same n false k buffer =
-        ap (λ (m : ℕ). record { status = n; number = cond k m 0; bytes = buffer; switches = none }) (length-flat d)
+    -- a state with the record as it is, and with its entries in the order o
+    kept : (nv vol : Bytes) (x : Switches) → stateOf nv vol (packPolicy o) x ≡ stateOf nv vol (over o (s .policy)) x
+    kept nv vol x = ap (λ (p : Bytes). stateOf nv vol p x) (sym over-o)
+
+  -- if the same entries are chosen, each call has the same status there, and beside 0 it gives and leaves the same but for the order
+  module _ (l : SameChoice machine es o) where
+    record Same (c : Call) : Type 0 where
+      status : status (withEntries s o) c ≡ status s c
+      given : given (withEntries s o) c ≡ answerIn c o (given s c)
+      effect : effect (withEntries s o) c ≡ stateIn (entriesAfter machine (kindOf c) granted o) (effect s c)
+
+    decision-same : (r : Request) → decisionIn (withEntries s o) r ≡ decisionIn s r
+    decision-same r = rw (lists-o (l .perm)) (set-same es o (s .switches .enabled) (s .nv) (s .vol) r l)
+
+    same : (c : Call) → Same c
+    unfolding powerOnStatus restartStatus flat
+    same (powerOn allowed) = record { status = rw (policyValid-length (packPolicy o) (valid-o (l .perm)), policyValid-length (s .policy) (w .policy)); given = refl; effect = refl }
+    same (restart allowed) = record { status = rw (policyValid-length (packPolicy o) (valid-o (l .perm)), policyValid-length (s .policy) (w .policy)); given = refl; effect = refl }
+    same (register e) =
+        record {
+          status = rw (valid-o (l .perm), lists-o (l .perm), w .policy) (register-same (s .switches .locked) es o e (l .perm));
+          given = refl;
+          effect = rw (lists-o (l .perm)) (ap (λ (p : Bytes). stateOf (s .nv) (s .vol) p (s .switches)) (sym (over-pack (Permᴰ·append-right (e ∷ []) (l .perm)))));
+        }
+    same (dump buffer) =
+        record {
+          status = rw (valid-o (l .perm), lists-o (l .perm), w .policy) (dump-same es o buffer (l .perm));
+          given = rw (lists-o (l .perm))
+              (ap₂ (λ (m : ℕ) (b : Bytes). record { status = Success; number = m; bytes = b; switches = none }) (length-flat (l .perm)) (overwrite-perm (l .perm) buffer));
+          effect = kept (l .perm) _ _ _;
+        }
+    same lock = record { status = refl; given = refl; effect = kept (l .perm) _ _ _ }
+    same disable = record { status = refl; given = refl; effect = kept (l .perm) _ _ _ }
+    same query = record { status = refl; given = refl; effect = kept (l .perm) _ _ _ }
+    same (read v) = record { status = refl; given = refl; effect = kept (l .perm) _ _ _ }
+    same (set r) =
+        record {
+          status = rw (valid-o (l .perm), w .policy, decision-same r);
+          given = refl;
+          effect = rw (decision-same r) (kept (l .perm) _ _ _);
+        }
+
+    -- and it is refused the same
+    refusal-same : (c : Call) (n : Status) → isSuccess n ≡ false → refusal (withEntries s o) c n ≡ answerIn c o (refusal s c n)
+    refusal-same c n h = rw (h, lists-o (l .perm), length-flat (l .perm))
 
     answer-same : (c : Call) (n : Status) → answer (withEntries s o) c n ≡ answerIn c o (answer s c n)
-    answer-same (powerOn allowed) n = refl
-    answer-same (restart allowed) n = refl
-    answer-same (register e) n = refl
-    answer-same (dump buffer) n = rw lists-o (dumped-same n (isSuccess n) (isSuccess n || eqb (statusNumber n) 5) buffer)
-    answer-same lock n = refl
-    answer-same disable n = refl
-    answer-same query n = refl
-    answer-same (read v) n = refl
-    answer-same (set r) n = refl
+    answer-same c n = go (isSuccess n) refl
+      where
+        go : (b : Bool) → isSuccess n ≡ b → cond b (given (withEntries s o) c) (refusal (withEntries s o) c n) ≡ answerIn c o (cond b (given s c) (refusal s c n))
+        go true h = same c .given
+        go false h = refusal-same c n h
 
-    -- and what it leaves
     refused-after : (κ : Kind Bytes) → entriesAfter machine κ refused o ≡ o
     refused-after starts = refl
     refused-after (registers e) = refl
     refused-after dumps = refl
     refused-after keeps = refl
 
-    -- a state with the record as it is, and with its entries in the order o
-    kept : (nv vol : Bytes) (x : Switches) → stateOf nv vol (packPolicy o) x ≡ stateOf nv vol (over o (s .policy)) x
-    kept nv vol x = ap (λ (p : Bytes). stateOf nv vol p x) (sym over-o)
-
-    leaves-granted : (c : Call) → effect (withEntries s o) c ≡ stateIn (entriesAfter machine (kindOf c) granted o) (effect s c)
-    leaves-granted (powerOn allowed) = refl
-    leaves-granted (restart allowed) = refl
-    leaves-granted (register e) =
-        rw lists-o
-        (ap (λ (p : Bytes). stateOf (s .nv) (s .vol) p (s .switches)) (sym (over-pack (Permᴰ·append-right (e ∷ []) d))))
-    leaves-granted (dump buffer) = kept _ _ _
-    leaves-granted lock = kept _ _ _
-    leaves-granted disable = kept _ _ _
-    leaves-granted query = kept _ _ _
-    leaves-granted (read v) = kept _ _ _
-    leaves-granted (set r) = kept _ _ _
-
     leaves-same : (c : Call) (b : Bool)
         → cond b (effect (withEntries s o) c) (withEntries s o) ≡ stateIn (entriesAfter machine (kindOf c) (outcomeBy b) o) (cond b (effect s c) s)
-    leaves-same c true = leaves-granted c
-    leaves-same c false = kept _ _ _ ∙ ap (λ (l : List Bytes). stateIn l s) (sym (refused-after (kindOf c)))
-
-  -- the status too is the same, if the same entries are chosen
-  status-same : SameChoice machine es o → (c : Call) → status (withEntries s o) c ≡ status s c
-  unfolding powerOnStatus restartStatus
-  status-same l (powerOn allowed) = rw (policyValid-length (packPolicy o) (valid-o (l .perm)), policyValid-length (s .policy) (w .policy))
-  status-same l (restart allowed) = rw (policyValid-length (packPolicy o) (valid-o (l .perm)), policyValid-length (s .policy) (w .policy))
-  status-same l (register e) = rw (valid-o (l .perm), lists-o (l .perm), w .policy) (register-same (s .switches .locked) es o e (l .perm))
-  status-same l (dump buffer) = rw (valid-o (l .perm), lists-o (l .perm), w .policy) (dump-same es o buffer (l .perm))
-  status-same l lock = refl
-  status-same l disable = refl
-  status-same l query = refl
-  status-same l (read v) = refl
-  status-same l (set r) = rw (valid-o (l .perm), lists-o (l .perm), w .policy) (ap (λ (n : Status). cond (sound (s .nv) (s .vol) and true) n VolumeCorrupted) (set-same es o (s .switches .enabled) (s .nv) (s .vol) r l))
+    leaves-same c true = same c .effect
+    leaves-same c false = kept (l .perm) _ _ _ ∙ ap (λ (x : List Bytes). stateIn x s) (sym (refused-after (kindOf c)))
 
 -- ---- THE STATES THAT ARE REACHED
 pub record Reached (t : Bool) (s : State) : Type 0 where
@@ -178,36 +176,42 @@ answers-same : (s : State) (o : List Bytes) (c : Call) → Sound s → SameChoic
 unfolding step
 answers-same s o c w l =
     ap (λ (z : State). step z c .0) (reordered-in s o w (l .perm))
-    ∙ ap (λ (n : Status). answer (withEntries s o) c n) (status-same s w o l c)
-    ∙ answer-same s w o (l .perm) c (status s c)
+    ∙ ap (λ (n : Status). answer (withEntries s o) c n) (same s w o l c .status)
+    ∙ answer-same s w o l c (status s c)
 
 leaves-step : (s : State) (o : List Bytes) (c : Call) → Sound s → SameChoice machine (entriesOf (s .policy)) o
     → step (stateIn o s) c .1 ≡ stateIn (entriesAfter machine (kindOf c) (outcomeOf machine s c) o) (step s c .1)
 unfolding step
 leaves-step s o c w l =
     ap (λ (z : State). step z c .1) (reordered-in s o w (l .perm))
-    ∙ ap (λ (n : Status). after (withEntries s o) c n) (status-same s w o l c)
-    ∙ leaves-same s w o (l .perm) c (isSuccess (status s c))
+    ∙ ap (λ (n : Status). after (withEntries s o) c n) (same s w o l c .status)
+    ∙ leaves-same s w o l c (isSuccess (status s c))
     ∙ ap (λ (r : Outcome). stateIn (entriesAfter machine (kindOf c) r o) (step s c .1)) (sym (outcome-status s c))
 
--- ---- the entries after a call
-registered-formed : (s : State) (e : Bytes) → isSuccess (status s (register e)) ≡ true → WellFormed e
-registered-formed s e h = go (policyValid (s .policy)) h
-  where
-    go : (b : Bool) → isSuccess (cond b (registerStatus (s .switches .locked) (entriesOf (s .policy)) e) VolumeCorrupted) ≡ true → WellFormed e
-    go true k = register-granted (s .switches .locked) (entriesOf (s .policy)) e k .formed
-    go false k = absurd (false≢true k)
+-- ---- what a granted call does, by its kind
+-- the entries afterwards, and a dump's bytes
+abbrev Does : State → Call → Kind Bytes → Type 0
+Does s c starts = entriesOf (effect s c .policy) ≡ []
+Does s c (registers e) = entriesOf (effect s c .policy) ≡ entriesOf (s .policy) ++ (e ∷ [])
+Does s c dumps = (effect s c .policy ≡ s .policy) × (flat (entriesOf (s .policy)) ≡ take (given s c .number) (given s c .bytes))
+Does s c keeps = effect s c .policy ≡ s .policy
 
-lists-granted : (s : State) (c : Call) → isSuccess (status s c) ≡ true → entriesOf (effect s c .policy) ≡ entriesAfter machine (kindOf c) granted (entriesOf (s .policy))
-lists-granted s (powerOn allowed) h = entriesOf-pack [] nil
-lists-granted s (restart allowed) h = entriesOf-pack [] nil
-lists-granted s (register e) h = entriesOf-pack _ (all-append (entriesOf (s .policy)) (e ∷ []) (entriesOf-formed (s .policy)) (more (registered-formed s e h) nil))
-lists-granted s (dump buffer) h = refl
-lists-granted s lock h = refl
-lists-granted s disable h = refl
-lists-granted s query h = refl
-lists-granted s (read v) h = refl
-lists-granted s (set r) h = refl
+does : (s : State) (c : Call) → isSuccess (status s c) ≡ true → Does s c (kindOf c)
+does s (powerOn allowed) h = power-on-lists s allowed
+does s (restart allowed) h = restart-lists s allowed
+does s (register e) h = register-lists s e h
+does s (dump buffer) h = (refl, overwrite-take (entriesOf (s .policy)) buffer)
+does s lock h = refl
+does s disable h = refl
+does s query h = refl
+does s (read v) h = refl
+does s (set r) h = refl
+
+lists-granted : (s : State) (c : Call) (κ : Kind Bytes) → Does s c κ → entriesOf (effect s c .policy) ≡ entriesAfter machine κ granted (entriesOf (s .policy))
+lists-granted s c starts h = h
+lists-granted s c (registers e) h = h
+lists-granted s c dumps h = ap entriesOf (h .0)
+lists-granted s c keeps h = ap entriesOf h
 
 refused-lists : (κ : Kind Bytes) (l : List Bytes) → l ≡ entriesAfter machine κ refused l
 refused-lists starts l = refl
@@ -223,7 +227,7 @@ lists-after s c =
   where
     go : (b : Bool) → isSuccess (status s c) ≡ b
         → entriesOf (cond b (effect s c) s .policy) ≡ entriesAfter machine (kindOf c) (outcomeBy b) (entriesOf (s .policy))
-    go true e = lists-granted s c e
+    go true e = lists-granted s c (kindOf c) (does s c e)
     go false e = refused-lists (kindOf c) (entriesOf (s .policy))
 
 -- ---- refused calls and dumps
@@ -249,30 +253,20 @@ dump-granted s buffer w h =
     outcome-status s (dump buffer) ∙ rw (w .policy, le-leb (length (flat (entriesOf (s .policy)))) (length buffer) k)
 
 dump-holds : (s : State) (c : Call) → kindOf c ≡ dumps → outcomeOf machine s c ≡ granted
-    → lists.flat (entriesOf (s .policy)) ≡ take (step s c .0 .number) (step s c .0 .bytes)
+    → flat (entriesOf (s .policy)) ≡ take (step s c .0 .number) (step s c .0 .bytes)
 unfolding step
-dump-holds s (powerOn allowed) k h = let z : _≡_ {A = ℕ} 0 1 = cc in absurd (omega arith)
-dump-holds s (restart allowed) k h = let z : _≡_ {A = ℕ} 0 1 = cc in absurd (omega arith)
-dump-holds s (register e) k h = let z : _≡_ {A = ℕ} 0 1 = cc in absurd (omega arith)
-dump-holds s lock k h = let z : _≡_ {A = ℕ} 0 1 = cc in absurd (omega arith)
-dump-holds s disable k h = let z : _≡_ {A = ℕ} 0 1 = cc in absurd (omega arith)
-dump-holds s query k h = let z : _≡_ {A = ℕ} 0 1 = cc in absurd (omega arith)
-dump-holds s (read v) k h = let z : _≡_ {A = ℕ} 0 1 = cc in absurd (omega arith)
-dump-holds s (set r) k h = let z : _≡_ {A = ℕ} 0 1 = cc in absurd (omega arith)
-dump-holds s (dump buffer) k h = go (status s (dump buffer)) (isSuccess (status s (dump buffer))) h
+dump-holds s c k h = go (isSuccess (status s c)) refl (sym (outcome-status s c) ∙ h)
   where
-    go : (n : Status) (b : Bool) → outcomeBy b ≡ granted
-        → lists.flat (entriesOf (s .policy))
-        ≡ take (cond (b || eqb (statusNumber n) 5) (length (flat (entriesOf (s .policy)))) 0) (cond b (overwrite buffer 0 (flat (entriesOf (s .policy)))) buffer)
-    go n true e = overwrite-take (entriesOf (s .policy)) buffer
-    go n false e = absurd (granted-refused (sym e))
+    go : (b : Bool) → isSuccess (status s c) ≡ b → outcomeBy b ≡ granted
+        → flat (entriesOf (s .policy)) ≡ take (cond b (given s c) (refusal s c (status s c)) .number) (cond b (given s c) (refusal s c (status s c)) .bytes)
+    go true e i = subst (Does s c) k (does s c e) .1
+    go false e i = absurd (granted-refused (sym i))
 
 -- well-formed entries end to end come apart in one way: their record has that list
-unique : {ds es : List Bytes} → lists.All WellFormed ds → lists.All WellFormed es → lists.flat ds ≡ lists.flat es → ds ≡ es
+unique : {ds es : List Bytes} → lists.All WellFormed ds → lists.All WellFormed es → flat ds ≡ flat es → ds ≡ es
 unfolding packed
 unique {ds} {es} p q h =
-    let k : flat ds ≡ flat es = flat-same ds ∙ h ∙ sym (flat-same es) in
-    sym (entriesOf-pack ds (lists-all ds p)) ∙ ap (λ (l : Bytes). entriesOf (padded policyBytes 0 l)) k ∙ entriesOf-pack es (lists-all es q)
+    sym (entriesOf-pack ds (lists-all ds p)) ∙ ap (λ (l : Bytes). entriesOf (padded policyBytes 0 l)) h ∙ entriesOf-pack es (lists-all es q)
 
 -- ---- A REBUILD: a list of calls that all answer 0, and where it leads
 record Runs (s : State) (cs : List Call) (z : State) : Type 0 where
@@ -345,20 +339,6 @@ module _ (nv vol p : Bytes) (o : List Bytes) where
   closing-done false true m h = rw (h refl) (refl, (refl, tt))
   closing-done false false m h = rw (h refl) (refl, tt)
 
--- a sound state refuses no power-on and no restart
-pub power-on-done : (s : State) (allowed : Bool) → Sound s → isSuccess (status s (powerOn allowed)) ≡ true
-unfolding powerOnStatus _and_
-power-on-done s allowed w =
-    rw (
-      sound-alone (s .nv) (s .vol) (w .stores),
-      le-leb (length (s .vol)) maxStore (storeOk-length false (s .vol) (sound-vol (s .nv) (s .vol) (w .stores))),
-      policyValid-length (s .policy) (w .policy),
-    )
-
-pub restart-done : (s : State) (allowed : Bool) → Sound s → isSuccess (status s (restart allowed)) ≡ true
-unfolding restartStatus _and_
-restart-done s allowed w = rw (w .stores, policyValid-length (s .policy) (w .policy))
-
 rebuild-run : (s : State) (o : List Bytes) → Sound s → List·Permᴰ (entriesOf (s .policy)) o → Runs s (rebuilding machine s o) (withEntries s o)
 rebuild-run s o w d =
     let x = s .switches in
@@ -376,17 +356,6 @@ rebuild-run s o w d =
 ordered-again : (s : State) (x o : List Bytes) → List·Permᴰ x o → stateIn o (stateIn x s) ≡ stateIn o s
 ordered-again s x o d = ap (λ (p : Bytes). stateOf (s .nv) (s .vol) p (s .switches)) (over-over x o (s .policy) (flat-perm d))
 
-outcome-in : (c : Call) (o : List Bytes) (a : Answer) → outcomeBy (isSuccess (answerIn c o a .status)) ≡ outcomeBy (isSuccess (a .status))
-outcome-in (powerOn allowed) o a = refl
-outcome-in (restart allowed) o a = refl
-outcome-in (register e) o a = refl
-outcome-in (dump buffer) o a = refl
-outcome-in lock o a = refl
-outcome-in disable o a = refl
-outcome-in query o a = refl
-outcome-in (read v) o a = refl
-outcome-in (set r) o a = refl
-
 -- ---- THE LAWS
 pub laws : Laws machine Reached
 laws = record {
@@ -396,7 +365,7 @@ laws = record {
       ap (λ (p : Bytes). stateOf (s .nv) (s .vol) p (s .switches))
       (over-o s (w .sound) (entriesOf (s .policy)) (Permᴰ·refl (entriesOf (s .policy))) ∙ pack-entriesOf (s .policy) (w .sound .policy));
   orderedAgain = λ {t} {s} {o} {x} w e d. ordered-again s x o d;
-  outcomeIn = outcome-in;
+  outcomeIn = λ c o a. refl;
   reorders = λ {t} {s} {o} w d. reorders w d;
   relists = λ {t} {s} {o} w d. ap entriesOf (over-o s (w .sound) o d) ∙ lists-o s (w .sound) o d;
   continues = λ {t} {s} c w f. continues c w;
@@ -413,7 +382,7 @@ laws = record {
       rebuild-run s o (w .sound) d .ends ∙ sym (reordered-in s o (w .sound) d);
 }
 
--- no call is cut in this edition
+-- no call of this engine is cut
 pub never-cut : (s : State) (c : Call) → outcomeOf machine s c ≡ cut → ⊥
 never-cut s c = go (isSuccess (step s c .0 .status))
   where

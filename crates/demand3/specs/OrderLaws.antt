@@ -1,33 +1,27 @@
--- A policy record with its entries in another order: what of it is the same. The lists of `slices` and of `lists` are
+-- A policy record with its entries in another order: what of it is the same. The tests of `slices` and of `lists` are
 -- brought together here. Assumes nothing.
 use Prim.Native.Nat.{ℕ, _+_, _-_}
 use mathlib.Core.Path.{_≡_, refl, sym, ap, _∙_}
 use mathlib.Core.List.{List, [], _∷_, _++_, List·Permᴰ}
-use mathlib.Core.Bool.{Bool, true, false, _||_}
+use mathlib.Core.Bool.{Bool, false, _||_}
 use native.Mathlib.Omega.{arith}
 use native.Mathlib.Nat.{zero-add}
 use lib.ListN.{length, take, replicate, length-append}
 use lib.Seq.{take-append-seam, drop-append-seam}
 use Rattle.limits.specs.Limits.{policyBytes}
 use Rattle.lists.specs.Lists as lists
-use Rattle.lists.specs.Lists.{Pairs, any, over}
-use Rattle.lists.specs.ListsLaws.{all-perm, pairs-perm, pairs-middle, any-perm, any-none, none-any, length-perm, flat-perm, over-over}
+use Rattle.lists.specs.Lists.{any, over}
+use Rattle.lists.specs.ListsLaws.{all-map, all-perm, pairs-perm, pairs-middle, any-perm, length-perm, flat-perm, over-over}
 use Rattle.slices.specs.Bytes.{Bytes, overwrite, padded}
-use Rattle.slices.specs.Chunks.{flat, packed, contains, distinct}
+use Rattle.slices.specs.Chunks.{flat, packed, contains}
 use Rattle.slices.specs.ChunksLaws.{flat-append}
-use Rattle.slices.specs.ItemsLaws.{all-left, distinct-apart, distinct-cons, distinct-left}
+use Rattle.slices.specs.ItemsLaws.{all-left, distinct-left}
 use Rattle.entry.specs.Entry.{sameTarget}
-use Rattle.entry.specs.EntryLaws.{sameTarget-sym}
 use Rattle.policy.specs.Policy.{packPolicy}
 use Rattle.policy.specs.PolicyLaws.{WellFormed, Entries}
-use Rattle.rules.specs.FoundLaws.{all-lists, lists-all}
+use Rattle.rules.specs.FoundLaws.{all-lists, lists-all, distinct-pairs, none-like, pairs-distinct, tells-target}
 
--- ---- the same lists, said twice
-
-pub flat-same : (es : List Bytes) → flat es ≡ lists.flat es
-unfolding flat
-flat-same [] = refl
-flat-same (e ∷ es) = ap (_++_ e) (flat-same es)
+-- ---- the same tests, said twice
 
 pub flat-length : (es fs : List Bytes) → length (flat (es ++ fs)) ≡ length (flat es) + length (flat fs)
 flat-length es fs = rw (flat-append es fs) (length-append (flat es) (flat fs))
@@ -37,26 +31,10 @@ unfolding contains
 contains-any p [] = refl
 contains-any p (e ∷ es) = ap (_||_ (p e)) (contains-any p es)
 
--- no two entries with the same namespace and name
-abbrev Apart : List Bytes → Type 0
-Apart = Pairs (λ a b. sameTarget a b ≡ false)
-
-distinct-pairs : (es : List Bytes) → distinct sameTarget es ≡ true → Apart es
-distinct-pairs [] h = tt
-distinct-pairs (e ∷ es) h =
-    let w = distinct-apart sameTarget e es h in
-    (none-any (sameTarget e) es (sym (contains-any (sameTarget e) es) ∙ w .here), distinct-pairs es (w .rest))
-
-pairs-distinct : (es : List Bytes) → Apart es → distinct sameTarget es ≡ true
-unfolding distinct
-pairs-distinct [] h = refl
-pairs-distinct (e ∷ es) h =
-    distinct-cons sameTarget e es (contains-any (sameTarget e) es ∙ any-none (sameTarget e) es (h .0)) (pairs-distinct es (h .1))
-
 -- ---- another order
 
 pub length-flat : {es o : List Bytes} → List·Permᴰ es o → length (flat o) ≡ length (flat es)
-length-flat {es} {o} d = rw (flat-same es, flat-same o) (sym (flat-perm d))
+length-flat d = sym (flat-perm d)
 
 pub contains-perm : (p : Bytes → Bool) {es o : List Bytes} → List·Permᴰ es o → contains p o ≡ contains p es
 contains-perm p {es} {o} d = contains-any p o ∙ sym (any-perm p d) ∙ sym (contains-any p es)
@@ -67,7 +45,7 @@ entries-perm {es} {o} d a =
       formed = lists-all o (all-perm WellFormed d (all-lists es (a .formed)));
       few = rw (← length-perm d) (a .few);
       room = rw (length-flat d) (a .room);
-      apart = pairs-distinct o (pairs-perm _ (λ x y e. sameTarget-sym y x ∙ e) d (distinct-pairs es (a .apart)));
+      apart = pairs-distinct sameTarget _ tells-target o (pairs-perm _ (λ x y h k. h (sym (k .0), sym (k .1))) d (distinct-pairs sameTarget _ tells-target es (a .apart)));
     }
 
 -- the first entries of a record's; and the next one is not there yet
@@ -84,31 +62,27 @@ entries-left es fs a =
 
 pub entries-new : (es : List Bytes) (e : Bytes) (fs : List Bytes) → Entries (es ++ (e ∷ fs)) → contains (sameTarget e) es ≡ false
 entries-new es e fs a =
-    contains-any (sameTarget e) es
-    ∙ any-none (sameTarget e) es (all-turn es (pairs-middle _ es e fs (distinct-pairs (es ++ (e ∷ fs)) (a .apart))))
-  where
-    all-turn : (l : List Bytes) → lists.All (λ x. sameTarget x e ≡ false) l → lists.All (λ x. sameTarget e x ≡ false) l
-    all-turn [] h = tt
-    all-turn (x ∷ l) h = (sameTarget-sym e x ∙ h .0, all-turn l (h .1))
+    none-like sameTarget _ tells-target e es
+    (all-map _ _ (λ x h k. h (sym (k .0), sym (k .1))) es (pairs-middle _ es e fs (distinct-pairs sameTarget _ tells-target (es ++ (e ∷ fs)) (a .apart))))
 
 -- the entries in another order over the record of the same entries
-over-padded : (n : ℕ) (es o : List Bytes) → length (lists.flat es) ≡ length (lists.flat o)
-    → over o (lists.flat es ++ replicate (n - length (lists.flat es)) 0) ≡ lists.flat o ++ replicate (n - length (lists.flat o)) 0
-over-padded n es o h = ap (_++_ (lists.flat o)) (rw (← h) (drop-append-seam (lists.flat es) _))
+over-padded : (n : ℕ) (es o : List Bytes) → length (flat es) ≡ length (flat o)
+    → over o (flat es ++ replicate (n - length (flat es)) 0) ≡ flat o ++ replicate (n - length (flat o)) 0
+over-padded n es o h = ap (_++_ (flat o)) (rw (← h) (drop-append-seam (flat es) _))
 
 pub over-pack : {es o : List Bytes} → List·Permᴰ es o → over o (packPolicy es) ≡ packPolicy o
 unfolding packed padded
-over-pack {es} {o} d = rw (flat-same es, flat-same o) (over-padded policyBytes es o (flat-perm d))
+over-pack {es} {o} d = over-padded policyBytes es o (flat-perm d)
 
 -- a dump's write is that of the general part
 pub overwrite-over : (es : List Bytes) (buffer : Bytes) → overwrite buffer 0 (flat es) ≡ over es buffer
 unfolding overwrite
-overwrite-over es buffer = rw (flat-same es, zero-add)
+overwrite-over es buffer = rw zero-add
 
 pub overwrite-perm : {es o : List Bytes} → List·Permᴰ es o → (buffer : Bytes)
     → overwrite buffer 0 (flat o) ≡ over o (overwrite buffer 0 (flat es))
 overwrite-perm {es} {o} d buffer =
     overwrite-over o buffer ∙ sym (ap (over o) (overwrite-over es buffer) ∙ over-over es o buffer (flat-perm d))
 
-pub overwrite-take : (es : List Bytes) (buffer : Bytes) → lists.flat es ≡ take (length (flat es)) (overwrite buffer 0 (flat es))
-overwrite-take es buffer = rw (overwrite-over es buffer, flat-same es) (sym (take-append-seam (lists.flat es) _))
+pub overwrite-take : (es : List Bytes) (buffer : Bytes) → flat es ≡ take (length (flat es)) (overwrite buffer 0 (flat es))
+overwrite-take es buffer = rw (overwrite-over es buffer) (sym (take-append-seam (flat es) _))

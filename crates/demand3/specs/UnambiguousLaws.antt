@@ -3,30 +3,26 @@
 -- A variable that two entries target at one rank is spelled anew in bytes: its namespace is the entries' own, and each unit of
 -- its name is a unit of an entry or a hex digit. Assumes nothing.
 use Prim.Native.Nat.{ℕ, suc, _+_, _-_, _*_, _%_, _<_}
-use mathlib.Core.Path.{_≡_, refl, ap, ap₂, _∙_, subst, subst⁻¹}
+use mathlib.Core.Path.{_≡_, refl, ap, ap₂, _∙_, subst}
 use mathlib.Core.List.{List, [], _∷_}
 use mathlib.Core.Bool.{Bool, true, false, _||_, false≢true}
 use mathlib.Core.Logic.{_⊎_, inl, inr}
 use native.Mathlib.Omega.{arith}
-use lib.ListN.{length, take, drop, take-append-drop}
-use lib.Dec.{eqb, leb}
-use borrow.Author.Tests.{eq-eqb, eqb-true, leb-true}
+use lib.ListN.{length}
+use borrow.Author.Tests.{eq-eqb, eqb-true}
 use Rattle.limits.specs.Limits.{namespaceBytes, wholeNamespaceRank}
 use Rattle.lists.specs.Lists.{All, Pairs, RanksDiffer}
-use Rattle.lists.specs.ListsLaws.{all-map, all-left, all-right}
+use Rattle.lists.specs.ListsLaws.{all-map}
 use Rattle.slices.specs.Test.{_and_}
 use Rattle.slices.specs.TestLaws.{and-left, and-right, and-intro}
-use Rattle.slices.specs.Bytes.{Bytes, part, pairwise}
-use Rattle.slices.specs.BytesLaws.{same-eq}
-use Rattle.names.specs.Name.{Variable, units, noZero, isName, named, isHexDigit, numberSign, unitMatches}
-use Rattle.names.specs.NameLaws.{isName-length, named-namespace, named-name, units-length, wildcards-le}
+use Rattle.slices.specs.Bytes.{Bytes, AreBytes, pairwise}
+use Rattle.slices.specs.BytesLaws.{pairwise-length, same-eq}
+use Rattle.slices.specs.PartLaws.{bytes-part}
+use Rattle.names.specs.Name.{Variable, units, noZero, isName, named, unitMatches}
+use Rattle.names.specs.NameLaws.{isName-length, named-namespace, named-name, units-length, wildcards-le, unit-cases}
 use Rattle.entry.specs.Entry.{offsetToName, namespaceOf, nameIsEmpty, nameOf, targets, rank}
 use Rattle.history.specs.History.{Unambiguous}
 use Rattle.demand3.specs.Machine.{machine}
-
--- each number is a byte
-abbrev pub AreBytes : Bytes → Type 0
-AreBytes = All (λ b. b < 256)
 
 -- a variable as a caller can name it, by a name that step 1 takes
 pub record NamedInBytes (v : Variable) : Type 0 where
@@ -40,11 +36,6 @@ UnambiguousInBytes ds = (v : Variable) → NamedInBytes v → Pairs (RanksDiffer
 
 -- ---- parts of an entry
 
-bytes-part : (a e : ℕ) (s : Bytes) → AreBytes s → AreBytes (part a e s)
-bytes-part a e s h =
-    let d : AreBytes (drop a s) = all-right _ (take a s) (drop a s) (subst⁻¹ AreBytes (take-append-drop a s) h) in
-    all-left _ (take (e - a) (drop a s)) (drop (e - a) (drop a s)) (subst⁻¹ AreBytes (take-append-drop (e - a) (drop a s)) d)
-
 bytes-name : (e : Bytes) → AreBytes e → AreBytes (nameOf e)
 unfolding nameOf
 bytes-name e h = bytes-part (offsetToName e) (length e - 2) e h
@@ -56,31 +47,6 @@ record Spelled (s : Bytes) : Type 0 where
   areBytes : AreBytes bytes
   sameUnits : units bytes ≡ units s
   sameLength : length bytes ≡ length s
-
-or-cases : (a b : Bool) → (a || b) ≡ true → (a ≡ true) ⊎ (b ≡ true)
-or-cases true b h = inl refl
-or-cases false b h = inr h
-
-hex-small : (u : ℕ) → isHexDigit u ≡ true → u < 256
-unfolding isHexDigit
-hex-small u h = go (or-cases (leb 0x30 u and leb u 0x39) (leb 0x41 u and leb u 0x46 || leb 0x61 u and leb u 0x66) h)
-  where
-    letter : ((leb 0x41 u and leb u 0x46) ≡ true) ⊎ ((leb 0x61 u and leb u 0x66) ≡ true) → u < 256
-    letter (inl k) = omega (arith, leb-true u 0x46 (and-right _ _ k))
-    letter (inr k) = omega (arith, leb-true u 0x66 (and-right _ _ k))
-
-    go : ((leb 0x30 u and leb u 0x39) ≡ true) ⊎ ((leb 0x41 u and leb u 0x46 || leb 0x61 u and leb u 0x66) ≡ true) → u < 256
-    go (inl k) = omega (arith, leb-true u 0x39 (and-right _ _ k))
-    go (inr k) = letter (or-cases (leb 0x41 u and leb u 0x46) (leb 0x61 u and leb u 0x66) k)
-
--- a unit that an entry's unit matches is that unit, or a hex digit
-unit-cases : (p u : ℕ) → unitMatches p u ≡ true → (p ≡ u) ⊎ (u < 256)
-unfolding unitMatches
-unit-cases p u h = go (or-cases (eqb p u) (eqb p numberSign and isHexDigit u) h)
-  where
-    go : (eqb p u ≡ true) ⊎ ((eqb p numberSign and isHexDigit u) ≡ true) → (p ≡ u) ⊎ (u < 256)
-    go (inl k) = inl (eqb-true p u k)
-    go (inr k) = inr (hex-small u (and-right _ _ k))
 
 -- one unit and the rest
 spell-unit : (a b c d : ℕ) (s : Bytes) → a < 256 → b < 256 → (a + 256 * b ≡ c + 256 * d) ⊎ (c + 256 * d < 256) → Spelled s
@@ -136,17 +102,10 @@ unfolding targets
 target-namespace e v h = same-eq (namespaceOf e) (v .namespace) (and-left _ _ h)
 
 -- a name that matches has as many units, so at most 64 of them are '#'
-matches-length : (ps us : List ℕ) → pairwise unitMatches ps us ≡ true → length ps ≡ length us
-unfolding pairwise
-matches-length [] [] h = refl
-matches-length [] (u ∷ us) h = absurd (false≢true h)
-matches-length (p ∷ ps) [] h = absurd (false≢true h)
-matches-length (p ∷ ps) (u ∷ us) h = ap suc (matches-length ps us (and-right _ _ h))
-
 rank-of-name : (e : Bytes) (v : Variable) → named v ≡ true → targets e v ≡ true → nameIsEmpty e ≡ false → rank e < wholeNamespaceRank
 unfolding targets rank
 rank-of-name e v n h z =
-    let m = matches-length (units (nameOf e)) (units (v .name)) (rw z at (and-right _ _ h)) in
+    let m = pairwise-length unitMatches (units (nameOf e)) (units (v .name)) (rw z at (and-right _ _ h)) in
     let l = isName-length (v .name) (named-name v n) in
     rw z (omega (arith, m, l, wildcards-le (units (nameOf e)), units-length (v .name)))
 

@@ -12,33 +12,23 @@ use Rattle.lists.specs.Lists as lists
 use Rattle.lists.specs.Lists.{All, RanksDiffer}
 use Rattle.slices.specs.Test.{_and_}
 use Rattle.slices.specs.TestLaws.{and-left, and-right}
-use Rattle.slices.specs.Bytes.{Bytes, same, le16, le32, le32Bytes, pairwise, allAre, overwrite, padded}
+use Rattle.slices.specs.Bytes.{Bytes, same}
 use Rattle.slices.specs.BytesLaws.{same-eq}
-use Rattle.slices.specs.Chunks.{flat, chunks, chunksFrom, used, packed, contains, distinct, find, remove, replace, replaceOrAppend}
-use Rattle.names.specs.Name.{Variable, units, noZero, isName, isTerminated, named, isHexDigit, unitMatches, wildcards}
-use Rattle.entry.specs.Entry.{headerOk, lockOk, nameOk, wellFormed, namespaceOf, nameOf, triggerOf, targets, rank, sameTarget}
-use Rattle.policy.specs.Policy.{entryLength, policyValid}
-use Rattle.policy.specs.Choice.{chosen}
-use Rattle.store.specs.Record as stored
-use Rattle.store.specs.Store.{storeOk, withoutVariable, hasRoom, withRecord}
-use Rattle.stores.specs.Pair.{sound, soundAlone, lookup}
+use Rattle.slices.specs.Chunks.{flat}
+use Rattle.names.specs.Name.{Variable, units}
+use Rattle.entry.specs.Entry.{wellFormed, namespaceOf, targets, rank}
 use Rattle.status.specs.Status.{isSuccess, statusNumber}
 use Rattle.switches.specs.Switches.{freshSwitches}
-use Rattle.rules.specs.Set.{exists, isEmpty, holdsValue, locks, isDeletion, sizeAllowed, attributesAllowed, requestGround, groundOf, otherAttributes, isEmptyAppend, payloadAfter, writeStatus, badRequest, unsupportedBit, needsBS, requestStatus, setStatus, setStore}
 use Rattle.rules.specs.Engine as rules
-use Rattle.rules.specs.Engine.{State, Answer, Call, step, powerOnStatus, restartStatus, registerStatus, dumpStatus, readStatus, setStatusBy}
+use Rattle.rules.specs.Engine.{State, Answer, Call, step}
 use Rattle.rules.specs.Engine.Call.{powerOn, restart, register, dump, lock, disable, read, set}
+use Rattle.rules.specs.Opened.{rulesOpened}
 use Rattle.history.specs.History.{Items, Order, Complete, DumpOf, Demand3, Permitted, Past, answers, end, answersWith, endWith, history, stateBy, standingOrder, struck}
 use Rattle.history.specs.AnyMoment.{pastAfter}
 use Rattle.history.specs.History.Kind.{dumps}
 use Rattle.history.specs.History.ItemOf.{call, ownDump, rebuild}
 use Rattle.demand3.specs.Machine.{outcomeBy, kindOf, machine}
 use Rattle.demand3.specs.Demand3.{poweredOn, demand-3, ProperFrom, append-calls, insert-dump, append-rebuild}
-
--- to compute by the rules: `unfolding rulesOpened` opens every definition named here
-unfoldable rulesOpened : Bool
-unfolding _and_ le16 le32 le32Bytes pairwise allAre overwrite padded flat chunks chunksFrom used packed contains distinct find remove replace replaceOrAppend units noZero isName isTerminated named isHexDigit unitMatches wildcards headerOk lockOk nameOk wellFormed nameOf triggerOf targets rank sameTarget entryLength policyValid chosen stored.namespaceOf stored.nameOf stored.payloadOf stored.attributesOk stored.headerOk stored.bodyOk stored.recordOk stored.recordLength stored.isOf stored.encodeRecord storeOk withoutVariable hasRoom withRecord sound soundAlone lookup exists isEmpty holdsValue locks isDeletion sizeAllowed attributesAllowed requestGround groundOf otherAttributes isEmptyAppend payloadAfter writeStatus badRequest unsupportedBit needsBS requestStatus setStatus setStore step powerOnStatus restartStatus registerStatus dumpStatus readStatus setStatusBy
-rulesOpened = true
 
 -- two namespaces; the names "A#", "#A", "A1" and "AA"
 abbrev G : Bytes
@@ -246,7 +236,7 @@ past is = pastAfter machine [] start is
 
 -- a dump that answered 0, whose bytes are compared one by one
 abbrev shows : List Bytes → Answer → Bool
-shows ds a = isSuccess (a .status) and same (lists.flat ds) (take (a .number) (a .bytes))
+shows ds a = isSuccess (a .status) and same (flat ds) (take (a .number) (a .bytes))
 
 dump-of : {ds : List Bytes} {c : Call} {a : Answer} → kindOf c ≡ dumps → All (λ e. wellFormed e ≡ true) ds → shows ds a ≡ true
     → DumpOf machine ds c a
@@ -255,7 +245,7 @@ dump-of {ds} {c} {a} k f h =
       isDump = k;
       isGranted = ap outcomeBy (and-left _ _ h);
       areFormed = f;
-      areDumped = same-eq (lists.flat ds) (take (a .number) (a .bytes)) (and-right _ _ h);
+      areDumped = same-eq (flat ds) (take (a .number) (a .bytes)) (and-right _ _ h);
     }
 
 complete-empty : Complete machine [] (past (ownDump [] ∷ []))

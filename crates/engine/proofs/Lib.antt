@@ -3,7 +3,4 @@ pub mod Checked
 pub mod Registered
 pub mod Started
 pub mod Readings
-pub mod Named
 pub mod Sets
-pub mod Places
-pub mod Payloads

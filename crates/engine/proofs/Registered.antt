@@ -16,6 +16,7 @@ use Rattle.switches.specs.declared.SwitchAnswer.{SwitchAnswer}
 use Rattle.switches.specs.Switches.{lockAnswer, disableAnswer}
 use Rattle.rules.specs.Engine.{State, stateOf, Call, Answer, onlyStatus, registerStatus, dumpStatus, step, effect}
 use Rattle.rules.specs.Engine.Call.{register, dump, lock, disable}
+use Rattle.rules.specs.EngineLaws.{answer-alone}
 use Rattle.engine.specs.declared.DumpAnswer.{DumpAnswer}
 use Rattle.engine.specs.Answers.{dumpAnswer}
 use Rattle.engine.proofs.Steps.{step-is}
@@ -30,7 +31,7 @@ module _ (p : Bytes) (w : Switches) (e : Bytes) where
         → (nv vol : Bytes) → step (stateOf nv vol p w) (register e) ≡ (onlyStatus n, stateOf nv vol p w)
     register-refused n r k nv vol =
         step-is (stateOf nv vol p w) (register e) n (lent-valid p (registerStatus (w .locked) (entriesOf p) e) n h k)
-        ∙ ap (λ b. (onlyStatus n, cond b (effect (stateOf nv vol p w) (register e)) (stateOf nv vol p w))) r
+        ∙ ap₂ (λ (a : Answer) b. (a, cond b (effect (stateOf nv vol p w) (register e)) (stateOf nv vol p w))) (answer-alone (stateOf nv vol p w) (register e) n refl refl) r
 
     pub register-granted : {q : Bytes} → registerStatus (w .locked) (entriesOf p) e ≡ Success → q ≡ packPolicy (entriesOf p ++ (e ∷ []))
         → (nv vol : Bytes) → step (stateOf nv vol p w) (register e) ≡ (onlyStatus Success, stateOf nv vol q w)

@@ -13,10 +13,7 @@ use Rattle.slices.specs.Test.{_and_}
 use Rattle.slices.specs.TestLaws.{and-no}
 use Rattle.slices.specs.Bytes.{Bytes, overwrite}
 use Rattle.policy.specs.Policy.{emptyPolicy}
-use Rattle.store.specs.Store.{endOf}
-use Rattle.stores.specs.Pair.{sound, soundAlone, pairCheck}
-use Rattle.stores.specs.declared.PairCheck.{PairCheck}
-use Rattle.stores.specs.declared.PairCheck.the-variants.{Sound, Unsound}
+use Rattle.stores.specs.Pair.{sound, soundAlone}
 use Rattle.status.specs.declared.Status.{Status}
 use Rattle.status.specs.declared.Status.the-variants.{Success, VolumeCorrupted}
 use Rattle.status.specs.Status.{isSuccess}
@@ -26,28 +23,6 @@ use Rattle.switches.specs.Switches.{freshSwitches, refusedSwitches}
 use Rattle.rules.specs.Engine.{State, stateOf, handBack, erased, powerOnStatus, restartStatus, step}
 use Rattle.rules.specs.Engine.Call.{powerOn, restart}
 use Rattle.engine.proofs.Steps.{step-is}
-
--- ---- the check of the stores
-pub record Ends (nv vol : Bytes) (a b : ℕ) : Type 0 where
-  pub isSound : sound nv vol ≡ true
-  pub nvEnd : a ≡ endOf true nv
-  pub volEnd : b ≡ endOf false vol
-
-pub pair-sound : (nv vol : Bytes) (a b : ℕ) → pairCheck nv vol ≡ Sound a b → Ends nv vol a b
-unfolding pairCheck
-pair-sound nv vol a b e = go (sound nv vol) refl e
-  where
-    go : (t : Bool) → sound nv vol ≡ t → cond t (Sound (endOf true nv) (endOf false vol)) Unsound ≡ Sound a b → Ends nv vol a b
-    go true h k = record { isSound = h; nvEnd = cc; volEnd = cc }
-    go false h k = let z : _≡_ {A = ℕ} 0 1 = cc in absurd (omega arith)
-
-pub pair-unsound : (nv vol : Bytes) → pairCheck nv vol ≡ Unsound → sound nv vol ≡ false
-unfolding pairCheck
-pair-unsound nv vol e = go (sound nv vol) refl e
-  where
-    go : (t : Bool) → sound nv vol ≡ t → cond t (Sound (endOf true nv) (endOf false vol)) Unsound ≡ Unsound → sound nv vol ≡ false
-    go true h k = let z : _≡_ {A = ℕ} 0 1 = cc in absurd (omega arith)
-    go false h k = h
 
 -- ---- the statuses
 module _ (nv vol policy : Bytes) where

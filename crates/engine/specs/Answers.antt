@@ -1,24 +1,24 @@
 -- What the code's answers are to the rules' answers: every value beside the status.
 -- Assumes nothing: these are definitions.
-use Prim.Native.Nat.{ℕ, _+_}
+use Prim.Native.Nat.{ℕ, _+_, _≤_}
 use mathlib.Core.Path.{_≡_}
 use mathlib.Core.List.{[]}
-use mathlib.Core.Bool.{cond}
-use mathlib.Core.Option.{Option, none}
+use mathlib.Core.Bool.{Bool, false, cond}
+use mathlib.Core.Option.{none}
+use lib.ListN.{length}
 use Rattle.slices.specs.Bytes.{Bytes, part}
 use Rattle.names.specs.Name.{Variable, named}
-use Rattle.store.specs.Record.{nameSize}
-use Rattle.stores.specs.Pair.{sound, lookup}
+use Rattle.store.specs.Record.{hasNV}
+use Rattle.stores.specs.Pair.{sound}
+use Rattle.stores.specs.declared.Place.{Place}
+use Rattle.stores.specs.Place.{placeIn, isSomewhere, attributesAt, boundsAt}
 use Rattle.status.specs.declared.Status.{Status}
-use Rattle.status.specs.declared.Status.the-variants.{InvalidParameter, VolumeCorrupted, NotFound}
-use Rattle.stores.specs.declared.Place.the-variants.{NonVolatile, Volatile, Nowhere}
-use Rattle.stores.specs.Place.{placeIn, isSomewhere}
+use Rattle.status.specs.declared.Status.the-variants.{Success, InvalidParameter, VolumeCorrupted, NotFound}
 use Rattle.rules.specs.Engine.{State, Answer, step}
 use Rattle.rules.specs.Engine.Call.{read}
 use Rattle.engine.specs.declared.DumpAnswer.{DumpAnswer}
 use Rattle.engine.specs.declared.QueryAnswer.{QueryAnswer}
 use Rattle.engine.specs.declared.Reading.{Reading}
-use Rattle.engine.specs.declared.Reading.the-variants.{Refused, Stands}
 
 -- a dump: the length, and the whole buffer
 abbrev pub dumpAnswer : DumpAnswer → Bytes → Answer
@@ -28,26 +28,46 @@ dumpAnswer r buffer = record { status = r .status; number = r .length; bytes = b
 abbrev pub queryAnswer : QueryAnswer → Answer
 queryAnswer r = record { status = r .status; number = cond (r .enabled) 1 0; bytes = []; switches = none }
 
--- what a read finds: 10, 2, 14, or where the variable stands
+-- ---- a read
+
+-- refused: zeros beside the status
+abbrev pub refusedReading : Status → Reading
+refusedReading n = record { status = n; attributes = 0; nonvolatile = false; from = 0; to = 0 }
+
+-- of the record at a place
+abbrev pub readingAt : Bytes → Bytes → Place → Reading
+readingAt nv vol p =
+    record {
+      status = Success;
+      attributes = attributesAt nv vol p;
+      nonvolatile = p .nonvolatile;
+      from = boundsAt nv vol p .from;
+      to = boundsAt nv vol p .to;
+    }
+
+-- what a read tells: 10, 2, 14, or the record where the variable stands
 unfoldable pub readingOf : Bytes → Bytes → Variable → Reading
 readingOf nv vol v =
     cond (sound nv vol)
-    (cond (named v) (cond (isSomewhere (placeIn nv vol v)) (Stands (placeIn nv vol v)) (Refused NotFound)) (Refused InvalidParameter))
-    (Refused VolumeCorrupted)
+    (cond (named v) (cond (isSomewhere (placeIn nv vol v)) (readingAt nv vol (placeIn nv vol v)) (refusedReading NotFound)) (refusedReading InvalidParameter))
+    (refusedReading VolumeCorrupted)
 
--- the first call of the read pair tells a read's status and attributes, and changes nothing
-pub record ReadStep (s : State) (v : Variable) (status : Status) (attributes : ℕ) : Type 0 where
-  pub itsStatus : step s (read v) .0 .status ≡ status
-  pub itsAttributes : step s (read v) .0 .number ≡ attributes
-  pub itsState : step s (read v) .1 ≡ s
+-- the store that a reading names, and the bytes of it that it names
+abbrev pub storeRead : Reading → State → Bytes
+storeRead r s = cond (r .nonvolatile) (s .nv) (s .vol)
 
--- where the payload of the record of len bytes at index at of a store lies: the block and the offset of the store's first byte, with the header and the name behind
-abbrev pub payloadPlace : ℕ × ℕ → Bytes → ℕ → ℕ → ℕ × ℕ
-payloadPlace p s at len = (p .0, p .1 + (at + 32 + nameSize (part at (at + len) s)))
+abbrev pub readAnswer : Reading → State → Answer
+readAnswer r s = record { status = r .status; number = r .attributes; bytes = part (r .from) (r .to) (storeRead r s); switches = none }
 
--- where the second call of the read pair points; a refusal leaves it open
-unfoldable pub PointsInto : ℕ × ℕ → ℕ × ℕ → Bytes → Bytes → ℕ × ℕ → Reading → Type 0
-PointsInto p q nv vol r (Refused n) = Unit
-PointsInto p q nv vol r (Stands (NonVolatile at len)) = r ≡ payloadPlace p nv at len
-PointsInto p q nv vol r (Stands (Volatile at len)) = r ≡ payloadPlace q vol at len
-PointsInto p q nv vol r (Stands Nowhere) = Unit
+-- what holds of a reading
+pub record ReadStep (s : State) (v : Variable) (r : Reading) : Type 0 where
+  -- it is the answer of the rules, with the payload as the bytes named, and nothing is changed
+  pub answers : step s (read v) ≡ (readAnswer r s, s)
+  -- the non-volatile store is named for a variable that has NV, and the payload lies within the store named
+  pub store : r .nonvolatile ≡ hasNV (r .attributes)
+  pub ordered : r .from ≤ r .to
+  pub within : r .to ≤ length (storeRead r s)
+
+-- where the bytes that a reading names lie: the block and the offset of the store's first byte, and how far behind it they begin
+abbrev pub payloadPlace : ℕ × ℕ → ℕ × ℕ → Reading → ℕ × ℕ
+payloadPlace nv vol r = cond (r .nonvolatile) (nv .0, nv .1 + r .from) (vol .0, vol .1 + r .from)

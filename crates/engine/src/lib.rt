@@ -1,44 +1,36 @@
-// The calls of the engine. The promise of each is one equation with the rules' `step`: from the state before, with the parts
+// The calls of the engine (RULES.md, 10). The promise of each is one equation with the rules' `step`: from the state before, with the parts
 // that the call is not lent as they may be, to the answer and the state afterwards, for every input. The read pair is one call
 // of the rules; each of its two calls promises its part of the answer.
 ghost use mathlib.Core.Path.{_≡_};
-ghost use mathlib.Core.Bool.{cond};
+ghost use mathlib.Core.Bool.{true, false, cond};
+ghost use denote.Ref.{ptr};
 ghost use Rattle.slices.specs.Bytes.{Bytes};
+ghost use Rattle.store.specs.Parts.{variable};
+ghost use Rattle.stores.specs.Place.{Within};
 ghost use Rattle.status.specs.Status.{isSuccess};
+ghost use Rattle.status.specs.declared.Status.the-variants.{Success, VolumeCorrupted};
 ghost use Rattle.switches.specs.declared.Switches.{Switches};
+ghost use Rattle.switches.specs.Switches.{freshSwitches, refusedSwitches};
+ghost use Rattle.rules.specs.Set.{requestOf};
 ghost use Rattle.rules.specs.Engine.{stateOf, step, onlyStatus, handBack};
 ghost use Rattle.rules.specs.Engine.Call.{powerOn, restart, register, dump, lock, disable, query, read, set};
-ghost use mathlib.Core.List.{[]};
-ghost use mathlib.Core.Bool.{true, false};
-ghost use Rattle.status.specs.declared.Status.the-variants.{Success, VolumeCorrupted};
-ghost use Rattle.switches.specs.Switches.{freshSwitches, refusedSwitches};
-ghost use Rattle.decision.specs.Decision.{requestOf};
-ghost use Prim.Native.Nat.{_+_, _≤_};
-ghost use denote.Ref.{ptr};
-ghost use lib.ListN.{length};
-ghost use Rattle.slices.specs.Bytes.{part};
-ghost use Rattle.store.specs.Record.{payloadOf};
-ghost use Rattle.store.specs.Parts.{HeaderFits};
-ghost use Rattle.engine.specs.Answers.{dumpAnswer, queryAnswer, readingOf, ReadStep, payloadPlace, PointsInto};
-use decision::Decision;
+ghost use Rattle.engine.specs.Answers.{dumpAnswer, queryAnswer, refusedReading, readingAt, readingOf, ReadStep, payloadPlace};
 use entry::Parsed;
 use policy::PolicyCheck;
+use set::Known;
 use status::Status;
 use stores::PairCheck;
 use stores::Place;
 use switches::SwitchAnswer;
 use switches::Switches;
 
-// A read's status and the variable's attributes.
-pub struct ReadAnswer {
+// What a read tells: its status, the variable's attributes, which store holds it, and from where up to where its payload stands there. Zeros beside a refusal.
+pub struct Reading {
     pub status: Status,
     pub attributes: u32,
-}
-
-// Where a read finds the variable, or why it is refused.
-pub enum Reading {
-    Refused(Status),
-    Stands(Place),
+    pub nonvolatile: bool,
+    pub from: usize,
+    pub to: usize,
 }
 
 // A dump's status, and beside 0 the length written, beside 5 the length needed.
@@ -83,8 +75,8 @@ fn fresh_start(disabling_allowed: bool) -> SwitchAnswer
     }
 }
 
-// Powers the engine on: fills the volatile store with 0xFF and the policy record with zeros, and hands back switches that are
-// enabled and unlocked. VOLUME_CORRUPTED, with switches that are enabled, locked and without leave to disable, where the
+// Powers the engine on (RULES.md, 10.1): wipes the volatile store and the policy record and hands back the switches of a fresh
+// engine. VOLUME_CORRUPTED, with the switches of a refused start (RULES.md, 8.1), where the
 // non-volatile store is unsound, the volatile one has more than 32,768 bytes or the policy record has another length.
 pub fn power_on(
     nv: &[u8],
@@ -125,11 +117,7 @@ pub fn restart(nv: &[u8], vol: &[u8], policy: &mut [u8], disabling_allowed: bool
         )) ⌝ }
 {
     let checked = stores::check(nv, vol);
-    let PairCheck::Sound {
-        nv_end: _,
-        vol_end: _,
-    } = checked
-    else {
+    let PairCheck::Sound(_) = checked else {
         return refused_start();
     };
     if policy.len() != limits::POLICY_BYTES {
@@ -232,139 +220,71 @@ pub fn query(switches: Switches) -> QueryAnswer
     }
 }
 
-// What the read pair goes by. VOLUME_CORRUPTED where the stores are unsound; INVALID_PARAMETER for a bad name; NOT_FOUND where
-// the variable is absent.
-pub fn look_up(nv: &[u8], vol: &[u8], namespace: &[u8], name: &[u8]) -> Reading
-    ensures { λ r.
-        ⌜ r ≡ readingOf (now (nv .entry)) (now (vol .entry)) (record { namespace = now (namespace .entry); name = now (name .entry) }) ⌝ }
+// What a refused read tells.
+fn refused_reading(status: Status) -> Reading
+    ensures { λ r. ⌜ r ≡ refusedReading status ⌝ }
+{
+    Reading {
+        status,
+        attributes: 0,
+        nonvolatile: false,
+        from: 0,
+        to: 0,
+    }
+}
+
+// What a read tells of the record at a place.
+fn reading_at(nv: &[u8], vol: &[u8], place: Place) -> Reading
+    requires { ⌜ Within (now nv) (now vol) place ⌝ }
+    ensures { λ r. ⌜ r ≡ readingAt (now (nv .entry)) (now (vol .entry)) place ⌝ }
+{
+    let bounds = stores::payload_bounds(nv, vol, place);
+    Reading {
+        status: Status::Success,
+        attributes: stores::attributes_at(nv, vol, place),
+        nonvolatile: place.nonvolatile,
+        from: bounds.from,
+        to: bounds.to,
+    }
+}
+
+// The first call of the read pair: the status, the attributes, and where the payload stands. VOLUME_CORRUPTED where the stores are
+// unsound; INVALID_PARAMETER for a bad name; NOT_FOUND where the variable is absent.
+pub fn read(nv: &[u8], vol: &[u8], namespace: [u8; 16], name: &[u8]) -> Reading
+    ensures is { λ r. ⌜ r ≡ readingOf (now (nv .entry)) (now (vol .entry)) (variable namespace (now (name .entry))) ⌝ }
+    ensures answers { λ r.
+        ⌜ ((policy : Bytes) (w : Switches)
+        → ReadStep (stateOf (now (nv .entry)) (now (vol .entry)) policy w) (variable namespace (now (name .entry))) r) ⌝ }
 {
     let checked = stores::check(nv, vol);
-    let PairCheck::Sound { nv_end, vol_end } = checked else {
-        return Reading::Refused(Status::VolumeCorrupted);
+    let PairCheck::Sound(ends) = checked else {
+        return refused_reading(Status::VolumeCorrupted);
     };
-    if namespace.len() != limits::NAMESPACE_BYTES {
-        return Reading::Refused(Status::InvalidParameter);
-    }
     if !names::is_name(name) {
-        return Reading::Refused(Status::InvalidParameter);
+        return refused_reading(Status::InvalidParameter);
     }
-    let place = stores::locate(nv, nv_end, vol, vol_end, namespace, name);
+    let place = stores::locate(nv, vol, ends, &namespace, name);
     if !stores::is_somewhere(place) {
-        return Reading::Refused(Status::NotFound);
+        return refused_reading(Status::NotFound);
     }
-    Reading::Stands(place)
+    reading_at(nv, vol, place)
 }
 
-// The first call of the read pair: the status and the variable's attributes.
-pub fn read(nv: &[u8], vol: &[u8], namespace: [u8; 16], name: &[u8]) -> ReadAnswer
-    ensures { λ r.
-        ⌜ ((policy : Bytes) (w : Switches)
-        → ReadStep (stateOf (now (nv .entry)) (now (vol .entry)) policy w) (record { namespace = namespace; name = now (name .entry) })
-        (r .status) (r .attributes)) ⌝ }
-{
-    let reading = look_up(nv, vol, &namespace, name);
-    match reading {
-        Reading::Refused(status) => ReadAnswer {
-            status,
-            attributes: 0,
-        },
-        Reading::Stands(place) => ReadAnswer {
-            status: Status::Success,
-            attributes: stores::attributes_at(nv, vol, place),
-        },
-    }
-}
-
-// The payload of the record of `len` bytes at `at`, as a part of the store.
-fn payload_of(s: &[u8], at: usize, len: usize) -> &[u8]
-    requires { ⌜ (at + len ≤ length (now s)) × HeaderFits (part at (at + len) (now s)) ⌝ }
-    ensures { λ r. ⌜ now r ≡ payloadOf (part at (at + len) (now (s .entry))) ⌝ }
-    ensures { λ r. ⌜ ptr r ≡ payloadPlace (ptr (s .entry)) (now (s .entry)) at len ⌝ }
-{
-    let record = &s[at..at + len];
-    let from = at + 32 + slices::get32(record, 8);
-    let end = from + slices::get32(record, 12);
-    &s[from..end]
-}
-
-// The second call of the read pair: the payload as a part of whichever store holds the variable; refused, an empty part.
+// The second call of the read pair (RULES.md, 10.8): the payload as a subslice of its store, and of length 0 where the read is refused.
 pub fn payload<'a>(nv: &'a [u8], vol: &'a [u8], namespace: [u8; 16], name: &[u8]) -> &'a [u8]
     ensures { λ r.
         ⌜ ((policy : Bytes) (w : Switches)
-        → now r ≡ step (stateOf (now (nv .entry)) (now (vol .entry)) policy w)
-        (read (record { namespace = namespace; name = now (name .entry) })) .0 .bytes) ⌝ }
+        → now r ≡ step (stateOf (now (nv .entry)) (now (vol .entry)) policy w) (read (variable namespace (now (name .entry)))) .0 .bytes) ⌝ }
     ensures { λ r.
-        ⌜ PointsInto (ptr (nv .entry)) (ptr (vol .entry)) (now (nv .entry)) (now (vol .entry)) (ptr r)
-        (readingOf (now (nv .entry)) (now (vol .entry)) (record { namespace = namespace; name = now (name .entry) })) ⌝ }
+        ⌜ ptr r ≡ payloadPlace (ptr (nv .entry)) (ptr (vol .entry)) (readingOf (now (nv .entry)) (now (vol .entry)) (variable namespace (now (name .entry)))) ⌝ }
 {
-    let reading = look_up(nv, vol, &namespace, name);
-    match reading {
-        Reading::Refused(_) => &nv[..0],
-        Reading::Stands(place) => match place {
-            Place::NonVolatile { at, len } => payload_of(nv, at, len),
-            Place::Volatile { at, len } => payload_of(vol, at, len),
-            Place::Nowhere => &nv[..0],
-        },
-    }
-}
-
-// A set whose namespace is lent.
-fn set_variable(
-    nv: &mut [u8],
-    vol: &mut [u8],
-    policy: &[u8],
-    switches: Switches,
-    namespace: &[u8],
-    name: &[u8],
-    attributes: u32,
-    payload: &[u8],
-) -> Status
-    ensures { λ r.
-        ⌜ step (stateOf (now (nv .entry)) (now (vol .entry)) (now (policy .entry)) switches)
-        (set (requestOf (now (namespace .entry)) (now (name .entry)) attributes (now (payload .entry))))
-        ≡ (onlyStatus r, stateOf (now (nv .exit)) (now (vol .exit)) (now (policy .entry)) switches) ⌝ }
-{
-    let checked = stores::check(nv, vol);
-    let PairCheck::Sound { nv_end, vol_end } = checked else {
-        return Status::VolumeCorrupted;
-    };
-    let entries = policy::check(policy);
-    let PolicyCheck::Valid { count, used: _ } = entries else {
-        return Status::VolumeCorrupted;
-    };
-    let place = stores::locate(nv, nv_end, vol, vol_end, namespace, name);
-    let decision = decision::decide(
-        policy,
-        count,
-        switches.enabled,
-        nv,
-        nv_end,
-        vol,
-        vol_end,
-        place,
-        namespace,
-        name,
-        attributes,
-        payload,
-    );
-    match decision {
-        Decision::Refuse(status) => status,
-        Decision::Keep => Status::Success,
-        Decision::Delete => {
-            writing::delete(nv, nv_end, vol, vol_end, place, namespace, name);
-            Status::Success
-        }
-        Decision::Store => writing::store_variable(
-            nv,
-            nv_end,
-            vol,
-            vol_end,
-            place,
-            namespace,
-            name,
-            attributes,
-            payload,
-        ),
+    let reading = read(nv, vol, namespace, name);
+    let from = reading.from;
+    let to = reading.to;
+    if reading.nonvolatile {
+        &nv[from..to]
+    } else {
+        &vol[from..to]
     }
 }
 
@@ -389,14 +309,36 @@ pub fn set(
         (set (requestOf namespace (now (name .entry)) attributes (now (payload .entry))))
         ≡ (onlyStatus r, stateOf (now (nv .exit)) (now (vol .exit)) (now (policy .entry)) switches) ⌝ }
 {
-    set_variable(
+    let checked = stores::check(nv, vol);
+    let PairCheck::Sound(ends) = checked else {
+        return Status::VolumeCorrupted;
+    };
+    let entries = policy::check(policy);
+    let PolicyCheck::Valid { count, used: _ } = entries else {
+        return Status::VolumeCorrupted;
+    };
+    let place = stores::locate(nv, vol, ends, &namespace, name);
+    let known = Known { ends, count, place };
+    let decided = set::decide(
+        policy,
+        switches.enabled,
         nv,
         vol,
-        policy,
-        switches,
+        known,
         &namespace,
         name,
         attributes,
         payload,
-    )
+    );
+    set::carry_out(
+        decided,
+        nv,
+        vol,
+        known,
+        &namespace,
+        name,
+        attributes,
+        payload,
+    );
+    set::status_of(decided)
 }

@@ -1,6 +1,6 @@
--- The packed entry as the encoding of its fields: the table of document 01 read from left to right.
+-- The packed entry as the encoding of its fields (RULES.md, 3), from its first byte to its last.
 -- Assumes nothing: these are definitions.
-use Prim.Native.Nat.{ℕ, _+_, _-_, _≤_, _<_}
+use Prim.Native.Nat.{ℕ, _+_, _≤_, _<_}
 use mathlib.Core.Path.{_≡_}
 use mathlib.Core.List.{[], _∷_, _++_}
 use mathlib.Core.Bool.{true, cond}
@@ -8,20 +8,10 @@ use mathlib.Core.Logic.{_⊎_}
 use lib.ListN.{length, getD}
 use lib.Dec.{leb}
 use lib.Bits.{bitAnd}
+use Rattle.limits.specs.Limits.{namespaceBytes, entryVersion, entryHeader}
 use Rattle.slices.specs.Bytes.{Bytes, le16Bytes, le32Bytes, part}
 use Rattle.names.specs.Name.{isName}
-use Rattle.entry.specs.Entry.{
-  offsetToName,
-  namespaceOf,
-  minSize,
-  maxSize,
-  attributesMustHave,
-  attributesCantHave,
-  lockPolicyType,
-  nameOf,
-  triggerOf,
-  triggerValue,
-}
+use Rattle.entry.specs.Entry.{namespaceOf, minSize, maxSize, attributesMustHave, attributesCantHave, lockPolicyType, nameOf, triggerOf, triggerValue}
 
 -- the lock rule: of types 0 to 2 the type; of type 3 the trigger's namespace, Value, the reserved byte, and its name without the zero unit
 pub data Lock : Type 0 where
@@ -53,7 +43,7 @@ lockBytes (plain k) = []
 lockBytes (onVarState namespace value reserved name) = namespace ++ ((value ∷ reserved ∷ []) ++ (name ++ (0 ∷ 0 ∷ [])))
 
 unfoldable pub offsetFor : Fields → ℕ
-offsetFor f = 44 + length (lockBytes (f .lock))
+offsetFor f = entryHeader + length (lockBytes (f .lock))
 
 unfoldable pub sizeFor : Fields → ℕ
 sizeFor f = offsetFor f + length (terminated (f .name))
@@ -66,15 +56,15 @@ unfoldable pub encodeNumbers : Fields → Bytes
 encodeNumbers f = le32Bytes (f .minSize) ++ (le32Bytes (f .maxSize) ++ (le32Bytes (f .mustHave) ++ (le32Bytes (f .cantHave) ++ encodeLock f)))
 
 unfoldable pub encodeEntry : Fields → Bytes
-encodeEntry f = le32Bytes 0x10000 ++ (le16Bytes (sizeFor f) ++ (le16Bytes (offsetFor f) ++ (f .namespace ++ encodeNumbers f)))
+encodeEntry f = le32Bytes entryVersion ++ (le16Bytes (sizeFor f) ++ (le16Bytes (offsetFor f) ++ (f .namespace ++ encodeNumbers f)))
 
 -- the rules of the table, field by field
 abbrev pub LockInRange : Lock → Type 0
 LockInRange (plain k) = k ≤ 2
-LockInRange (onVarState namespace value reserved name) = (length namespace ≡ 16) × (isName name ≡ true)
+LockInRange (onVarState namespace value reserved name) = (length namespace ≡ namespaceBytes) × (isName name ≡ true)
 
 pub record InRange (f : Fields) : Type 0 where
-  pub namespace : length (f .namespace) ≡ 16
+  pub namespace : length (f .namespace) ≡ namespaceBytes
   pub sizes : f .minSize ≤ f .maxSize
   pub maximum : f .maxSize < 4294967296
   pub must : f .mustHave < 4294967296

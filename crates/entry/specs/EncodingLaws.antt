@@ -13,7 +13,7 @@ use lib.Seq.{drop-drop, drop-at, take-at, take-nil, drop-append-seam, getD-drop}
 use lib.Dec.{leb}
 use lib.Bits.{bitAnd}
 use borrow.Author.Tests.{eq-eqb, le-leb, lt-leb, eqb-true, leb-true}
-use Rattle.limits.specs.Limits.{maxEntryBytes}
+use Rattle.limits.specs.Limits.{maxNameSize, entryVersion, triggerNameAt, maxEntryBytes}
 use Rattle.slices.specs.TestLaws.{and-left, and-right, and-intro}
 use Rattle.slices.specs.Bytes.{Bytes, le16, le32, le16Bytes, le32Bytes, part}
 use Rattle.slices.specs.PartLaws.{drop-step, drop-take, part-take, part-rest, part-none, length-part}
@@ -26,7 +26,7 @@ use Rattle.entry.specs.EntryLaws.{
   nameOf-name,
   take-part,
   type-3,
-  least-62,
+  trigger-least,
   trigger-terminated,
   trigger-length,
   trigger-part,
@@ -143,7 +143,7 @@ module _ (e : Bytes) (w : wellFormed e ≡ true) where
       go : (t : Bool) → leb (lockPolicyType e) 2 ≡ t
           → LockInRange (cond t (plain (lockPolicyType e)) (onVarState (part 44 60 e) (triggerValue e) (getD e 61 0) (part 62 (offsetToName e - 2) e)))
       go true q = leb-true (lockPolicyType e) 2 q
-      go false q = (length-part 44 60 e (omega (arith, least-62 e w q, sized e w .offset-most)), trigger-name e w q)
+      go false q = (length-part 44 60 e (omega (arith, trigger-least e w q, sized e w .offset-most)), trigger-name e w q)
 
   offset-is : offsetFor (fieldsOf e) ≡ offsetToName e
   unfolding offsetFor fieldsOf
@@ -181,9 +181,9 @@ module _ (e : Bytes) (w : wellFormed e ≡ true) where
           name = nameOf-name e w;
         }
 
-    version-is : version e ≡ 0x10000
+    version-is : version e ≡ entryVersion
     unfolding headerOk
-    version-is = eqb-true (version e) 0x10000 (and-left _ _ (and-right _ _ (header e w)))
+    version-is = eqb-true (version e) entryVersion (and-left _ _ (and-right _ _ (header e w)))
 
     -- each piece is the entry's own
     pub encode-fields : encodeEntry (fieldsOf e) ≡ e
@@ -212,11 +212,11 @@ module _ (f : Fields) (r : InRange f) where
   lock-least (plain k) h = omega arith
   lock-least (onVarState n v c m) h = rw (length-append n ((v ∷ c ∷ []) ++ (m ++ (0 ∷ 0 ∷ []))), length-append m (0 ∷ 0 ∷ [])) (omega (arith, h .0, isName-length m (h .1)))
 
-  name-most : (n : Bytes) → (n ≡ []) ⊎ (isName n ≡ true) → length (terminated n) ≤ 130
+  name-most : (n : Bytes) → (n ≡ []) ⊎ (isName n ≡ true) → length (terminated n) ≤ maxNameSize
   name-most n (inl z) = rw z (omega arith)
   name-most n (inr h) = rw (terminated-name n h, length-append n (0 ∷ 0 ∷ [])) (omega (arith, isName-length n h))
 
-  offset-most : offsetFor f ≤ 192
+  offset-most : offsetFor f ≤ triggerNameAt + maxNameSize
   unfolding offsetFor
   offset-most = omega (arith, lock-least (f .lock) (r .lock))
 
@@ -258,9 +258,9 @@ module _ (f : Fields) (r : InRange f) where
   unfolding offsetFor
   drop-name = sym (drop-drop (length (lockBytes (f .lock))) 44 (encodeEntry f)) ∙ ap (drop (length (lockBytes (f .lock)))) drop-44 ∙ drop-append-seam (lockBytes (f .lock)) (terminated (f .name))
 
-  get-version : version (encodeEntry f) ≡ 0x10000
+  get-version : version (encodeEntry f) ≡ entryVersion
   unfolding encodeEntry
-  get-version = le32-bytes 0x10000 (le16Bytes (sizeFor f) ++ (le16Bytes (offsetFor f) ++ (f .namespace ++ encodeNumbers f))) (omega arith)
+  get-version = le32-bytes entryVersion (le16Bytes (sizeFor f) ++ (le16Bytes (offsetFor f) ++ (f .namespace ++ encodeNumbers f))) (omega arith)
 
   get-size : sizeField (encodeEntry f) ≡ sizeFor f
   unfolding encodeEntry le32Bytes

@@ -1,6 +1,6 @@
 -- Laws of well-formed entries. Assumes nothing.
 use Prim.Native.Nat.{ℕ, _+_, _-_, _≤_}
-use mathlib.Core.Path.{_≡_, refl, sym, ap, ap₂, _∙_}
+use mathlib.Core.Path.{_≡_, refl, sym, ap, ap₂}
 use mathlib.Core.List.{[]}
 use mathlib.Core.Bool.{Bool, true, false, cond, _||_}
 use mathlib.Core.Logic.{_⊎_, inl, inr}
@@ -10,7 +10,7 @@ use lib.ListN.{length, take, drop, length-drop}
 use lib.Seq.{take-take}
 use lib.Dec.{eqb, leb}
 use borrow.Author.Tests.{eq-eqb, ne-eqb, leb-true, eqb-true}
-use Rattle.limits.specs.Limits.{maxEntryBytes, maxNameBytes, namespaceBytes}
+use Rattle.limits.specs.Limits.{maxNameBytes, maxNameSize, wholeNamespaceRank, entryHeader, triggerNameAt, maxEntryBytes}
 use Rattle.slices.specs.Test.{_and_}
 use Rattle.slices.specs.TestLaws.{and-left, and-right, and-intro}
 use Rattle.slices.specs.Bytes.{Bytes, part, same}
@@ -22,29 +22,29 @@ use Rattle.entry.specs.Entry.{headerOk, lockOk, nameOk, wellFormed, size
 
 -- ---- lengths and places
 pub record Sized (e : Bytes) : Type 0 where
-  pub least : 44 ≤ length e
+  pub least : entryHeader ≤ length e
   pub most : length e ≤ maxEntryBytes
   pub stated : sizeField e ≡ length e
-  pub offset-least : 44 ≤ offsetToName e
+  pub offset-least : entryHeader ≤ offsetToName e
   pub offset-most : offsetToName e ≤ length e
 
-name-most : (e : Bytes) (t : Bool) → nameIsEmpty e ≡ t → (t || isTerminated (part (offsetToName e) (length e) e)) ≡ true → offsetToName e ≤ length e → length e ≤ offsetToName e + 130
+name-most : (e : Bytes) (t : Bool) → nameIsEmpty e ≡ t → (t || isTerminated (part (offsetToName e) (length e) e)) ≡ true → offsetToName e ≤ length e → length e ≤ offsetToName e + maxNameSize
 name-most e true q h l = omega (arith, eqb-true (offsetToName e) (length e) q)
 name-most e false q h l =
     omega (arith, isTerminated-length (part (offsetToName e) (length e) e) h, length-part (offsetToName e) (length e) e (omega arith))
 
-lock-bounds : (e : Bytes) (t : Bool) → leb (lockPolicyType e) 2 ≡ t → lockOk e ≡ true → (44 ≤ offsetToName e) × (offsetToName e ≤ 192)
+lock-bounds : (e : Bytes) (t : Bool) → leb (lockPolicyType e) 2 ≡ t → lockOk e ≡ true → (entryHeader ≤ offsetToName e) × (offsetToName e ≤ triggerNameAt + maxNameSize)
 unfolding lockOk
 lock-bounds e true q h =
-    let h₁ : eqb (offsetToName e) 44 ≡ true = rw q at h in
-    let k = eqb-true (offsetToName e) 44 h₁ in
+    let h₁ : eqb (offsetToName e) entryHeader ≡ true = rw q at h in
+    let k = eqb-true (offsetToName e) entryHeader h₁ in
     (omega arith, omega arith)
 lock-bounds e false q h =
     let h₁ = rw q at h in
     let h₂ = and-right _ _ (and-right _ _ h₁) in
-    let k = leb-true 62 (offsetToName e) (and-left _ _ (and-right _ _ h₁)) in
-    let n = isTerminated-length (part 62 (offsetToName e) e) (and-right _ _ h₂) in
-    let m = length-part 62 (offsetToName e) e (leb-true (offsetToName e) (length e) (and-left _ _ h₂)) in
+    let k = leb-true triggerNameAt (offsetToName e) (and-left _ _ (and-right _ _ h₁)) in
+    let n = isTerminated-length (part triggerNameAt (offsetToName e) e) (and-right _ _ h₂) in
+    let m = length-part triggerNameAt (offsetToName e) e (leb-true (offsetToName e) (length e) (and-left _ _ h₂)) in
     (omega arith, omega (arith, n, m))
 
 pub sized : (e : Bytes) → wellFormed e ≡ true → Sized e
@@ -55,7 +55,7 @@ sized e w =
     let l = leb-true (offsetToName e) (length e) (and-left _ _ n) in
     let k = lock-bounds e (leb (lockPolicyType e) 2) refl (and-left _ _ (and-right _ _ w)) in
     record {
-      least = leb-true 44 (length e) (and-left _ _ h);
+      least = leb-true entryHeader (length e) (and-left _ _ h);
       most = omega (arith, k, name-most e (nameIsEmpty e) refl (and-right _ _ n) l);
       stated = eqb-true (sizeField e) (length e) (and-left _ _ (and-right _ _ (and-right _ _ h)));
       offset-least = k .0;
@@ -101,44 +101,40 @@ nameOf-most e w = go (nameOf-name e w)
     go (inl z) = omega (arith, ap length z)
     go (inr h) = isName-length (nameOf e) h .1
 
--- a name has at most 64 '#', and an empty name ranks behind all
-pub rank-most : (e : Bytes) → wellFormed e ≡ true → rank e ≤ 65
+-- a name has at most 64 '#', and a whole namespace has rank 65
+pub rank-most : (e : Bytes) → wellFormed e ≡ true → rank e ≤ wholeNamespaceRank
 unfolding rank
 rank-most e w = go (nameIsEmpty e)
   where
-    go : (t : Bool) → cond t 65 (wildcards (units (nameOf e))) ≤ 65
+    go : (t : Bool) → cond t wholeNamespaceRank (wildcards (units (nameOf e))) ≤ wholeNamespaceRank
     go true = omega arith
     go false = omega (arith, wildcards-le (units (nameOf e)), units-length (nameOf e), nameOf-most e w)
 
--- the namespace has 16 bytes
-pub length-namespaceOf : (e : Bytes) → wellFormed e ≡ true → length (namespaceOf e) ≡ namespaceBytes
-length-namespaceOf e w = length-part 8 24 e (omega (arith, sized e w .least))
-
 -- ---- the trigger of a type 3 entry
 module _ (e : Bytes) (w : wellFormed e ≡ true) (q : leb (lockPolicyType e) 2 ≡ false) where
-  trigger-tests : (eqb (lockPolicyType e) 3 and leb 62 (offsetToName e) and leb (offsetToName e) (length e) and isTerminated (part 62 (offsetToName e) e)) ≡ true
+  trigger-tests : (eqb (lockPolicyType e) 3 and leb triggerNameAt (offsetToName e) and leb (offsetToName e) (length e) and isTerminated (part triggerNameAt (offsetToName e) e)) ≡ true
   unfolding wellFormed lockOk
   trigger-tests = rw q at (and-left _ _ (and-right _ _ w))
 
   pub type-3 : lockPolicyType e ≡ 3
   type-3 = eqb-true (lockPolicyType e) 3 (and-left _ _ trigger-tests)
 
-  pub least-62 : 62 ≤ offsetToName e
-  least-62 = leb-true 62 (offsetToName e) (and-left _ _ (and-right _ _ trigger-tests))
+  pub trigger-least : triggerNameAt ≤ offsetToName e
+  trigger-least = leb-true triggerNameAt (offsetToName e) (and-left _ _ (and-right _ _ trigger-tests))
 
-  pub trigger-terminated : isTerminated (part 62 (offsetToName e) e) ≡ true
+  pub trigger-terminated : isTerminated (part triggerNameAt (offsetToName e) e) ≡ true
   trigger-terminated = and-right _ _ (and-right _ _ (and-right _ _ trigger-tests))
 
-  pub trigger-length : length (part 62 (offsetToName e) e) ≡ offsetToName e - 62
-  trigger-length = length-part 62 (offsetToName e) e (sized e w .offset-most)
+  pub trigger-length : length (part triggerNameAt (offsetToName e) e) ≡ offsetToName e - triggerNameAt
+  trigger-length = length-part triggerNameAt (offsetToName e) e (sized e w .offset-most)
 
-  pub trigger-part : take (length (part 62 (offsetToName e) e) - 2) (part 62 (offsetToName e) e) ≡ part 62 (offsetToName e - 2) e
+  pub trigger-part : take (length (part triggerNameAt (offsetToName e) e) - 2) (part triggerNameAt (offsetToName e) e) ≡ part triggerNameAt (offsetToName e - 2) e
   trigger-part =
-      let k : offsetToName e - 62 - 2 ≡ offsetToName e - 2 - 62 = omega arith in
-      rw (trigger-length, k) (take-take (offsetToName e - 2 - 62) (offsetToName e - 62) (drop 62 e) (omega arith))
+      let k : offsetToName e - triggerNameAt - 2 ≡ offsetToName e - 2 - triggerNameAt = omega arith in
+      rw (trigger-length, k) (take-take (offsetToName e - 2 - triggerNameAt) (offsetToName e - triggerNameAt) (drop triggerNameAt e) (omega arith))
 
-  pub trigger-name : isName (part 62 (offsetToName e - 2) e) ≡ true
-  trigger-name = rw trigger-part at (isTerminated-name (part 62 (offsetToName e) e) trigger-terminated)
+  pub trigger-name : isName (part triggerNameAt (offsetToName e - 2) e) ≡ true
+  trigger-name = rw trigger-part at (isTerminated-name (part triggerNameAt (offsetToName e) e) trigger-terminated)
 
 -- ---- the same namespace and name
 pub record Same (e f : Bytes) : Type 0 where
@@ -153,9 +149,6 @@ pub sameTarget-of : (e f : Bytes) → Same e f → sameTarget e f ≡ true
 unfolding sameTarget
 sameTarget-of e f s = and-intro _ _ (same-of _ _ (s .namespace)) (same-of _ _ (s .name))
 
-pub sameTarget-refl : (e : Bytes) → sameTarget e e ≡ true
-sameTarget-refl e = sameTarget-of e e (record { namespace = refl; name = refl })
-
 pub sameTarget-sym : (e f : Bytes) → sameTarget e f ≡ sameTarget f e
 unfolding sameTarget
 sameTarget-sym e f = ap₂ _and_ (same-sym (namespaceOf e) (namespaceOf f)) (same-sym (nameOf e) (nameOf f))
@@ -166,6 +159,3 @@ unfolding sameTarget
 sameTarget-alike e f h g =
     let s = sameTarget-same e f h in
     ap₂ (λ n m. same n (namespaceOf g) and same m (nameOf g)) (s .namespace) (s .name)
-
-pub sameTarget-trans : (e f g : Bytes) → sameTarget e f ≡ true → sameTarget f g ≡ true → sameTarget e g ≡ true
-sameTarget-trans e f g h k = sameTarget-alike e f h g ∙ k

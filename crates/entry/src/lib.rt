@@ -1,10 +1,7 @@
 // The packed policy entry.
 ghost use mathlib.Core.Path.{_≡_};
 ghost use mathlib.Core.Bool.{true};
-ghost use lib.ListN.{length};
-ghost use Rattle.slices.specs.Bytes.{same};
-ghost use Rattle.limits.specs.Limits.{namespaceBytes};
-ghost use Rattle.entry.specs.Entry.{headerOk, lockOk, nameOk, wellFormed, nameOf, lockOf, entryOf, parse, targets, rank, sameTarget};
+ghost use Rattle.entry.specs.Entry.{headerOk, lockOk, nameOk, wellFormed, nameOf, lockOf, entryOf, parse, sameTarget};
 
 // The trigger of the fourth lock rule: the value that locks, and where its namespace and its name stand in the entry's bytes.
 // The name's last byte before its closing zero unit is at name_end - 1.
@@ -15,7 +12,7 @@ pub struct Trigger {
     pub name_end: usize,
 }
 
-// The lock rule of an entry: one of four kinds, and only the fourth carries a trigger.
+// The lock rule of an entry (RULES.md, 5).
 pub enum LockRule {
     NoLock,
     LockNow,
@@ -39,23 +36,23 @@ pub enum Parsed {
     Malformed,
 }
 
-// 44 bytes at least, Version, Size, the order of the two sizes, and no common bit.
+// A whole header, Version, Size, the order of the two sizes, and no common bit.
 fn header_ok(e: &[u8]) -> bool
     ensures { λ r. ⌜ r ≡ headerOk (now (e .entry)) ⌝ }
 {
     if e.len() < limits::ENTRY_HEADER {
         return false;
     }
-    if slices::le32(e, 0) != 0x10000 {
+    if slices::le32(e, limits::VERSION_AT) != limits::ENTRY_VERSION {
         return false;
     }
-    if slices::le16(e, 4) as usize != e.len() {
+    if slices::le16(e, limits::SIZE_AT) as usize != e.len() {
         return false;
     }
-    if slices::le32(e, 28) < slices::le32(e, 24) {
+    if slices::le32(e, limits::MAX_SIZE_AT) < slices::le32(e, limits::MIN_SIZE_AT) {
         return false;
     }
-    if slices::le32(e, 32) & slices::le32(e, 36) != 0 {
+    if slices::le32(e, limits::MUST_HAVE_AT) & slices::le32(e, limits::CANT_HAVE_AT) != 0 {
         return false;
     }
     true
@@ -65,28 +62,28 @@ fn header_ok(e: &[u8]) -> bool
 fn lock_ok(e: &[u8]) -> bool
     ensures { λ r. ⌜ r ≡ lockOk (now (e .entry)) ⌝ }
 {
-    let kind = slices::byte(e, 40);
-    let offset = slices::le16(e, 6) as usize;
+    let kind = slices::byte(e, limits::LOCK_TYPE_AT);
+    let offset = slices::le16(e, limits::OFFSET_TO_NAME_AT) as usize;
     if kind <= 2 {
         return offset == limits::ENTRY_HEADER;
     }
     if kind != 3 {
         return false;
     }
-    if offset < limits::TRIGGER_HEADER {
+    if offset < limits::TRIGGER_NAME_AT {
         return false;
     }
     if e.len() < offset {
         return false;
     }
-    names::is_terminated(&e[limits::TRIGGER_HEADER..offset])
+    names::is_terminated(&e[limits::TRIGGER_NAME_AT..offset])
 }
 
 // The entry's own name: empty, or a name with its zero unit.
 fn name_ok(e: &[u8]) -> bool
     ensures { λ r. ⌜ r ≡ nameOk (now (e .entry)) ⌝ }
 {
-    let start = slices::le16(e, 6) as usize;
+    let start = slices::le16(e, limits::OFFSET_TO_NAME_AT) as usize;
     if e.len() < start {
         return false;
     }
@@ -114,7 +111,7 @@ fn lock_of(e: &[u8]) -> LockRule
     requires { ⌜ wellFormed (now e) ≡ true ⌝ }
     ensures { λ r. ⌜ r ≡ lockOf (now (e .entry)) ⌝ }
 {
-    let kind = slices::byte(e, 40);
+    let kind = slices::byte(e, limits::LOCK_TYPE_AT);
     if kind == 0 {
         return LockRule::NoLock;
     }
@@ -125,10 +122,10 @@ fn lock_of(e: &[u8]) -> LockRule
         return LockRule::LockOnCreate;
     }
     LockRule::LockOnVarState(Trigger {
-        value: slices::byte(e, 60),
-        namespace: limits::ENTRY_HEADER,
-        name: limits::TRIGGER_HEADER,
-        name_end: slices::le16(e, 6) as usize - 2,
+        value: slices::byte(e, limits::TRIGGER_VALUE_AT),
+        namespace: limits::TRIGGER_NAMESPACE_AT,
+        name: limits::TRIGGER_NAME_AT,
+        name_end: slices::le16(e, limits::OFFSET_TO_NAME_AT) as usize - 2,
     })
 }
 
@@ -140,11 +137,11 @@ pub fn entry_of(e: &[u8]) -> Entry
     let lock = lock_of(e);
     Entry {
         size: e.len(),
-        offset_to_name: slices::le16(e, 6) as usize,
-        min_size: slices::le32(e, 24),
-        max_size: slices::le32(e, 28),
-        attributes_must_have: slices::le32(e, 32),
-        attributes_cant_have: slices::le32(e, 36),
+        offset_to_name: slices::le16(e, limits::OFFSET_TO_NAME_AT) as usize,
+        min_size: slices::le32(e, limits::MIN_SIZE_AT),
+        max_size: slices::le32(e, limits::MAX_SIZE_AT),
+        attributes_must_have: slices::le32(e, limits::MUST_HAVE_AT),
+        attributes_cant_have: slices::le32(e, limits::CANT_HAVE_AT),
         lock,
     }
 }
@@ -164,7 +161,7 @@ pub fn name_bytes(e: &[u8]) -> &[u8]
     requires { ⌜ wellFormed (now e) ≡ true ⌝ }
     ensures { λ r. ⌜ now r ≡ nameOf (now (e .entry)) ⌝ }
 {
-    let start = slices::get16(e, 6);
+    let start = slices::get16(e, limits::OFFSET_TO_NAME_AT);
     let end = e.len();
     if start == end {
         return &e[..0];
@@ -172,27 +169,16 @@ pub fn name_bytes(e: &[u8]) -> &[u8]
     &e[start..end - 2]
 }
 
-// Whether two namespaces are equal. No exit before the end, so that it is compiled to one wide compare.
-pub fn same_namespace(a: &[u8], b: &[u8]) -> bool
-    requires { ⌜ (length (now a) ≡ namespaceBytes) × (length (now b) ≡ namespaceBytes) ⌝ }
-    ensures { λ r. ⌜ r ≡ same (now (a .entry)) (now (b .entry)) ⌝ }
-{
-    let mut ok = true;
-    let mut i = 0;
-    while i < limits::NAMESPACE_BYTES {
-        ok = ok & (a[i] == b[i]);
-        i += 1;
-    }
-    ok
-}
-
 // Whether two well-formed entries have the same namespace and the same name: the names first, since most entries share a namespace.
 pub fn same_target(e: &[u8], f: &[u8]) -> bool
     requires { ⌜ (wellFormed (now e) ≡ true) × (wellFormed (now f) ≡ true) ⌝ }
     ensures { λ r. ⌜ r ≡ sameTarget (now (e .entry)) (now (f .entry)) ⌝ }
 {
-    if !slices::equal(name_bytes(e), name_bytes(f)) {
+    if !names::same_name(name_bytes(e), name_bytes(f)) {
         return false;
     }
-    same_namespace(&e[8..24], &f[8..24])
+    names::same_namespace(
+        &e[limits::NAMESPACE_AT..limits::MIN_SIZE_AT],
+        &f[limits::NAMESPACE_AT..limits::MIN_SIZE_AT],
+    )
 }

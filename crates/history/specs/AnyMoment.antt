@@ -1,4 +1,4 @@
--- "At any places in it, as often as you like": where rebuilds may stand, from the same laws of a machine. Demand 3 is of
+-- Where rebuilds may stand, and how often (RULES.md, 12.3), from the same laws of a machine. Demand 3 is of
 -- proper lists; here is that a list stays proper with one more dump or rebuild, and what that says of a history alone.
 use mathlib.Core.Path.{_≡_, refl, sym, _∙_, ap, subst, subst⁻¹}
 use mathlib.Core.List.{List, [], _∷_, _++_, map, append-assoc, append-nil, List·Permᴰ, List·Permᴰ·trans, Permᴰ·refl, Permᴰ·symm}
@@ -17,7 +17,7 @@ use Rattle.history.specs.HistoryLaws.{Laws, complete-push, holds-after, 
 module _ (M : Machine) where
   open Machine M using (State, Call, step, kind, entries, stateIn, dump, CanDump)
 
-  -- whether the last call of a list that was not refused was cut (E9)
+  -- whether the last call of a list that was not refused was cut
   abbrev pub cutAtEnd : Bool → State → Items M → Bool
   cutAtEnd t s [] = t
   cutAtEnd t s (call c ∷ is) = cutAtEnd (cutAfter M t (outcomeOf M s c)) (step s c .1) is
@@ -31,14 +31,14 @@ module _ (M : Machine) where
   pastAfter past s (ownDump b ∷ is) = pastAfter (event M s (dump b) ∷ past) (step s (dump b) .1) is
   pastAfter past s (rebuild ds x ∷ is) = pastAfter past (end M s (rebuilding M s (registered M ds x))) is
 
-  -- no registration, power-on or restart of the history succeeds in a list
+  -- no call of the history in a list outdates a dump
   abbrev pub NoneOutdates : State → Items M → Type 0
   NoneOutdates s [] = Unit
   NoneOutdates s (call c ∷ is) = (outdates M (kind c) (outcomeOf M s c) ≡ false) × NoneOutdates (step s c .1) is
   NoneOutdates s (ownDump b ∷ is) = NoneOutdates (step s (dump b) .1) is
   NoneOutdates s (rebuild ds x ∷ is) = NoneOutdates (end M s (rebuilding M s (registered M ds x))) is
 
-  -- no call is ever cut: before E9
+  -- no call is ever cut
   abbrev pub NeverCut : Type 0
   NeverCut = (s : State) (c : Call) → outcomeOf M s c ≡ cut → ⊥
 
@@ -115,7 +115,7 @@ module _ (M : Machine) where
       → ProperHistory M (cutAtEnd false s is) (endWith M s is) cs → Proper M false [] s (is ++ map call cs)
   append-history is cs s p h = proper-append is (map call cs) false [] s p (history-proper cs _ _ _ h)
 
-  -- BEFORE E9 these are any calls
+  -- where no call is ever cut these are any calls
   module _ (never : NeverCut) where
     never-after : (s : State) (c : Call) → cutAfter M false (outcomeOf M s c) ≡ false
     never-after s c = go (outcomeOf M s c) refl
@@ -226,7 +226,7 @@ module _ (M : Machine) where
         }))
         (p .3)
 
-    -- entries after calls of which none is a power-on or restart that succeeded: those registered stand behind
+    -- entries after calls of which none is a granted start: those registered stand behind
     after-since : (κ : Kind (Entry M)) (r : Outcome) (l : Entries M) → restarts M κ r ≡ false → entriesAfter M κ r l ≡ l ++ registeredBy M κ r
     after-since starts granted l h = absurd (true≢false h)
     after-since starts refused l h = sym (append-nil l)
@@ -266,7 +266,7 @@ module _ (M : Machine) where
           subst⁻¹ (Complete M (entries (endWith M s xs))) (past-append xs (call (dump b) ∷ []) [] s)
           (own-dump-complete b (pastAfter [] s xs) (endWith M s xs) (reached xs p u) room)
 
-      -- THE ENTRIES AFTER A REBUILD, in order or not, and calls: as it registered them, those registered since behind
+      -- THE ENTRIES AFTER A REBUILD, in order or not, and calls: in the rebuild's order, and behind them what was registered later
       pub entries-after-rebuild : (xs : Items M) (ds : Entries M) (x : Order M) (cs : List Call) → Proper M false [] s (xs ++ (rebuild ds x ∷ []))
           → cutAtEnd false s xs ≡ false → ProperHistory M false (endWith M s (xs ++ (rebuild ds x ∷ []))) cs
           → NoneRestarts M (endWith M s (xs ++ (rebuild ds x ∷ []))) cs
@@ -330,8 +330,7 @@ module _ (M : Machine) where
           → Complete M ds (pastAfter [] s is) → Permitted M ds x → Proper M false [] s (is ++ (rebuild ds x ∷ []))
       append-rebuild is ds x p u d m = proper-append is (rebuild ds x ∷ []) false [] s p (u, d, m, tt)
 
-      -- an own dump with room serves a rebuild at any later moment, in any permitted order, unless the history outdates it (so
-      -- in E10 a dump added just before exit serves after it)
+      -- an own dump with room serves a rebuild at any later moment, in any permitted order, unless the history outdates it
       pub dump-now-rebuild-later : (xs ys : Items M) (b : Buffer M) (x : Order M) → Proper M false [] s (xs ++ ys)
           → cutAtEnd false s xs ≡ false → CanDump (endWith M s xs) b → NoneOutdates (endWith M s xs) ys
           → cutAtEnd false (endWith M s xs) ys ≡ false → Permitted M (entries (endWith M s xs)) x
@@ -365,6 +364,6 @@ module _ (M : Machine) where
                 end-append cs₁ (r ++ cs₂) s ∙ end-append r cs₂ z ∙ ap (λ y. end M y cs₂) same ∙ sym (end-append cs₁ cs₂ s);
           }
 
-      -- and before E9 of any two lists of calls
+      -- and, where no call is ever cut, of any two lists of calls
       pub one-rebuild : NeverCut → (cs₁ cs₂ : List Call) → OneRebuild s cs₁ cs₂
       one-rebuild never cs₁ cs₂ = one-rebuild-uncut cs₁ cs₂ (any-history never cs₁ s) (never-cut never (map call cs₁) s)

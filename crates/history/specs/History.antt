@@ -1,4 +1,4 @@
--- Demand 3 over any machine, document 01's "Histories and rebuilds": what a history with rebuilds is, and what is claimed.
+-- Demand 3 over any machine (RULES.md, 12): what a history with rebuilds is, and what is claimed.
 -- Nothing here knows a byte, a store or a switch, and of calls only those that a rebuild makes. Which order of the entries stands when is fixed here; what
 -- another order changes in a state and in an answer is the machine's, `stateIn` and `answerIn`.
 -- Assumes nothing: these are definitions.
@@ -10,7 +10,7 @@ use mathlib.Core.Logic.{_⊎_}
 use Prim.Native.Nat.{ℕ}
 use Rattle.lists.specs.Lists.{All, Pairs, flat, RanksDiffer}
 
--- Granted is status 0. "Refused means a status other than 0." A call that was cut (E9) is neither
+-- Granted is status 0, refused any other. A call that was cut, stopped half-way by a power failure, is neither
 pub data Outcome : Type 0 where
   granted : Outcome
   refused : Outcome
@@ -37,7 +37,7 @@ pub data Kind (Entry : Type 0) : Type 0 where
   -- any other: they stay
   keeps : Kind Entry
 
--- "Rebuilds stand before, between or after the calls." An entry is a list of symbols, and so is a buffer
+-- The items of a list: calls of the history, and between them what rebuilds do (RULES.md, 12.3). An entry is a list of symbols, and so is a buffer
 pub data ItemOf (Call Symbol : Type 0) : Type 0 where
   -- a call of the history
   call : Call → ItemOf Call Symbol
@@ -75,9 +75,9 @@ pub record Machine : Type 1 where
   pub restart : State → Call
   pub register : List Symbol → Call
   pub closing : State → List Call
-  -- where a rebuild's own dump has to be granted: the buffer has room (and, E10, it is not after exit)
+  -- where a rebuild's own dump has to be granted: the buffer has room
   pub CanDump : State → List Symbol → Type 0
-  -- E9: the calls that may follow one that was cut
+  -- the calls that may follow one that was cut
   pub startsAfterCut : Call → Bool
 
 module _ (M : Machine) where
@@ -104,7 +104,7 @@ module _ (M : Machine) where
   abbrev pub outcomeOf : State → Call → Outcome
   outcomeOf s c = outcome (step s c .0)
 
-  -- A HISTORY ALONE. Each call is lent the state "as the call before left it": the answers, the end state, and that each
+  -- A HISTORY ALONE (RULES.md, 12.1), each call from the state that its predecessor left: the answers, the end state, and that each
   -- call is granted
   abbrev pub answers : State → List Call → List Answer
   answers s [] = []
@@ -118,7 +118,7 @@ module _ (M : Machine) where
   AllGranted s [] = Unit
   AllGranted s (c ∷ cs) = (outcomeOf s c ≡ granted) × AllGranted (step s c .1) cs
 
-  -- A REBUILD. "The old engine is the state just before the rebuild": restart, register each entry once, disable and lock
+  -- A REBUILD (RULES.md, 12.3) in the state s: restart, one registration for each entry, then disable and lock as in s
   abbrev pub rebuilding : State → Entries → List Call
   rebuilding s o = restart s ∷ (map register o ++ closing s)
 
@@ -156,7 +156,7 @@ module _ (M : Machine) where
   history (ownDump b ∷ is) = history is
   history (rebuild ds x ∷ is) = history is
 
-  -- COMPLETE DUMPS. What counts for them are the calls of the history and the rebuilds' own dumps, each with its answer, the
+  -- COMPLETE DUMPS (RULES.md, 12.2). What counts for them are the calls of the history and the rebuilds' own dumps, each with its answer, the
   -- latest first. A rebuild's restart and registrations hold no dump and outdate none
   pub record Event : Type 0 where
     pub made : Call
@@ -168,38 +168,37 @@ module _ (M : Machine) where
   abbrev pub event : State → Call → Event
   event s c = record { made = c; got = step s c .0 }
 
-  -- a registration, power-on or restart that succeeded: dumps taken before it are no longer complete
+  -- a granted registration, power-on or restart: dumps taken before it are no longer complete
   abbrev pub outdates : Kind Entry → Outcome → Bool
   outdates starts r = ifGranted r true false
   outdates (registers e) r = ifGranted r true false
   outdates dumps r = false
   outdates keeps r = false
 
-  -- a dump that "answered 0", whose bytes are the well-formed entries ds end to end
+  -- a granted dump, whose bytes are the well-formed entries ds end to end
   pub record DumpOf (ds : Entries) (c : Call) (a : Answer) : Type 0 where
     pub isDump : kind c ≡ dumps
     pub isGranted : outcome a ≡ granted
     pub areFormed : All (λ e. formed e ≡ true) ds
     pub areDumped : flat ds ≡ dumped a
 
-  -- "A complete dump answered 0 and was taken, by the history or by the rebuild itself, before the rebuild's restart and
-  -- after the last registration, power-on or restart of the history that had succeeded by then"
+  -- complete: such a dump is in the past, and nothing behind it outdates it
   abbrev pub Complete : Entries → Past → Type 0
   Complete ds [] = ⊥
   Complete ds (e ∷ past) =
       DumpOf ds (e .made) (e .got) ⊎ ((outdates (kind (e .made)) (outcome (e .got)) ≡ false) × Complete ds past)
 
-  -- THE ORDERS. "no two of equal rank target one variable", and "a variable is here any namespace with any name that step 1
-  -- takes, whether or not it exists"
+  -- THE ORDERS (RULES.md, 12.4). Unambiguous: of all variables with a name that a set takes, stored or not, none is targeted by two of the
+  -- entries at one rank
   abbrev pub Unambiguous : Entries → Type 0
   Unambiguous ds = (v : Variable) → named v ≡ true → Pairs (RanksDiffer rank (λ e. targets e v)) ds
 
-  -- the dump's own order; or under that condition any other, in which "each of its entries is registered once"
+  -- the dump's own order; or under that condition any permutation of it
   abbrev pub Permitted : Entries → Order → Type 0
   Permitted ds none = Unit
   Permitted ds (some o) = List·Permᴰ ds o × Unambiguous ds
 
-  -- E9: what may follow a call that was cut; and whether the last call that was not refused was cut
+  -- what may follow a call that was cut; and whether the last call that was not refused was cut
   abbrev pub MayFollow : Bool → Call → Type 0
   MayFollow true c = startsAfterCut c ≡ true
   MayFollow false c = Unit
@@ -209,8 +208,8 @@ module _ (M : Machine) where
   cutAfter t refused = t
   cutAfter t cut = true
 
-  -- WHICH LISTS: "of any length, in any order", refused calls too, with rebuilds at any places, each from a complete dump in
-  -- a permitted order; after a call that was cut (E9) only some calls, and no own dump and no rebuild
+  -- WHICH LISTS: calls as they come, refused ones too, with rebuilds at any places, each from a complete dump in
+  -- a permitted order; after a call that was cut only some calls, and no own dump and no rebuild
   abbrev pub Proper : Bool → Past → State → Items → Type 0
   Proper t past s [] = Unit
   Proper t past s (call c ∷ is) =
@@ -224,7 +223,7 @@ module _ (M : Machine) where
   ProperHistory t s [] = Unit
   ProperHistory t s (c ∷ cs) = MayFollow t c × ProperHistory (cutAfter t (outcomeOf s c)) (step s c .1) cs
 
-  -- every rebuild registers "the entries of a complete dump in order"
+  -- every rebuild registers in the order of its dump
   abbrev pub InOrder : Items → Type 0
   InOrder [] = Unit
   InOrder (call c ∷ is) = InOrder is
@@ -232,8 +231,7 @@ module _ (M : Machine) where
   InOrder (rebuild ds none ∷ is) = InOrder is
   InOrder (rebuild ds (some o) ∷ is) = ⊥
 
-  -- WHAT DIFFERS. "After another order the policy record and each later dump that answers 0 hold the same entries, in the
-  -- order the last rebuild registered them", and "all else is equal"
+  -- WHAT DIFFERS, where an order stands (RULES.md, 12.5): the state and the answer as the machine has them in that order
   abbrev pub stateBy : Order → State → State
   stateBy none s = s
   stateBy (some o) s = stateIn o s
@@ -242,14 +240,14 @@ module _ (M : Machine) where
   answerBy c none a = a
   answerBy c (some o) a = answerIn c o a
 
-  -- "those registered since behind them"
+  -- the entries after a call: a registered one stands last, a start leaves none
   abbrev pub entriesAfter : Kind Entry → Outcome → Entries → Entries
   entriesAfter starts r l = ifGranted r [] l
   entriesAfter (registers e) r l = ifGranted r (l ++ (e ∷ [])) l
   entriesAfter dumps r l = l
   entriesAfter keeps r l = l
 
-  -- "up to the next power-on or restart of the history"
+  -- the order after a call: a granted start ends it
   abbrev pub orderIn : Kind Entry → Outcome → Entries → Order
   orderIn starts r o = ifGranted r none (some o)
   orderIn (registers e) r o = some (entriesAfter (registers e) r o)
@@ -282,7 +280,7 @@ module _ (M : Machine) where
   answersInOrder w s (ownDump b ∷ is) = answersInOrder w s is
   answersInOrder w s (rebuild ds x ∷ is) = answersInOrder (orderRebuilt w ds x) s is
 
-  -- "the same entries": whatever order stands, now and at every moment, is a permutation of the plain history's entries
+  -- whatever order stands, now and at every moment, is a permutation of the plain history's entries
   abbrev pub SameEntries : Order → State → Type 0
   SameEntries none s = Unit
   SameEntries (some o) s = List·Permᴰ (entries s) o
@@ -294,7 +292,7 @@ module _ (M : Machine) where
   AlwaysSameEntries w s (ownDump b ∷ is) = AlwaysSameEntries w s is
   AlwaysSameEntries w s (rebuild ds x ∷ is) = SameEntries w s × AlwaysSameEntries (orderRebuilt w ds x) s is
 
-  -- REFUSED CALLS STRUCK: from a list with rebuilds, from a history alone, and their answers from the answers
+  -- REFUSED CALLS STRUCK (RULES.md, 12.6): from a list with rebuilds, from a history alone, and their answers from the answers
   abbrev pub struck : State → Items → Items
   struck s [] = []
   struck s (call c ∷ is) = ifRefused (outcomeOf s c) (struck (step s c .1) is) (call c ∷ struck (step s c .1) is)
@@ -310,9 +308,9 @@ module _ (M : Machine) where
   struckAnswers [] = []
   struckAnswers (a ∷ l) = ifRefused (outcome a) (struckAnswers l) (a ∷ struckAnswers l)
 
-  -- DEMAND 3, "a single claim about the whole list with its rebuilds, and not one for each call", from a state
+  -- DEMAND 3 (RULES.md, 12.5 and 12.6), of one list as a whole, from a state
   pub record Demand3 (s : State) (is : Items) : Type 0 where
-    -- "Every step of every rebuild succeeds" (an own dump where `CanDump`)
+    -- every call of every rebuild is granted (an own dump where `CanDump`)
     pub succeed : RebuildsSucceed s is
     -- answers and end state are those without the rebuilds, but for the order that stands, which is a permutation of the same
     -- entries
@@ -323,7 +321,7 @@ module _ (M : Machine) where
     pub exactAnswers : InOrder is → answersWith s is ≡ answers s (history is)
     pub exactEnd : InOrder is → endWith s is ≡ end s (history is)
     -- every refused call struck: the list is again a proper one, of the history without its refused calls, and has no refused
-    -- call; "all other calls get the same answers and the end state is the same"
+    -- call; the calls that are left get the answers that they got, and the end is the same
     pub struckProper : Proper false [] s (struck s is)
     pub struckHistory : history (struck s is) ≡ struckCalls s (history is)
     pub struckNoneRefused : All (λ a. outcome a ≡ refused → ⊥) (answersWith s (struck s is))

@@ -1,6 +1,6 @@
--- The order that stands, in document 01's words: after a rebuild in another order, or in order where another stood, and calls of the
--- history of which none is a power-on or restart that succeeded, it is the order in which the rebuild registered, with the entries
--- registered since behind it; a power-on or restart that succeeded ends it. Assumes nothing.
+-- The order that stands (RULES.md, 12.4): after a rebuild in another order, or in order where another stood, and calls of the
+-- history of which none is a granted start, it is the order in which the rebuild registered, and what is registered later
+-- stands behind it; a granted start ends it. Assumes nothing.
 use mathlib.Core.Path.{_≡_, refl, sym, _∙_, ap, ap₂}
 use mathlib.Core.List.{List, [], _∷_, _++_, map, append-assoc, append-nil}
 use mathlib.Core.Bool.{Bool, true, false, true≢false}
@@ -25,7 +25,7 @@ module _ (M : Machine) where
   registeredSince s [] = []
   registeredSince s (c ∷ cs) = registeredBy (kind c) (outcomeOf M s c) ++ registeredSince (step s c .1) cs
 
-  -- no call is a power-on or restart that succeeded
+  -- no call is a granted start
   abbrev pub restarts : Kind (Entry M) → Outcome → Bool
   restarts starts r = ifGranted r true false
   restarts (registers e) r = false
@@ -78,7 +78,7 @@ module _ (M : Machine) where
       ∙ ap (λ w. standingOrder M (orderRebuilt M w ds none) (end M s (history M xs)) (map call cs)) h
       ∙ behind cs (end M s (history M xs)) ds n
 
-  -- A POWER-ON OR RESTART THAT SUCCEEDED ENDS IT
+  -- A GRANTED START ENDS IT
   start-ends : (w : Order M) → orderAfter M starts granted w ≡ none
   start-ends none = refl
   start-ends (some o) = refl

@@ -1,4 +1,4 @@
--- The numbers of document 01, once; `src/lib.rt` has those that the code compares with.
+-- The limits (RULES.md, 11), once for the rules; `src/lib.rt` has those that the code compares with.
 -- Assumes nothing: these are definitions.
 use Prim.Native.Nat.{ℕ, suc, _+_, _*_}
 
@@ -17,32 +17,86 @@ maxNameSize = maxNameBytes + 2
 abbrev pub wholeNamespaceRank : ℕ
 wholeNamespaceRank = suc maxUnits
 
+-- behind every rank: no entry
+abbrev pub noRank : ℕ
+noRank = suc wholeNamespaceRank
+
 -- the bytes of a namespace
 abbrev pub namespaceBytes : ℕ
 namespaceBytes = 16
 
--- an entry has 44 bytes before what its lock type and its name add, and 62 before the trigger's name
+-- the Version of an entry
+abbrev pub entryVersion : ℕ
+entryVersion = 0x10000
+
+-- the byte at which each field of an entry begins; the namespace ends where MinSize begins
+abbrev pub versionAt : ℕ
+versionAt = 0
+
+abbrev pub sizeAt : ℕ
+sizeAt = 4
+
+abbrev pub offsetToNameAt : ℕ
+offsetToNameAt = 6
+
+abbrev pub namespaceAt : ℕ
+namespaceAt = 8
+
+abbrev pub minSizeAt : ℕ
+minSizeAt = 24
+
+abbrev pub maxSizeAt : ℕ
+maxSizeAt = 28
+
+abbrev pub mustHaveAt : ℕ
+mustHaveAt = 32
+
+abbrev pub cantHaveAt : ℕ
+cantHaveAt = 36
+
+abbrev pub lockTypeAt : ℕ
+lockTypeAt = 40
+
+-- an entry has 44 bytes before what its lock type and its name add
 abbrev pub entryHeader : ℕ
 entryHeader = 44
 
-abbrev pub triggerHeader : ℕ
-triggerHeader = 62
+-- the fields that lock type 3 adds; the trigger's namespace ends where its Value begins, its name, with its zero unit, at OffsetToName
+abbrev pub triggerNamespaceAt : ℕ
+triggerNamespaceAt = 44
 
--- an entry has 44 to 322 bytes
+abbrev pub triggerValueAt : ℕ
+triggerValueAt = 60
+
+abbrev pub triggerNameAt : ℕ
+triggerNameAt = 62
+
+-- the most bytes of an entry: 322
 abbrev pub maxEntryBytes : ℕ
-maxEntryBytes = triggerHeader + maxNameSize + maxNameSize
+maxEntryBytes = triggerNameAt + maxNameSize + maxNameSize
 
--- an engine holds at most 64 entries
+-- the most entries of an engine
 abbrev pub maxEntries : ℕ
 maxEntries = 64
 
--- whose Sizes sum to at most 8,192: the length of the policy record
+-- the most that their Sizes sum to, which is the length of the policy record
 abbrev pub policyBytes : ℕ
 policyBytes = 8192
+
+-- the attribute bits that a request may have
+abbrev pub knownAttributes : ℕ
+knownAttributes = 0x47
 
 -- the most bytes of a payload
 abbrev pub maxPayload : ℕ
 maxPayload = 1024
+
+-- the bytes of a record before its name, and the state of one that is complete
+abbrev pub recordHeader : ℕ
+recordHeader = 32
+
+abbrev pub recordAdded : ℕ
+recordAdded = 0x3F
 
 -- the most bytes of a store
 abbrev pub maxStore : ℕ

@@ -29,7 +29,7 @@ module _ {A : Type 0} where
   any p (a ∷ l) = p a || any p l
 
   -- lists end to end
-  abbrev pub flat : List (List A) → List A
+  unfoldable pub flat : List (List A) → List A
   flat [] = []
   flat (e ∷ es) = e ++ flat es
 
@@ -37,7 +37,7 @@ module _ {A : Type 0} where
   abbrev pub over : List (List A) → List A → List A
   over es b = flat es ++ drop (length (flat es)) b
 
--- Document 01, "Which policy speaks": the lowest rank is chosen, among equals the one registered first
+-- The choice (RULES.md, 4.3): of those that target, one of lowest rank, and of these the first in the list
 module _ {A : Type 0} (rank : A → ℕ) (targets : A → Bool) where
   -- of the best so far and the next one, by whether the next ranks lower
   abbrev pub lower : A → A → Bool → Option A

@@ -115,10 +115,17 @@ module _ {A : Type 0} where
 
   -- END TO END
   pub flat-append : (l m : List (List A)) → flat (l ++ m) ≡ flat l ++ flat m
+  unfolding flat
   flat-append [] m = refl
   flat-append (e ∷ l) m = ap (_++_ e) (flat-append l m) ∙ sym (append-assoc e (flat l) (flat m))
 
+  -- one list alone
+  pub flat-one : (l : List A) → flat (l ∷ []) ≡ l
+  unfolding flat
+  flat-one l = append-nil l
+
   pub flat-perm : {l m : List (List A)} → List·Permᴰ l m → length (flat l) ≡ length (flat m)
+  unfolding flat
   flat-perm List·Permᴰ·nil = refl
   flat-perm (List·Permᴰ·cons e d) = simp length-append (ap₂ _+_ (ap length e) (flat-perm d))
   flat-perm (List·Permᴰ·swap e₁ e₂) = simp length-append (omega (arith, ap length e₁, ap length e₂))
@@ -127,10 +134,6 @@ module _ {A : Type 0} where
   -- of two writings of one length over a buffer the last counts
   pub over-over : (es o : List (List A)) (b : List A) → length (flat es) ≡ length (flat o) → over o (over es b) ≡ over o b
   over-over es o b h = ap (_++_ (flat o)) (rw (← h) (drop-append-seam (flat es) _))
-
-  -- what stands there already changes nothing
-  pub over-same : (es : List (List A)) (b rest : List A) → b ≡ flat es ++ rest → over es b ≡ b
-  over-same es b rest h = rw h (ap (_++_ (flat es)) (drop-append-seam (flat es) rest))
 
 -- a test with what it says
 abbrev pub Less : ℕ → ℕ → Type 0
@@ -195,7 +198,7 @@ module _ {A : Type 0} (rank : A → ℕ) (targets : A → Bool) where
   best-perm b (List·Permᴰ·trans d₁ d₂) h =
       best-perm b d₁ h ∙ best-perm b d₂ (pairs-perm (RanksDiffer rank targets) ranks-differ-sym d₁ h)
 
-  -- THE FOUR LAWS OF THE CHOICE, document 01's sentence: the chosen entry is in the list and targets; nothing that targets
+  -- THE FOUR LAWS OF THE CHOICE (RULES.md, 4.3): the chosen entry is in the list and targets; nothing that targets
   -- ranks lower; nothing earlier that targets ranks equal; there is none exactly if none targets. They say which it is.
   pub record Chosen (l : List A) (a : A) : Type 0 where
     pub before : List A

@@ -20,7 +20,7 @@ unfoldable pub noZero : List ℕ → Bool
 noZero [] = true
 noZero (u ∷ rest) = not (eqb u 0) and noZero rest
 
--- 1 to 64 whole units, none zero: the bytes of a name without its closing zero unit
+-- a name (RULES.md, 2.1): 1 to 64 whole units, none zero, without the closing zero unit
 unfoldable pub isName : Bytes → Bool
 isName s = eqb (length s % 2) 0 and leb 2 (length s) and leb (length s) maxNameBytes and noZero (units s)
 
@@ -29,10 +29,14 @@ unfoldable pub isTerminated : Bytes → Bool
 isTerminated s =
     leb 2 (length s) and eqb (getD s (length s - 2) 0) 0 and eqb (getD s (length s - 1) 0) 0 and isName (take (length s - 2) s)
 
--- a variable as a request or a trigger names it: its namespace, and the bytes of its units without the closing zero
+-- a variable (RULES.md, 2.2), as a request or a trigger names it: a namespace, and a name without its closing zero unit
 pub record Variable : Type 0 where
   pub namespace : Bytes
   pub name : Bytes
+
+-- the variable of this namespace and name
+abbrev pub variable : Bytes → Bytes → Variable
+variable namespace name = record { namespace = namespace; name = name }
 
 -- a namespace of 16 bytes (all that a call can be given) with a name that step 1 takes
 unfoldable pub named : Variable → Bool
@@ -42,7 +46,7 @@ named v = eqb (length (v .namespace)) namespaceBytes and isName (v .name)
 abbrev pub numberSign : ℕ
 numberSign = 0x23
 
--- one of 0-9, A-F, a-f
+-- a hex digit (RULES.md, 4.1): 0 to 9, A to F, a to f
 unfoldable pub isHexDigit : ℕ → Bool
 isHexDigit u = leb 0x30 u and leb u 0x39 || (leb 0x41 u and leb u 0x46 || leb 0x61 u and leb u 0x66)
 

@@ -3,7 +3,7 @@ use Prim.Native.Nat.{ℕ, zero, suc, _+_, _-_, _*_, _/_, _%_, _≤_, _<_}
 use mathlib.Core.Path.{_≡_, refl, sym, ap, ap₂, _∙_}
 use mathlib.Core.List.{List, [], _∷_, _++_}
 use mathlib.Core.Bool.{Bool, true, false, not, _||_, _&&_, false≢true}
-use mathlib.Core.Logic.{_↔_, inl, inr}
+use mathlib.Core.Logic.{_↔_, _⊎_, inl, inr}
 use native.Mathlib.Omega.{arith}
 use native.Mathlib.Nat.{add-zero}
 use native.Mathlib.Numerals.{add-one}
@@ -15,9 +15,9 @@ use Rattle.limits.specs.Limits.{maxNameBytes, namespaceBytes}
 use Rattle.lists.specs.Lists.{All, Among}
 use Rattle.lists.specs.ListsLaws.{all-among, among-left, among-right}
 use Rattle.slices.specs.Test.{_and_}
-use Rattle.slices.specs.TestLaws.{and-left, and-right, and-intro, and-assoc, and-eager}
+use Rattle.slices.specs.TestLaws.{or-cases, and-left, and-right, and-intro, and-assoc, and-eager}
 use Rattle.slices.specs.Bytes.{Bytes, le16, pairwise}
-use Rattle.slices.specs.BytesLaws.{pairwise-refl, pairwise-hit, same-eq}
+use Rattle.slices.specs.BytesLaws.{pairwise-hit, same-eq}
 use Rattle.slices.specs.PartLaws.{drop-step, getD-middle}
 use Rattle.names.specs.Name.{units, noZero, isName, isTerminated, Variable, named, hexDigits, isHexDigit, unitMatches, wildcards, numberSign, oneIf}
 
@@ -164,14 +164,10 @@ pub named-name : (v : Variable) → named v ≡ true → isName (v .name) ≡ tr
 unfolding named
 named-name v e = and-right _ _ e
 
--- every name matches itself, '#' or not
+-- equal units match, '#' or not
 unitMatches-same : (u w : ℕ) → u ≡ w → unitMatches u w ≡ true
 unfolding unitMatches
 unitMatches-same u w e = rw (eq-eqb u w e)
-
-pub matches-refl : (us : List ℕ) → pairwise unitMatches us us ≡ true
-unfolding unitMatches
-matches-refl = pairwise-refl unitMatches (λ u. unitMatches-same u u refl)
 
 -- ---- which units are hex digits
 
@@ -213,6 +209,27 @@ hex-digits u = (
       (in-range 0x30 0x39 10 u refl) (in-range 0x41 0x46 6 u refl) (in-range 0x61 0x66 6 u refl)),
   all-among (λ x. isHexDigit x ≡ true) hexDigits all-hex u,
 )
+
+pub hex-small : (u : ℕ) → isHexDigit u ≡ true → u < 256
+unfolding isHexDigit
+hex-small u h = go (or-cases (leb 0x30 u and leb u 0x39) (leb 0x41 u and leb u 0x46 || leb 0x61 u and leb u 0x66) h)
+  where
+    letter : ((leb 0x41 u and leb u 0x46) ≡ true) ⊎ ((leb 0x61 u and leb u 0x66) ≡ true) → u < 256
+    letter (inl k) = omega (arith, leb-true u 0x46 (and-right _ _ k))
+    letter (inr k) = omega (arith, leb-true u 0x66 (and-right _ _ k))
+
+    go : ((leb 0x30 u and leb u 0x39) ≡ true) ⊎ ((leb 0x41 u and leb u 0x46 || leb 0x61 u and leb u 0x66) ≡ true) → u < 256
+    go (inl k) = omega (arith, leb-true u 0x39 (and-right _ _ k))
+    go (inr k) = letter (or-cases (leb 0x41 u and leb u 0x46) (leb 0x61 u and leb u 0x66) k)
+
+-- a unit that an entry's unit matches is that unit, or a hex digit
+pub unit-cases : (p u : ℕ) → unitMatches p u ≡ true → (p ≡ u) ⊎ (u < 256)
+unfolding unitMatches
+unit-cases p u h = go (or-cases (eqb p u) (eqb p numberSign and isHexDigit u) h)
+  where
+    go : (eqb p u ≡ true) ⊎ ((eqb p numberSign and isHexDigit u) ≡ true) → (p ≡ u) ⊎ (u < 256)
+    go (inl k) = inl (eqb-true p u k)
+    go (inr k) = inr (hex-small u (and-right _ _ k))
 
 -- r is the comparison of the eight bytes of the four units from k on: equal units match
 module _ {r : Bool} (p v : Bytes) (k : ℕ) (h : k + 4 ≤ length (units p)) (g : k + 4 ≤ length (units v)) (e : r ≡ pairwise eqb (take 8 (drop (2 * k) p)) (take 8 (drop (2 * k) v)))

@@ -2,7 +2,9 @@
 ghost use mathlib.Core.Path.{_≡_};
 ghost use Prim.Native.Nat.{_+_, _≤_};
 ghost use lib.ListN.{length, getD, drop};
+ghost use Rattle.limits.specs.Limits.{namespaceBytes};
 ghost use Rattle.slices.specs.Test.{_and_};
+ghost use Rattle.slices.specs.Bytes.{same};
 ghost use Rattle.names.specs.Name.{units, noZero, isName, isTerminated, isHexDigit, unitMatches, matches, wildcards};
 
 // The number of whole units.
@@ -101,7 +103,7 @@ pub fn is_terminated(s: &[u8]) -> bool
     is_name(&s[..n - 2])
 }
 
-// Whether the unit is one of 0-9, A-F, a-f.
+// Whether the unit is a hex digit: 0 to 9, A to F or a to f.
 pub fn is_hex_digit(u: u16) -> bool
     ensures { λ r. ⌜ r ≡ isHexDigit u ⌝ }
 {
@@ -164,7 +166,7 @@ fn four_match(p: &[u8], v: &[u8], k: usize) -> bool
     units_match(p, v, k, k + 4)
 }
 
-// The one comparer: an entry's name against a variable's, as many units, each matching.
+// The one comparison of a name with a pattern: an entry's name against a variable's, as many units, each matching.
 pub fn matches(p: &[u8], v: &[u8]) -> bool
     ensures { λ r. ⌜ r ≡ matches (units (now (p .entry))) (units (now (v .entry))) ⌝ }
 {
@@ -180,6 +182,59 @@ pub fn matches(p: &[u8], v: &[u8]) -> bool
         k += 4;
     }
     units_match(p, v, k, n)
+}
+
+// Whether two names as long hold the same bytes, left at the first that differs: for a few bytes.
+fn few_equal(a: &[u8], b: &[u8]) -> bool
+    requires { ⌜ length (now a) ≡ length (now b) ⌝ }
+    ensures { λ r. ⌜ r ≡ same (now (a .entry)) (now (b .entry)) ⌝ }
+{
+    let mut i = 0;
+    while i < a.len() {
+        if a[i] != b[i] {
+            return false;
+        }
+        i += 1;
+    }
+    true
+}
+
+// The one comparison of two names: whether they are the same bytes. The last eight are compared first, since names differ there most often.
+pub fn same_name(a: &[u8], b: &[u8]) -> bool
+    ensures { λ r. ⌜ r ≡ same (now (a .entry)) (now (b .entry)) ⌝ }
+{
+    if a.len() != b.len() {
+        return false;
+    }
+    if a.len() < 8 {
+        return few_equal(a, b);
+    }
+    let last = a.len() - 8;
+    if !slices::eight(a, b, last) {
+        return false;
+    }
+    let mut i = 0;
+    while i < last {
+        if !slices::eight(a, b, i) {
+            return false;
+        }
+        i += 8;
+    }
+    true
+}
+
+// Whether two namespaces are equal. No exit before the end, so that it is compiled to one wide compare.
+pub fn same_namespace(a: &[u8], b: &[u8]) -> bool
+    requires { ⌜ (length (now a) ≡ namespaceBytes) × (length (now b) ≡ namespaceBytes) ⌝ }
+    ensures { λ r. ⌜ r ≡ same (now (a .entry)) (now (b .entry)) ⌝ }
+{
+    let mut ok = true;
+    let mut i = 0;
+    while i < limits::NAMESPACE_BYTES {
+        ok = ok & (a[i] == b[i]);
+        i += 1;
+    }
+    ok
 }
 
 // The number of '#' among the units.

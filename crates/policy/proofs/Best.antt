@@ -1,4 +1,5 @@
--- How the choice moves on as the code walks. Assumes nothing.
+-- How the choice moves on as the code walks: the best so far as three numbers (`asChoice`) says what `better` says, entry by entry, and one turn of the
+-- walk is one of `on-other`, `on-zero`, `on-lower` and `on-kept`. Assumes nothing.
 use Prim.Native.Nat.{ℕ, _+_, _-_, _≤_, _<_}
 use mathlib.Core.Path.{_≡_, refl, sym, ap, _∙_}
 use mathlib.Core.List.{List, [], _∷_}
@@ -7,16 +8,14 @@ use native.Mathlib.Omega.{arith}
 use lib.ListN.{length, take, drop, drop-of-length-le}
 use lib.Seq.{drop-drop}
 use lib.Dec.{eqb, ltb}
-use borrow.Author.Tests.{eq-eqb, ne-eqb, lt-ltb, le-ltb, eqb-true}
-use Rattle.limits.specs.Limits.{namespaceBytes}
+use borrow.Author.Tests.{ne-eqb, lt-ltb, le-ltb, eqb-true}
+use Rattle.limits.specs.Limits.{wholeNamespaceRank, noRank, namespaceBytes, namespaceAt, minSizeAt, entryHeader}
 use Rattle.slices.specs.Test.{_and_}
 use Rattle.slices.specs.Bytes.{Bytes, part, same}
-use Rattle.slices.specs.BytesLaws.{pairwise-lengths}
 use Rattle.slices.specs.PartLaws.{part-take, part-of}
-use Rattle.slices.specs.ChunksLaws.{All, nil, more}
-use Rattle.names.specs.Name.{Variable, units, matches}
+use Rattle.names.specs.Name.{Variable, variable, units, matches}
 use Rattle.entry.specs.Entry.{namespaceOf, nameIsEmpty, nameOf, targets, rank}
-use Rattle.entry.specs.EntryLaws.{rank-most, length-namespaceOf}
+use Rattle.entry.specs.EntryLaws.{rank-most}
 use Rattle.policy.specs.declared.Choice.{Choice}
 use Rattle.policy.specs.declared.Choice.the-variants.{Chosen, Nothing}
 use Rattle.policy.specs.Policy.{entryLength, entriesOf}
@@ -25,33 +24,30 @@ use Rattle.policy.specs.Choice.{beats, better, choiceFrom, choiceOf}
 use Rattle.policy.specs.Best.{asChoice}
 use Rattle.policy.proofs.Walk.{At, begins, entry-length, split, behind}
 
-pub asChoice-some : (b i at : ℕ) → (b ≡ 66 → ⊥) → Chosen i at b ≡ asChoice b i at
+pub asChoice-some : (b i at : ℕ) → (b ≡ noRank → ⊥) → Chosen i at b ≡ asChoice b i at
 unfolding asChoice
-asChoice-some b i at e = rw (ne-eqb b 66 e)
+asChoice-some b i at e = rw (ne-eqb b noRank e)
 
 -- a rank that counts is compared with the number
-beats-number : (r b i at : ℕ) → r ≤ 65 → b ≤ 66 → beats r (asChoice b i at) ≡ ltb r b
+beats-number : (r b i at : ℕ) → r ≤ wholeNamespaceRank → b ≤ noRank → beats r (asChoice b i at) ≡ ltb r b
 unfolding asChoice
-beats-number r b i at h k = go (eqb b 66) refl
+beats-number r b i at h k = go (eqb b noRank) refl
   where
-    go : (t : Bool) → eqb b 66 ≡ t → beats r (cond t Nothing (Chosen i at b)) ≡ ltb r b
-    go true q = sym (lt-ltb r b (omega (arith, eqb-true b 66 q)))
+    go : (t : Bool) → eqb b noRank ≡ t → beats r (cond t Nothing (Chosen i at b)) ≡ ltb r b
+    go true q = sym (lt-ltb r b (omega (arith, eqb-true b noRank q)))
     go false q = refl
 
 -- whether an entry of the namespace has a name that speaks for the variable
 abbrev pub named : Bytes → Bytes → Bool
 named e name = nameIsEmpty e || matches (units (nameOf e)) (units name)
 
-abbrev pub variable : Bytes → Bytes → Variable
-variable namespace name = record { namespace = namespace; name = name }
-
-module _ (namespace name e : Bytes) (w : WellFormed e) (b i at index here : ℕ) (most : b ≤ 66) where
+module _ (namespace name e : Bytes) (w : WellFormed e) (b i at index here : ℕ) (most : b ≤ noRank) where
   -- of another namespace
   pub stays : same (namespaceOf e) namespace ≡ false → better (asChoice b i at) index here e (variable namespace name) ≡ asChoice b i at
   unfolding better targets _and_
   stays q = rw q
 
-  module _ (q : same (namespaceOf e) namespace ≡ true) (r : ℕ) (s : r ≡ cond (named e name) (rank e) 66) where
+  module _ (q : same (namespaceOf e) namespace ≡ true) (r : ℕ) (s : r ≡ cond (named e name) (rank e) noRank) where
     better-by : (t : Bool) → named e name ≡ t → better (asChoice b i at) index here e (variable namespace name) ≡ cond (t and ltb (rank e) b) (Chosen index here (rank e)) (asChoice b i at)
     unfolding better targets _and_
     better-by true k = rw (q, k, beats-number (rank e) b i at (rank-most e w) most)
@@ -62,7 +58,7 @@ module _ (namespace name e : Bytes) (w : WellFormed e) (b i at index here : ℕ)
     unfolding _and_
     lower h = go (named e name) refl s
       where
-        go : (t : Bool) → named e name ≡ t → r ≡ cond t (rank e) 66 → better (asChoice b i at) index here e (variable namespace name) ≡ asChoice r index here
+        go : (t : Bool) → named e name ≡ t → r ≡ cond t (rank e) noRank → better (asChoice b i at) index here e (variable namespace name) ≡ asChoice r index here
         go true k z = better-by true k ∙ rw (← z, lt-ltb r b h) (asChoice-some r index here (λ y. omega arith))
         go false k z = absurd (omega arith)
 
@@ -70,7 +66,7 @@ module _ (namespace name e : Bytes) (w : WellFormed e) (b i at index here : ℕ)
     unfolding _and_
     not-lower h = go (named e name) refl s
       where
-        go : (t : Bool) → named e name ≡ t → r ≡ cond t (rank e) 66 → better (asChoice b i at) index here e (variable namespace name) ≡ asChoice b i at
+        go : (t : Bool) → named e name ≡ t → r ≡ cond t (rank e) noRank → better (asChoice b i at) index here e (variable namespace name) ≡ asChoice b i at
         go true k z = better-by true k ∙ rw (← z, le-ltb r b h)
         go false k z = better-by false k
 
@@ -107,27 +103,16 @@ unfolding choiceFrom
 choice-zero i at index here [] v = refl
 choice-zero i at index here (e ∷ es) v = rw (zero-kept i at index here e v) (choice-zero i at (index + 1) (here + length e) es v)
 
--- a namespace of another length is that of no entry
-other : (e : Bytes) (v : Variable) → WellFormed e → (length (v .namespace) ≡ namespaceBytes → ⊥) → targets e v ≡ false
-unfolding targets _and_
-other e v w h = rw (pairwise-lengths eqb (namespaceOf e) (v .namespace) (λ z. h (sym z ∙ length-namespaceOf e w)))
-
-pub choice-other : (best : Choice) (index at : ℕ) (es : List Bytes) (v : Variable) → All WellFormed es → (length (v .namespace) ≡ namespaceBytes → ⊥)
-    → choiceFrom best index at es v ≡ best
-unfolding choiceFrom better _and_
-choice-other best index at [] v nil h = refl
-choice-other best index at (e ∷ es) v (more w a) h = rw (other e v w h) (choice-other best (index + 1) (at + length e) es v a h)
-
 -- the namespace of the entry that begins at a byte
-pub namespace-at : (p : Bytes) (at n : ℕ) → 24 ≤ n → namespaceOf (take n (drop at p)) ≡ part (at + 8) (at + 24) p
+pub namespace-at : (p : Bytes) (at n : ℕ) → minSizeAt ≤ n → namespaceOf (take n (drop at p)) ≡ part (at + namespaceAt) (at + minSizeAt) p
 namespace-at p at n h =
-    let k : at + 24 - (at + 8) ≡ 16 = omega arith in
-    part-take 8 24 n (drop at p) h ∙ rw (drop-drop, k)
+    let k : at + minSizeAt - (at + namespaceAt) ≡ namespaceBytes = omega arith in
+    part-take namespaceAt minSizeAt n (drop at p) h ∙ rw (drop-drop, k)
 
 -- one turn of the walk: the entry of n bytes at hand, the best so far as it was and as it is after the turn
-module _ (p namespace name : Bytes) (i at n b bi ba : ℕ) (w : At p i at) (e : entryLength (drop at p) ≡ n) (h : 44 ≤ n) (most : b ≤ 66)
+module _ (p namespace name : Bytes) (i at n b bi ba : ℕ) (w : At p i at) (e : entryLength (drop at p) ≡ n) (h : entryHeader ≤ n) (most : b ≤ noRank)
     (inv : choiceOf (entriesOf p) (variable namespace name) ≡ choiceFrom (asChoice b bi ba) i at (drop i (entriesOf p)) (variable namespace name))
-    {s : Bool} (q : s ≡ same (part (at + 8) (at + 24) p) namespace) where
+    {s : Bool} (q : s ≡ same (part (at + namespaceAt) (at + minSizeAt) p) namespace) where
   formed : WellFormed (take n (drop at p))
   formed = begins p i at w n e (omega arith) .formed
 
@@ -144,8 +129,8 @@ module _ (p namespace name : Bytes) (i at n b bi ba : ℕ) (w : At p i at) (e : 
       → choiceOf (entriesOf p) (variable namespace name) ≡ choiceFrom (asChoice b′ bi′ ba′) (i + 1) (at + n) (drop (i + 1) (entriesOf p)) (variable namespace name)
   on-other z eb ei ea = rw (eb, ei, ea) (on (asChoice b bi ba) (stays namespace name (take n (drop at p)) formed b bi ba i at most (inside false z)))
 
-  module _ (z : s ≡ true) (r : ℕ) (k : r ≡ cond (named (part at (at + n) p) name) (rank (part at (at + n) p)) 66) where
-    spoken : r ≡ cond (named (take n (drop at p)) name) (rank (take n (drop at p))) 66
+  module _ (z : s ≡ true) (r : ℕ) (k : r ≡ cond (named (part at (at + n) p) name) (rank (part at (at + n) p)) noRank) where
+    spoken : r ≡ cond (named (take n (drop at p)) name) (rank (take n (drop at p))) noRank
     spoken = rw part-of at k
 
     lowered : r < b → choiceOf (entriesOf p) (variable namespace name) ≡ choiceFrom (asChoice r i at) (i + 1) (at + n) (drop (i + 1) (entriesOf p)) (variable namespace name)

@@ -1,5 +1,6 @@
--- What the filter tells, and the check as it goes on. Assumes nothing.
-use Prim.Native.Nat.{ℕ, _+_, _*_, _/_, _%_, _≤_, _<_}
+-- What the filter tells: an entry whose slot is free has the target of none that was met, since entries with one target have one slot. And the check as it
+-- goes on: `Checked` is what is known where the walk has come to an entry, with one law for each way on. Assumes nothing.
+use Prim.Native.Nat.{ℕ, _+_, _%_, _≤_, _<_}
 use mathlib.Core.Path.{_≡_, refl, sym, ap, ap₂, _∙_}
 use mathlib.Core.List.{List, [], _∷_, _++_, append-assoc}
 use mathlib.Core.Bool.{Bool, true, false, cond}
@@ -8,7 +9,7 @@ use lib.ListN.{length, getD, take, drop, set, length-set}
 use lib.Seq.{getD-set-same, getD-set-other}
 use lib.Dec.{eqb, leb}
 use borrow.Author.Tests.{eq-eqb, ne-eqb, le-leb, lt-leb, eqb-true, eqb-false}
-use Rattle.limits.specs.Limits.{maxEntries, policyBytes}
+use Rattle.limits.specs.Limits.{namespaceBytes, namespaceAt, maxEntries, policyBytes}
 use Rattle.slices.specs.Test.{_and_}
 use Rattle.slices.specs.TestLaws.{and-no, and-yes, forced-off}
 use Rattle.slices.specs.Bytes.{Bytes, le32, part, allAre}
@@ -27,10 +28,10 @@ use Rattle.policy.proofs.Walk.{At, at-start, at-next, all-met, sum-met,
 
 -- ---- the slot
 -- the namespace's first bytes in the entry
-namespace-start : (e : Bytes) → le32 (namespaceOf e) 0 ≡ le32 e 8
-namespace-start e = le32-take 16 (drop 8 e) 0 (omega arith) ∙ le32-drop 8 e 0
+namespace-start : (e : Bytes) → le32 (namespaceOf e) 0 ≡ le32 e namespaceAt
+namespace-start e = le32-take namespaceBytes (drop namespaceAt e) 0 (omega arith) ∙ le32-drop namespaceAt e 0
 
-pub slot-is : {h n : ℕ} {m : Bytes} (e : Bytes) → n ≡ le32 e 8 → m ≡ nameOf e → h ≡ hashFrom n m → slotAt h ≡ slotOf e
+pub slot-is : {h n : ℕ} {m : Bytes} (e : Bytes) → n ≡ le32 e namespaceAt → m ≡ nameOf e → h ≡ hashFrom n m → slotAt h ≡ slotOf e
 unfolding slotOf
 slot-is e a b c = rw (c, a, b, namespace-start e)
 

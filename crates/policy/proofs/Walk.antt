@@ -7,6 +7,7 @@ use mathlib.Core.Bool.{Bool, true, false, _||_}
 use native.Mathlib.Omega.{arith}
 use lib.ListN.{length, take, drop, length-append, length-drop, take-append-drop}
 use lib.Seq.{length-take-le, take-add, drop-drop, take-all}
+use Rattle.limits.specs.Limits.{sizeAt, entryHeader}
 use Rattle.slices.specs.Bytes.{Bytes, le16}
 use Rattle.slices.specs.NumberLaws.{le16-drop}
 use Rattle.slices.specs.Chunks.{flat, contains}
@@ -47,8 +48,8 @@ module _ (p : Bytes) (i at : ℕ) (w : At p i at) where
     pub formed : wellFormed (take n (drop at p)) ≡ true
     formed = begins .formed
 
-    pub size-here : le16 p (at + 4) ≡ n
-    size-here = sym (le16-drop at p 4) ∙ begins .field
+    pub size-here : le16 p (at + sizeAt) ≡ n
+    size-here = sym (le16-drop at p sizeAt) ∙ begins .field
 
     pub fits : at + n ≤ length p
     fits = let k = rw length-drop at (begins .within) in omega (arith, w .within)
@@ -94,13 +95,13 @@ module _ (p : Bytes) (i at : ℕ) (w : At p i at) where
             absurd (omega (arith, length-drop i (entriesOf p)))
         go (suc n) e = omega arith
 
-    pub stated : entryLength (drop at p) ≡ le16 p (at + 4)
+    pub stated : entryLength (drop at p) ≡ le16 p (at + sizeAt)
     stated = sym (size-here (entryLength (drop at p)) refl some-here)
 
-    pub stated-least : 44 ≤ le16 p (at + 4)
+    pub stated-least : entryHeader ≤ le16 p (at + sizeAt)
     stated-least = omega (arith, stated, begins (entryLength (drop at p)) refl some-here .least)
 
-    pub stated-fits : at + le16 p (at + 4) ≤ length p
+    pub stated-fits : at + le16 p (at + sizeAt) ≤ length p
     stated-fits = omega (arith, stated, fits (entryLength (drop at p)) refl some-here)
 
 -- ---- a search among the first count entries

@@ -8,6 +8,7 @@ use native.Mathlib.Omega.{arith}
 use lib.ListN.{length, take, drop, length-append, take-append-drop}
 use lib.Seq.{take-append-seam, drop-append-seam, drop-append-add, drop-at, take-at}
 use lib.Dec.{ltb}
+use Rattle.limits.specs.Limits.{sizeAt}
 use Rattle.lists.specs.Lists as lists
 use Rattle.slices.specs.Test.{_and_}
 use Rattle.slices.specs.Bytes.{Bytes, le16, part}
@@ -92,13 +93,6 @@ choice-none es v e = go (chosen es v) (rw e at (choice-agrees es v))
     go none a = refl
     go (some b) a = absurd a
 
-pub none-choice : (es : List Bytes) (v : Variable) → chosen es v ≡ none → choiceOf es v ≡ Nothing
-none-choice es v e = go (choiceOf es v) (rw e at (choice-agrees es v))
-  where
-    go : (c : Choice) → Agrees es v c none → c ≡ Nothing
-    go Nothing a = refl
-    go (Chosen i at r) a = absurd a
-
 -- ---- what is chosen is the entry at that place
 pub record Speaks (es : List Bytes) (v : Variable) (i at r : ℕ) : Type 0 where
   pub entry : Bytes
@@ -149,12 +143,12 @@ module _ (p : Bytes) (v : Variable) (i at r : ℕ) (e : Bytes) (k : Place (entri
   chosen-bytes = rw record-split at (place-bytes (entriesOf p) v i at r e k (drop (sizesSum p) p))
 
   -- its Size
-  pub chosen-size : le16 p (at + 4) ≡ length e
+  pub chosen-size : le16 p (at + sizeAt) ≡ length e
   chosen-size =
-      sym (le16-drop at p 4)
-      ∙ sym (le16-take (length e) (drop at p) 4 (omega (arith, sized e chosen-formed .least)))
-      ∙ ap (λ (l : Bytes). le16 l 4) chosen-bytes
+      sym (le16-drop at p sizeAt)
+      ∙ sym (le16-take (length e) (drop at p) sizeAt (omega (arith, sized e chosen-formed .least)))
+      ∙ ap (λ (l : Bytes). le16 l sizeAt) chosen-bytes
       ∙ sized e chosen-formed .stated
 
-  pub chosen-entry : part at (at + le16 p (at + 4)) p ≡ e
+  pub chosen-entry : part at (at + le16 p (at + sizeAt)) p ≡ e
   chosen-entry = rw (chosen-size, part-of at (length e) p) chosen-bytes

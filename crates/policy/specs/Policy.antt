@@ -1,14 +1,14 @@
--- The policy record: distinct well-formed entries end to end in the order registered, then only zeros, 8,192 bytes in all.
+-- The policy record (RULES.md, 7): `policyBytes` of well-formed entries, no two for one namespace and name, and zeros behind them.
 -- Assumes nothing: these are definitions.
 use Prim.Native.Nat.{ℕ}
 use mathlib.Core.List.{List, []}
-use mathlib.Core.Bool.{Bool, true, false, cond}
+use mathlib.Core.Bool.{Bool, cond}
 use lib.ListN.{length, take, drop}
 use lib.Dec.{eqb, leb}
 use Rattle.limits.specs.Limits.{maxEntries, policyBytes}
 use Rattle.slices.specs.Test.{_and_}
 use Rattle.slices.specs.Bytes.{Bytes, allAre}
-use Rattle.slices.specs.Chunks.{flat, chunks, used, packed, distinct}
+use Rattle.slices.specs.Chunks.{chunks, used, packed, distinct}
 use Rattle.entry.specs.Entry.{sizeField, wellFormed, sameTarget}
 use Rattle.policy.specs.declared.PolicyCheck.{PolicyCheck}
 use Rattle.policy.specs.declared.PolicyCheck.the-variants.{Valid, Invalid}
@@ -33,7 +33,7 @@ packPolicy es = packed policyBytes 0 es
 abbrev pub emptyPolicy : Bytes
 emptyPolicy = packPolicy []
 
--- a lent policy record that does not get 10: the right length, distinct well-formed entries within the limits, then zeros
+-- valid (RULES.md, 7): not a ground for 10
 unfoldable pub policyValid : Bytes → Bool
 policyValid p =
     eqb (length p) policyBytes

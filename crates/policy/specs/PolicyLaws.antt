@@ -9,7 +9,7 @@ use lib.ListN.{length, getD, take, drop, replicate, length-append}
 use lib.Seq.{take-at, length-take-le}
 use lib.Dec.{leb}
 use borrow.Author.Tests.{eq-eqb, le-leb, eqb-true, leb-true}
-use Rattle.limits.specs.Limits.{maxEntries, maxEntryBytes, policyBytes}
+use Rattle.limits.specs.Limits.{sizeAt, entryHeader, maxEntryBytes, maxEntries, policyBytes}
 use Rattle.slices.specs.Test.{_and_}
 use Rattle.slices.specs.TestLaws.{and-left, and-right, and-intro}
 use Rattle.slices.specs.Bytes.{Bytes, le16}
@@ -44,7 +44,7 @@ pub record Begins (p : Bytes) (n : ℕ) : Type 0 where
   pub field : sizeField p ≡ n
   pub within : n ≤ length p
   pub formed : wellFormed (take n p) ≡ true
-  pub least : 44 ≤ n
+  pub least : entryHeader ≤ n
   pub most : n ≤ maxEntryBytes
 
 begins-of : (p : Bytes) → sizeField p ≤ length p → wellFormed (take (sizeField p) p) ≡ true → Begins p (sizeField p)
@@ -69,8 +69,8 @@ entryLength-within p = go (entryLength p) refl
     go zero e = omega arith
     go (suc n) e = entryLength-begins (suc n) p e (omega arith) .within
 
--- no entry is shorter than 44 bytes
-pub entryLength-short : (p : Bytes) → length p < 44 → entryLength p ≡ 0
+-- no entry is shorter than its header
+pub entryLength-short : (p : Bytes) → length p < entryHeader → entryLength p ≡ 0
 entryLength-short p h = go (entryLength p) refl
   where
     go : (n : ℕ) → entryLength p ≡ n → n ≡ 0
@@ -84,7 +84,7 @@ entryLength-entry e m w =
     let z = sized e w in
     let t : take (length e) (e ++ m) ≡ e = take-at e m (length e) refl in
     let f : sizeField (e ++ m) ≡ length e =
-    sym (le16-take (length e) (e ++ m) 4 (omega (arith, z .least))) ∙ ap (λ (l : Bytes). le16 l 4) t ∙ z .stated in
+    sym (le16-take (length e) (e ++ m) sizeAt (omega (arith, z .least))) ∙ ap (λ (l : Bytes). le16 l sizeAt) t ∙ z .stated in
     let k : length e ≤ length (e ++ m) = rw length-append (omega arith) in
     rw (f, le-leb (length e) (length (e ++ m)) k, t, w)
 
@@ -144,7 +144,7 @@ pub record Entries (es : List Bytes) : Type 0 where
   pub room : length (flat es) ≤ policyBytes
   pub apart : distinct sameTarget es ≡ true
 
--- what packs to p: distinct well-formed entries within the limits
+-- what packs to p: entries as a valid record has them
 pub record Packs (es : List Bytes) (p : Bytes) : Type 0 where
   pub entries : Entries es
   pub packs : packPolicy es ≡ p
@@ -173,7 +173,7 @@ policy-entries p v =
 pub pack-entriesOf : (p : Bytes) → policyValid p ≡ true → packPolicy (entriesOf p) ≡ p
 pack-entriesOf p v = policy-entries p v .packs
 
--- a record of distinct well-formed entries within the limits is valid
+-- a record of such entries is valid
 pub entries-policy : (es : List Bytes) → Entries es → policyValid (packPolicy es) ≡ true
 unfolding policyValid
 entries-policy es a =

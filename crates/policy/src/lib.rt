@@ -4,10 +4,10 @@ ghost use mathlib.Core.List.{[], _∷_, _++_};
 ghost use mathlib.Core.Bool.{true, _||_, cond};
 ghost use Prim.Native.Nat.{_+_, _≤_, _<_};
 ghost use lib.ListN.{length, take, set};
-ghost use Rattle.limits.specs.Limits.{policyBytes};
+ghost use Rattle.limits.specs.Limits.{noRank, policyBytes};
 ghost use Rattle.slices.specs.Bytes.{overwrite};
 ghost use Rattle.slices.specs.Chunks.{flat, contains};
-ghost use Rattle.names.specs.Name.{units, matches};
+ghost use Rattle.names.specs.Name.{units, matches, variable};
 ghost use Rattle.entry.specs.Entry.{wellFormed, nameIsEmpty, nameOf, rank, sameTarget};
 ghost use Rattle.policy.specs.Policy.{entryLength, entriesOf, sizesSum, packPolicy, emptyPolicy, policyValid, policyCheck};
 ghost use Rattle.policy.specs.Filter.{slots, slotOf, Marks};
@@ -37,7 +37,7 @@ pub fn entry_length(p: &[u8]) -> usize
     if p.len() < limits::ENTRY_HEADER {
         return 0;
     }
-    let n = slices::get16(p, 4);
+    let n = slices::get16(p, limits::SIZE_AT);
     if p.len() < n {
         return 0;
     }
@@ -55,7 +55,7 @@ fn is_among(policy: &[u8], count: usize, e: &[u8]) -> bool
     let mut at = 0;
     let mut index = 0;
     while index < count {
-        let end = at + slices::get16(policy, at + 4);
+        let end = at + slices::get16(policy, at + limits::SIZE_AT);
         if entry::same_target(e, &policy[at..end]) {
             return true;
         }
@@ -71,7 +71,7 @@ fn slot(e: &[u8]) -> usize
     ensures is { λ r. ⌜ r ≡ slotOf (now (e .entry)) ⌝ }
     ensures bound { λ r. ⌜ r < slots ⌝ }
 {
-    let h = slices::hash(slices::get32(e, 8), entry::name_bytes(e));
+    let h = slices::hash(slices::get32(e, limits::NAMESPACE_AT), entry::name_bytes(e));
     let product = h % 4294967296 * 2654435761;
     (product % 4294967296 + product / 4294967296) / 2097152 % 2048
 }
@@ -125,7 +125,7 @@ fn no_marks() -> [u8; 2048]
     [0u8; 2048]
 }
 
-// The check of a lent policy record: the right length, distinct well-formed entries within the limits, then zeros.
+// The check of a lent policy record (RULES.md, 7).
 pub fn check(policy: &[u8]) -> PolicyCheck
     ensures { λ r. ⌜ r ≡ policyCheck (now (policy .entry)) ⌝ }
 {
@@ -169,11 +169,11 @@ pub fn clear(policy: &mut [u8])
     slices::fill(policy, 0, n, 0);
 }
 
-// The rank of an entry of the variable's namespace, if its name is empty or matches the variable's, and 66 if not.
+// The rank of an entry of the variable's namespace, if its name is empty or matches the variable's, and NO_RANK if not.
 fn rank_for(e: &[u8], name: &[u8]) -> usize
     requires { ⌜ wellFormed (now e) ≡ true ⌝ }
     ensures { λ r.
-        ⌜ r ≡ cond (nameIsEmpty (now (e .entry)) || matches (units (nameOf (now (e .entry)))) (units (now (name .entry)))) (rank (now (e .entry))) 66 ⌝ }
+        ⌜ r ≡ cond (nameIsEmpty (now (e .entry)) || matches (units (nameOf (now (e .entry)))) (units (now (name .entry)))) (rank (now (e .entry))) noRank ⌝ }
 {
     let own = entry::name_bytes(e);
     if own.len() == 0 {
@@ -182,37 +182,34 @@ fn rank_for(e: &[u8], name: &[u8]) -> usize
     if names::matches(own, name) {
         return names::wildcards(own);
     }
-    66
+    limits::NO_RANK
 }
 
-// The choice of the entry at index whose first byte is at; none where the rank is 66.
+// The choice of the entry at index whose first byte is at; none where the rank is NO_RANK.
 fn choice_of(rank: usize, index: usize, at: usize) -> Choice
     ensures { λ r. ⌜ r ≡ asChoice rank index at ⌝ }
 {
-    if rank == 66 {
+    if rank == limits::NO_RANK {
         return Choice::Nothing;
     }
     Choice::Chosen { index, at, rank }
 }
 
 // The chosen entry for the variable of that namespace and name. The entries were counted when the record was found valid.
-// The best rank so far is 66 while there is none; a rank of 0 is not beaten.
-pub fn choose(policy: &[u8], count: usize, namespace: &[u8], name: &[u8]) -> Choice
+// The best rank so far is NO_RANK while there is none; a rank of 0 is not beaten.
+pub fn choose(policy: &[u8], count: usize, namespace: &[u8; 16], name: &[u8]) -> Choice
     requires { ⌜ count ≡ length (entriesOf (now policy)) ⌝ }
-    ensures { λ r.
-        ⌜ r ≡ choiceOf (entriesOf (now (policy .entry))) (record { namespace = now (namespace .entry); name = now (name .entry) }) ⌝ }
+    ensures { λ r. ⌜ r ≡ choiceOf (entriesOf (now (policy .entry))) (variable (now (namespace .entry)) (now (name .entry))) ⌝ }
 {
-    if namespace.len() != limits::NAMESPACE_BYTES {
-        return Choice::Nothing;
-    }
-    let mut best = 66;
+    let mut best = limits::NO_RANK;
     let mut best_index = 0;
     let mut best_at = 0;
     let mut index = 0;
     let mut at = 0;
     while index < count {
-        let end = at + slices::get16(policy, at + 4);
-        if entry::same_namespace(&policy[at + 8..at + 24], namespace) {
+        let end = at + slices::get16(policy, at + limits::SIZE_AT);
+        let own = &policy[at + limits::NAMESPACE_AT..at + limits::MIN_SIZE_AT];
+        if names::same_namespace(own, namespace) {
             let rank = rank_for(&policy[at..end], name);
             if rank == 0 {
                 return Choice::Chosen { index, at, rank };

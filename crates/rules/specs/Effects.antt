@@ -26,7 +26,7 @@ use Rattle.rules.specs.Grounds.{Not, NV, PolicyEntries, HasEntries, sumO
 abbrev pub Refusal : Status → Type 0
 Refusal n = Not (n ≡ Success)
 
--- ---- what stands beside a status
+-- ---- what stands beside a status (RULES.md, 9.3 and 10)
 
 -- the switches: enabled, locked, disabling allowed
 abbrev pub switchesOf : Bool → Bool → Bool → Switches
@@ -37,7 +37,7 @@ answerOf status number bytes switches = record { status = status; number = numbe
 
 -- THE ANSWERS of each call: status, number, bytes, switches handed back
 pub data Beside (s : State) : Call → Answer → Type 0 where
-  -- Power-on and restart: enabled and unlocked; refused, enabled, locked and without leave to disable
+  -- Power-on and restart: the switches of a granted start, and those of a refused one
   poweredOn : {allowed : Bool} → Beside s (powerOn allowed) (answerOf Success 0 [] (some (switchesOf true false allowed)))
   powerOnRefused : {allowed : Bool} (n : Status) → Refusal n → Beside s (powerOn allowed) (answerOf n 0 [] (some (switchesOf true true false)))
   restarted : {allowed : Bool} → Beside s (restart allowed) (answerOf Success 0 [] (some (switchesOf true false allowed)))

@@ -2,7 +2,7 @@
 use Prim.Native.Nat.{ℕ, _+_}
 use mathlib.Core.Path.{_≡_, refl, sym, ap, ap₂, subst, subst⁻¹, _∙_}
 use mathlib.Core.List.{List, [], _∷_, _++_}
-use mathlib.Core.Bool.{Bool, true, false, cond, true≢false}
+use mathlib.Core.Bool.{Bool, true, false, not, cond, true≢false, false≢true}
 use mathlib.Core.Option.{Option, none, some}
 use mathlib.Core.Logic.{_↔_}
 use native.Mathlib.Omega.{arith}
@@ -17,32 +17,33 @@ use Rattle.slices.specs.Chunks.{flat, packed, remove, replaceOrAppend}
 use Rattle.names.specs.Name.{Variable, named}
 use Rattle.policy.specs.Policy.{entriesOf, packPolicy, emptyPolicy, policyValid}
 use Rattle.policy.specs.PolicyLaws as policy
-use Rattle.policy.specs.PolicyLaws.{entriesOf-formed}
 use Rattle.stores.specs.Pair.{sound, lookup}
 use Rattle.status.specs.declared.Status.{Status}
 use Rattle.status.specs.declared.Status.the-variants.{Success, InvalidParameter, Unsupported, BufferTooSmall, WriteProtected, OutOfResources, VolumeCorrupted, NotFound, AlreadyStarted}
 use Rattle.status.specs.Status.{isSuccess, statusNumber}
+use Rattle.status.specs.StatusLaws.{success-only}
 use Rattle.store.specs.Record.{hasNV, attributesOf, isOf, recordOk}
 use Rattle.store.specs.Store.{recordsOf, packStore, withoutVariable, hasRoom, withRecord}
 use Rattle.store.specs.StoreLaws as store
 use Rattle.store.specs.StoreLaws.{records-without, length-without, records-with, length-with}
 use Rattle.switches.specs.declared.Switches.{Switches}
 use Rattle.switches.specs.Switches.{freshSwitches}
-use Rattle.policy.specs.Choice.{chosen}
-use Rattle.rules.specs.Set.{Request, exists, isDeletion, isEmptyAppend, recordAfter, storeOf, setStatus, setStore}
-use Rattle.rules.specs.Engine.{State, Call, Answer, stateOf, dumpStatus, readStatus, status, answer, started, dumped, queried, readAnswer, registerStatus, speaking, setStatusBy, erased, effect, after, step}
+use Rattle.rules.specs.declared.Decision.{Decision}
+use Rattle.rules.specs.declared.Decision.the-variants.{Refuse, Block, Delete, Keep, Store}
+use Rattle.rules.specs.Set.{Request, exists, isDeletion, isEmptyAppend, recordAfter, decisionStatus, decisionStore}
+use Rattle.rules.specs.DecisionLaws.{Facts, facts, stored-facts, granted-decision}
+use Rattle.rules.specs.Engine.{State, Call, Answer, stateOf, dumpStatus, readStatus, status, given, refusal, answer, registerStatus, decisionBy, decisionIn, erased, effect, after, step}
 use Rattle.rules.specs.Engine.Call.{powerOn, restart, register, dump, lock, disable, query, read, set}
-use Rattle.rules.specs.LentLaws.{sizes-sum}
 use Rattle.rules.specs.Grounds.{Not, sumOfSizes, StoreRecords, PairRecords, SoundStores, RecordOf, PayloadAfter, Answers}
-use Rattle.rules.specs.GroundsLaws.{success-only, refused-test, status-exactly}
-use Rattle.rules.specs.EngineLaws.{answer-status, step-status, granted-effect}
-use Rattle.rules.specs.StateLaws.{register-granted}
+use Rattle.rules.specs.GroundsLaws.{refused-test, status-exactly}
+use Rattle.rules.specs.EngineLaws.{answer-status, step-status, answer-alone, granted-effect}
+use Rattle.rules.specs.StateLaws.{passed, register-granted}
 use Rattle.rules.specs.Effects.{Refusal, answerOf, Beside, SetLeaves, SetByName, Leaves}
 use Rattle.rules.specs.ConditionLaws.{tells-off, off-tells, tells-nv, tells-deletion, tells-nothing}
-use Rattle.rules.specs.FoundLaws.{sound-records, tells-sound, packs-entries, valid-entries, entries-read, first-records, second-records, distinct-first, distinct-second, found-lookup, lookup-found, lookup-absent, without-taken, taken-without}
-use Rattle.rules.specs.SetGroundsLaws.{kind-same, payload-is, stored, storing, storing-only}
+use Rattle.rules.specs.FoundLaws.{sound-records, tells-sound, packs-entries, sum-of-sizes, valid-entries, entries-read, first-records, second-records, distinct-first, distinct-second, found-lookup, lookup-found, lookup-absent, without-taken, taken-without}
+use Rattle.rules.specs.SetGroundsLaws.{chosenEntry, kind-same, payload-is, stored, storing, storing-only}
 use Rattle.rules.specs.SetLaws as set
-use Rattle.rules.specs.SetLaws.{set-sound, set-formed}
+use Rattle.rules.specs.SetLaws.{set-sound, stored-formed}
 
 -- ---- a status is 0 or another
 
@@ -67,22 +68,19 @@ module _ (s : State) (buffer : Bytes) where
   abbrev listed : List Bytes
   listed = entriesOf (s .policy)
 
-  sum-is : length (flat listed) ≡ sumOfSizes listed
-  sum-is = sizes-sum listed (entriesOf-formed (s .policy))
-
   written : overwrite buffer 0 (flat listed) ≡ flat listed ++ drop (sumOfSizes listed) buffer
-  written = overwrite-seam [] buffer (flat listed) 0 refl ∙ ap (λ k. flat listed ++ drop k buffer) sum-is
+  written = overwrite-seam [] buffer (flat listed) 0 refl ∙ ap (λ k. flat listed ++ drop k buffer) (sum-of-sizes s)
 
   dump-beside : Beside s (dump buffer) (answer s (dump buffer) (status s (dump buffer)))
   unfolding dumpStatus
   dump-beside = go (policyValid (s .policy)) (leb (length (flat listed)) (length buffer)) refl
     where
-      go : (v f : Bool) → policyValid (s .policy) ≡ v → Beside s (dump buffer) (dumped (cond v (cond f Success BufferTooSmall) VolumeCorrupted) listed buffer)
+      go : (v f : Bool) → policyValid (s .policy) ≡ v → Beside s (dump buffer) (answer s (dump buffer) (cond v (cond f Success BufferTooSmall) VolumeCorrupted))
       go true true e =
-          subst⁻¹ (λ k. Beside s (dump buffer) (answerOf Success k (overwrite buffer 0 (flat listed)) none)) sum-is
+          subst⁻¹ (λ k. Beside s (dump buffer) (answerOf Success k (overwrite buffer 0 (flat listed)) none)) (sum-of-sizes s)
           (subst⁻¹ (λ b. Beside s (dump buffer) (answerOf Success (sumOfSizes listed) b none)) written (Beside.dumped listed (valid-entries s e)))
       go true false e =
-          subst⁻¹ (λ x. Beside s (dump buffer) (answerOf BufferTooSmall x buffer none)) sum-is (Beside.dumpShort listed (valid-entries s e))
+          subst⁻¹ (λ x. Beside s (dump buffer) (answerOf BufferTooSmall x buffer none)) (sum-of-sizes s) (Beside.dumpShort listed (valid-entries s e))
       go false f e = Beside.dumpRefused VolumeCorrupted (other-than VolumeCorrupted refl) (λ h. let z : _≡_ {A = ℕ} 10 5 = ap statusNumber h in omega arith)
 
 read-beside : (s : State) (v : Variable) → Beside s (read v) (answer s (read v) (status s (read v)))
@@ -90,44 +88,38 @@ unfolding readStatus exists
 read-beside s v = go (sound (s .nv) (s .vol)) (named v) (lookup (s .nv) (s .vol) v) refl refl
   where
     go : (b n : Bool) (o : Option Bytes) → sound (s .nv) (s .vol) ≡ b → lookup (s .nv) (s .vol) v ≡ o
-        → Beside s (read v) (readAnswer (cond b (cond n (cond (exists o) Success NotFound) InvalidParameter) VolumeCorrupted) o)
-    go true true (some r) e f = Beside.wasRead r (lookup-found s v r (tells-sound (s .nv) (s .vol) .0 e) f)
+        → Beside s (read v) (answer s (read v) (cond b (cond n (cond (exists o) Success NotFound) InvalidParameter) VolumeCorrupted))
+    go true true (some r) e f = rw f (Beside.wasRead r (lookup-found s v r (tells-sound (s .nv) (s .vol) .0 e) f))
     go true true none e f = Beside.readRefused NotFound (other-than NotFound refl)
     go true false o e f = Beside.readRefused InvalidParameter (other-than InvalidParameter refl)
     go false n o e f = Beside.readRefused VolumeCorrupted (other-than VolumeCorrupted refl)
 
-query-beside : (s : State) → Beside s query (answer s query Success)
+query-beside : (s : State) → Beside s query (given s query)
 query-beside s = go (s .switches .enabled) refl
   where
-    go : (b : Bool) → s .switches .enabled ≡ b → Beside s query (queried Success b)
+    go : (b : Bool) → s .switches .enabled ≡ b → Beside s query (answerOf Success (cond b 1 0) [] none)
     go true e = Beside.isEnabled e
     go false e = Beside.isDisabled e
 
-power-on-beside : (s : State) (allowed : Bool) (n : Status) → Beside s (powerOn allowed) (started n allowed)
-power-on-beside s allowed n = go (kind n)
+-- an answer stands beside its status if that of 0 does, and that of every refusal
+beside-either : (s : State) (c : Call) → Beside s c (given s c) → ((n : Status) → Refusal n → Beside s c (refusal s c n)) → Beside s c (answer s c (status s c))
+beside-either s c g r = go (isSuccess (status s c)) refl
   where
-    go : Kind n → Beside s (powerOn allowed) (started n allowed)
-    go (Kind.done e) = subst⁻¹ (λ m. Beside s (powerOn allowed) (started m allowed)) e Beside.poweredOn
-    go (Kind.other o h) = rw h (Beside.powerOnRefused n o)
-
-restart-beside : (s : State) (allowed : Bool) (n : Status) → Beside s (restart allowed) (started n allowed)
-restart-beside s allowed n = go (kind n)
-  where
-    go : Kind n → Beside s (restart allowed) (started n allowed)
-    go (Kind.done e) = subst⁻¹ (λ m. Beside s (restart allowed) (started m allowed)) e Beside.restarted
-    go (Kind.other o h) = rw h (Beside.restartRefused n o)
+    go : (b : Bool) → isSuccess (status s c) ≡ b → Beside s c (cond b (given s c) (refusal s c (status s c)))
+    go true h = g
+    go false h = r (status s c) (other-than (status s c) h)
 
 -- the computed answer is one of them
 pub answer-beside : (s : State) (c : Call) → Beside s c (answer s c (status s c))
-answer-beside s (powerOn allowed) = power-on-beside s allowed (status s (powerOn allowed))
-answer-beside s (restart allowed) = restart-beside s allowed (status s (restart allowed))
-answer-beside s (register e) = Beside.ofRegister (status s (register e))
+answer-beside s (powerOn allowed) = beside-either s (powerOn allowed) Beside.poweredOn Beside.powerOnRefused
+answer-beside s (restart allowed) = beside-either s (restart allowed) Beside.restarted Beside.restartRefused
+answer-beside s (register e) = beside-either s (register e) (Beside.ofRegister Success) (λ n o. Beside.ofRegister n)
 answer-beside s (dump buffer) = dump-beside s buffer
-answer-beside s lock = Beside.ofLock (status s lock)
-answer-beside s disable = Beside.ofDisable (status s disable)
+answer-beside s lock = beside-either s lock (Beside.ofLock Success) (λ n o. Beside.ofLock n)
+answer-beside s disable = beside-either s disable (Beside.ofDisable Success) (λ n o. Beside.ofDisable n)
 answer-beside s query = query-beside s
 answer-beside s (read v) = read-beside s v
-answer-beside s (set r) = Beside.ofSet (status s (set r))
+answer-beside s (set r) = beside-either s (set r) (Beside.ofSet Success) (λ n o. Beside.ofSet n)
 
 -- and the only one with its status
 pub beside-answer : (s : State) (c : Call) (a : Answer) → Beside s c a → a ≡ answer s c (a .status)
@@ -137,9 +129,9 @@ beside-answer s c a Beside.restarted = refl
 beside-answer s c a (Beside.restartRefused n o) = rw (refused-test n o)
 beside-answer s c a (Beside.dumped {buffer} es w) =
     ap (λ x. answerOf Success (sumOfSizes x) (flat x ++ drop (sumOfSizes x) buffer) none) (entries-read s es w)
-    ∙ ap₂ (λ (k : ℕ) (b : Bytes). answerOf Success k b none) (sym (sum-is s buffer)) (sym (written s buffer))
+    ∙ ap₂ (λ (k : ℕ) (b : Bytes). answerOf Success k b none) (sym (sum-of-sizes s)) (sym (written s buffer))
 beside-answer s c a (Beside.dumpShort {buffer} es w) =
-    ap (λ x. answerOf BufferTooSmall (sumOfSizes x) buffer none) (entries-read s es w) ∙ ap (λ (k : ℕ). answerOf BufferTooSmall k buffer none) (sym (sum-is s buffer))
+    ap (λ x. answerOf BufferTooSmall (sumOfSizes x) buffer none) (entries-read s es w) ∙ ap (λ (k : ℕ). answerOf BufferTooSmall k buffer none) (sym (sum-of-sizes s))
 beside-answer s c a (Beside.dumpRefused {buffer} n o p) = rw (refused-test n o, not-five n p)
   where
     not-five : (n : Status) → Not (n ≡ BufferTooSmall) → eqb (statusNumber n) 5 ≡ false
@@ -156,10 +148,10 @@ beside-answer s c a (Beside.isEnabled e) = rw e
 beside-answer s c a (Beside.isDisabled e) = rw e
 beside-answer s c a (Beside.wasRead {v} r f) = rw (found-lookup s v r f)
 beside-answer s c a (Beside.readRefused n o) = rw (refused-test n o)
-beside-answer s c a (Beside.ofRegister n) = refl
-beside-answer s c a (Beside.ofLock n) = refl
-beside-answer s c a (Beside.ofDisable n) = refl
-beside-answer s c a (Beside.ofSet n) = refl
+beside-answer s c a (Beside.ofRegister {e} n) = sym (answer-alone s (register e) n refl refl)
+beside-answer s c a (Beside.ofLock n) = sym (answer-alone s lock n refl refl)
+beside-answer s c a (Beside.ofDisable n) = sym (answer-alone s disable n refl refl)
+beside-answer s c a (Beside.ofSet {r} n) = sym (answer-alone s (set r) n refl refl)
 
 -- ---- what a call leaves
 
@@ -170,94 +162,72 @@ zeros : emptyPolicy ≡ replicate policyBytes 0
 unfolding packed padded flat
 zeros = refl
 
--- a set that answers 0
-module _ (s : State) (r : Request) (ok : sound (s .nv) (s .vol) ≡ true) (e : Option Bytes) (granted : isSuccess (setStatus e (s .nv) (s .vol) r) ≡ true) where
-  abbrev left : State
-  left = effect s (set r)
+-- a set, by what is decided of it
+module _ (s : State) (r : Request) where
+  abbrev standing : Option Bytes
+  standing = lookup (s .nv) (s .vol) (r .variable)
 
-  before : PairRecords (s .nv) (s .vol) (recordsOf true (s .nv)) (recordsOf false (s .vol))
-  before = sound-records (s .nv) (s .vol) ok
+  abbrev left : Decision → State
+  left d = stateOf (decisionStore d true (s .nv) standing r) (decisionStore d false (s .vol) standing r) (s .policy) (s .switches)
 
-  later : PairRecords (left .nv) (left .vol) (recordsOf true (left .nv)) (recordsOf false (left .vol))
-  later = sound-records (left .nv) (left .vol) (set-sound e (s .nv) (s .vol) r ok granted)
+  -- where it answers 0
+  decided : isSuccess (decisionStatus (decisionIn s r)) ≡ true
+      → decisionIn s r ≡ cond (isDeletion (r .attributes) (r .payload)) Delete (cond (isEmptyAppend (r .attributes) (r .payload)) Keep Store)
+  unfolding decisionBy
+  decided granted = granted-decision (chosenEntry s r) (s .nv) (s .vol) r granted
 
-  abbrev stands : SoundStores (s .nv) (s .vol)
-  stands = record { inNV = recordsOf true (s .nv); inVol = recordsOf false (s .vol); records = before }
+  module _ (ok : sound (s .nv) (s .vol) ≡ true) (granted : isSuccess (decisionStatus (decisionIn s r)) ≡ true) where
+    before : PairRecords (s .nv) (s .vol) (recordsOf true (s .nv)) (recordsOf false (s .vol))
+    before = sound-records (s .nv) (s .vol) ok
 
-  set-deletes : isDeletion (r .attributes) (r .payload) ≡ true → SetLeaves s r left
-  unfolding setStore
-  set-deletes d =
-      SetLeaves.removed (recordsOf true (s .nv)) (recordsOf false (s .vol)) (remove (isOf (r .variable)) (recordsOf true (s .nv))) (remove (isOf (r .variable)) (recordsOf false (s .vol)))
-      (tells-deletion r .0 d) before (without-taken (r .variable) (recordsOf true (s .nv))) (without-taken (r .variable) (recordsOf false (s .vol)))
-      (subst (λ rs. PairRecords (left .nv) (left .vol) rs (remove (isOf (r .variable)) (recordsOf false (s .vol)))) (ap (recordsOf true) nv-is ∙ records-without true (s .nv) (r .variable))
-      (subst (λ qs. PairRecords (left .nv) (left .vol) (recordsOf true (left .nv)) qs) (ap (recordsOf false) vol-is ∙ records-without false (s .vol) (r .variable)) later))
-      (record { nv = ap length nv-is ∙ length-without true (s .nv) (r .variable); vol = ap length vol-is ∙ length-without false (s .vol) (r .variable); policy = refl; switches = refl })
-    where
-      nv-is : left .nv ≡ withoutVariable true (s .nv) (r .variable)
-      nv-is = rw d
+    abbrev stands : SoundStores (s .nv) (s .vol)
+    stands = record { inNV = recordsOf true (s .nv); inVol = recordsOf false (s .vol); records = before }
 
-      vol-is : left .vol ≡ withoutVariable false (s .vol) (r .variable)
-      vol-is = rw d
+    -- the records afterwards
+    later : (d : Decision) → decisionIn s r ≡ d → PairRecords (left d .nv) (left d .vol) (recordsOf true (left d .nv)) (recordsOf false (left d .vol))
+    unfolding decisionBy
+    later d e = subst (λ x. PairRecords (left x .nv) (left x .vol) (recordsOf true (left x .nv)) (recordsOf false (left x .vol))) e
+        (sound-records _ _ (set-sound (chosenEntry s r) (s .nv) (s .vol) r ok))
 
-  set-keeps : isDeletion (r .attributes) (r .payload) ≡ false → isEmptyAppend (r .attributes) (r .payload) ≡ true → SetLeaves s r left
-  unfolding setStore
-  set-keeps d n = SetLeaves.unchanged (tells-nothing r .0 n) (same-state left (s .nv) (s .vol) (s .policy) (s .switches) (rw (d, n)) (rw (d, n)) refl refl)
+    leaves-by : (d : Decision) → decisionIn s r ≡ d → Facts (s .nv) (s .vol) standing r d → isSuccess (decisionStatus d) ≡ true → SetLeaves s r (left d)
+    unfolding decisionStore
+    leaves-by (Refuse n) e f g = absurd (false≢true (sym f ∙ g))
+    leaves-by (Block b) e f g = absurd (false≢true (sym f ∙ g))
+    leaves-by Delete e f g =
+        SetLeaves.removed (recordsOf true (s .nv)) (recordsOf false (s .vol)) (remove (isOf (r .variable)) (recordsOf true (s .nv))) (remove (isOf (r .variable)) (recordsOf false (s .vol)))
+        (tells-deletion r .0 f) before (without-taken (r .variable) (recordsOf true (s .nv))) (without-taken (r .variable) (recordsOf false (s .vol)))
+        (rw (records-without true (s .nv) (r .variable), records-without false (s .vol) (r .variable)) at (later Delete e))
+        (record { nv = length-without true (s .nv) (r .variable); vol = length-without false (s .vol) (r .variable); policy = refl; switches = refl })
+    leaves-by Keep e f g = SetLeaves.unchanged (tells-nothing r .0 (f .1)) refl
+    leaves-by Store e f g = go (hasNV (r .attributes)) refl (later Store e) (stored-formed (chosenEntry s r) (s .nv) (s .vol) r ok f) (f .room)
+      where
+        go : (b : Bool) → hasNV (r .attributes) ≡ b
+            → PairRecords (cond b (withRecord true (s .nv) (r .variable) (stored s r stands)) (s .nv)) (cond (not b) (withRecord false (s .vol) (r .variable) (stored s r stands)) (s .vol))
+            (recordsOf true (cond b (withRecord true (s .nv) (r .variable) (stored s r stands)) (s .nv))) (recordsOf false (cond (not b) (withRecord false (s .vol) (r .variable) (stored s r stands)) (s .vol)))
+            → recordOk b (stored s r stands) ≡ true → hasRoom b (cond b (s .nv) (s .vol)) (r .variable) (stored s r stands) ≡ true
+            → SetLeaves s r (stateOf (cond b (withRecord true (s .nv) (r .variable) (stored s r stands)) (s .nv)) (cond (not b) (withRecord false (s .vol) (r .variable) (stored s r stands)) (s .vol)) (s .policy) (s .switches))
+        go true h k formed room =
+            SetLeaves.storedNV (recordsOf true (s .nv)) (recordsOf false (s .vol)) (tells-off _ (tells-deletion r) (f .writes)) (tells-off _ (tells-nothing r) (f .joins)) (tells-nv (r .attributes) .0 h)
+            before (storing s r stands (recordsOf true (s .nv))) (rw (records-with true (s .nv) (r .variable) (stored s r stands) formed) at k)
+            refl (record { nv = length-with true (s .nv) (r .variable) (stored s r stands) room; vol = refl; policy = refl; switches = refl })
+        go false h k formed room =
+            SetLeaves.storedVol (recordsOf true (s .nv)) (recordsOf false (s .vol)) (tells-off _ (tells-deletion r) (f .writes)) (tells-off _ (tells-nothing r) (f .joins)) (tells-off _ (tells-nv (r .attributes)) h)
+            before (storing s r stands (recordsOf false (s .vol))) (rw (records-with false (s .vol) (r .variable) (stored s r stands) formed) at k)
+            refl (record { nv = refl; vol = length-with false (s .vol) (r .variable) (stored s r stands) room; policy = refl; switches = refl })
 
-  set-stores : isDeletion (r .attributes) (r .payload) ≡ false → isEmptyAppend (r .attributes) (r .payload) ≡ false → SetLeaves s r left
-  unfolding setStore
-  set-stores d n = go (hasNV (r .attributes)) refl
-    where
-      q : Bytes
-      q = stored s r stands
-
-      fits : (recordOk (hasNV (r .attributes)) (stored s r stands) ≡ true) × (hasRoom (hasNV (r .attributes)) (storeOf (r .attributes) (s .nv) (s .vol)) (r .variable) (stored s r stands) ≡ true)
-      fits = set-formed e (s .nv) (s .vol) r ok granted d n
-
-      go : (b : Bool) → hasNV (r .attributes) ≡ b → SetLeaves s r left
-      go true h =
-          let nv-is : left .nv ≡ withRecord true (s .nv) (r .variable) (stored s r stands) = rw (d, n, h) in
-          let vol-is : left .vol ≡ s .vol = rw (d, n, h) in
-          let formed : recordOk true (stored s r stands) ≡ true = subst (λ b. recordOk b (stored s r stands) ≡ true) h (fits .0) in
-          let room : hasRoom true (s .nv) (r .variable) (stored s r stands) ≡ true = subst (λ b. hasRoom b (cond b (s .nv) (s .vol)) (r .variable) (stored s r stands) ≡ true) h (fits .1) in
-          SetLeaves.storedNV (recordsOf true (s .nv)) (recordsOf false (s .vol)) (tells-off _ (tells-deletion r) d) (tells-off _ (tells-nothing r) n) (tells-nv (r .attributes) .0 h)
-          before (storing s r stands (recordsOf true (s .nv)))
-          (subst (λ rs. PairRecords (left .nv) (left .vol) rs (recordsOf false (s .vol))) (ap (recordsOf true) nv-is ∙ records-with true (s .nv) (r .variable) (stored s r stands) formed)
-          (subst (λ qs. PairRecords (left .nv) (left .vol) (recordsOf true (left .nv)) qs) (ap (recordsOf false) vol-is) later))
-          vol-is (record { nv = ap length nv-is ∙ length-with true (s .nv) (r .variable) (stored s r stands) room; vol = ap length vol-is; policy = refl; switches = refl })
-      go false h =
-          let nv-is : left .nv ≡ s .nv = rw (d, n, h) in
-          let vol-is : left .vol ≡ withRecord false (s .vol) (r .variable) (stored s r stands) = rw (d, n, h) in
-          let formed : recordOk false (stored s r stands) ≡ true = subst (λ b. recordOk b (stored s r stands) ≡ true) h (fits .0) in
-          let room : hasRoom false (s .vol) (r .variable) (stored s r stands) ≡ true = subst (λ b. hasRoom b (cond b (s .nv) (s .vol)) (r .variable) (stored s r stands) ≡ true) h (fits .1) in
-          SetLeaves.storedVol (recordsOf true (s .nv)) (recordsOf false (s .vol)) (tells-off _ (tells-deletion r) d) (tells-off _ (tells-nothing r) n) (tells-off _ (tells-nv (r .attributes)) h)
-          before (storing s r stands (recordsOf false (s .vol)))
-          (subst (λ rs. PairRecords (left .nv) (left .vol) rs (storing s r stands (recordsOf false (s .vol)) .records)) (ap (recordsOf true) nv-is)
-          (subst (λ qs. PairRecords (left .nv) (left .vol) (recordsOf true (left .nv)) qs) (ap (recordsOf false) vol-is ∙ records-with false (s .vol) (r .variable) (stored s r stands) formed) later))
-          nv-is (record { nv = ap length nv-is; vol = ap length vol-is ∙ length-with false (s .vol) (r .variable) (stored s r stands) room; policy = refl; switches = refl })
-
-  set-leaves : SetLeaves s r left
-  set-leaves = go (isDeletion (r .attributes) (r .payload)) (isEmptyAppend (r .attributes) (r .payload)) refl refl
-    where
-      go : (d n : Bool) → isDeletion (r .attributes) (r .payload) ≡ d → isEmptyAppend (r .attributes) (r .payload) ≡ n → SetLeaves s r left
-      go true n e f = set-deletes e
-      go false true e f = set-keeps e f
-      go false false e f = set-stores e f
-
--- what a status of 0 says of the test before it
-past-10 : (b : Bool) (n : Status) → cond b n VolumeCorrupted ≡ Success → (b ≡ true) × (n ≡ Success)
-past-10 true n e = (refl, e)
-past-10 false n e = absurd (true≢false (sym (ap isSuccess e)))
+    set-leaves : SetLeaves s r (effect s (set r))
+    unfolding decisionBy
+    set-leaves = leaves-by (decisionIn s r) refl (facts (chosenEntry s r) (s .nv) (s .vol) r) granted
 
 granted-leaves : (s : State) (c : Call) → status s c ≡ Success → Leaves s c Success (effect s c)
-unfolding setStatusBy
 granted-leaves s (powerOn allowed) h =
     subst⁻¹ (λ p. Leaves s (powerOn allowed) Success (stateOf (s .nv) (erased (s .vol)) p (freshSwitches allowed))) zeros Leaves.powersOn
 granted-leaves s (restart allowed) h = subst⁻¹ (λ p. Leaves s (restart allowed) Success (stateOf (s .nv) (s .vol) p (freshSwitches allowed))) zeros Leaves.restarts
 granted-leaves s (register e) h =
     let es = entriesOf (s .policy) in
-    let k = past-10 (policyValid (s .policy)) (registerStatus (s .switches .locked) es e) h in
+    let k = passed (policyValid (s .policy)) (registerStatus (s .switches .locked) es e) (ap isSuccess h) in
     let w = policy.policy-entries (s .policy) (k .0) in
-    let g = register-granted (s .switches .locked) es e (ap isSuccess (k .1)) in
+    let g = register-granted (s .switches .locked) es e (k .1) in
     let few = g .few in
     Leaves.registers es (packPolicy (es ++ (e ∷ []))) (valid-entries s (k .0))
     (packs-entries _ _ (record { entries = policy.entries-append es e (w .entries) (g .formed) (g .new) (omega arith) (g .room); packs = refl }))
@@ -267,9 +237,8 @@ granted-leaves s disable h = Leaves.disables
 granted-leaves s query h = Leaves.queries
 granted-leaves s (read v) h = Leaves.reads
 granted-leaves s (set r) h =
-    let e = speaking (s .switches .enabled) (chosen (entriesOf (s .policy)) (r .variable)) in
-    let k = past-10 (sound (s .nv) (s .vol) and policyValid (s .policy)) (setStatus e (s .nv) (s .vol) r) h in
-    Leaves.sets (effect s (set r)) (set-leaves s r (and-left _ _ (k .0)) e (ap isSuccess (k .1)))
+    let k = passed (sound (s .nv) (s .vol) and policyValid (s .policy)) (decisionStatus (decisionIn s r)) (ap isSuccess h) in
+    Leaves.sets (effect s (set r)) (set-leaves s r (and-left _ _ (k .0)) (k .1))
 
 -- the computed state is one of them
 pub state-leaves : (s : State) (c : Call) → Leaves s c (status s c) (after s c (status s c))
@@ -284,47 +253,43 @@ packed-as : (b : Bool) (s t : Bytes) (rs : List Bytes) → StoreRecords b t rs �
 unfolding packed padded
 packed-as b s t rs k e = k .is ∙ ap (λ n. packStore n rs) e
 
-set-only : (s : State) (r : Request) (t : State) → SetLeaves s r t → t ≡ effect s (set r)
-unfolding setStore withoutVariable withRecord
-set-only s r t (SetLeaves.removed rs qs rs′ qs′ d k x y k′ o) =
+set-only : (s : State) (r : Request) (t : State) → decisionIn s r ≡ cond (isDeletion (r .attributes) (r .payload)) Delete (cond (isEmptyAppend (r .attributes) (r .payload)) Keep Store)
+    → SetLeaves s r t → t ≡ effect s (set r)
+unfolding decisionStore withoutVariable withRecord
+set-only s r t is (SetLeaves.removed rs qs rs′ qs′ d k x y k′ o) =
     let a = tells-deletion r .1 d in
     let nv-is = packed-as true (s .nv) (t .nv) rs′ (k′ .first) (o .nv) ∙ ap (packStore (length (s .nv))) (taken-without (r .variable) rs (distinct-first k) rs′ x ∙ ap (remove (isOf (r .variable))) (first-records k)) in
     let vol-is = packed-as false (s .vol) (t .vol) qs′ (k′ .second) (o .vol) ∙ ap (packStore (length (s .vol))) (taken-without (r .variable) qs (distinct-second k) qs′ y ∙ ap (remove (isOf (r .variable))) (second-records k)) in
-    same-state t _ _ (s .policy) (s .switches) (rw a nv-is) (rw a vol-is) (o .policy) (o .switches)
-set-only s r t (SetLeaves.unchanged n e) =
-    let d = off-tells _ (tells-deletion r) (λ d. d .0 (n .0)) in
-    let a = tells-nothing r .1 n in
-    same-state t _ _ (s .policy) (s .switches) (rw (d, a) (ap (λ x. x .nv) e)) (rw (d, a) (ap (λ x. x .vol) e)) (ap (λ x. x .policy) e) (ap (λ x. x .switches) e)
-set-only s r t (SetLeaves.storedNV rs qs d n h k w k′ vol-is o) =
-    let a = off-tells _ (tells-deletion r) d in
-    let b = off-tells _ (tells-nothing r) n in
-    let c = tells-nv (r .attributes) .1 h in
+    rw (is, a) (same-state t _ _ (s .policy) (s .switches) nv-is vol-is (o .policy) (o .switches))
+set-only s r t is (SetLeaves.unchanged n e) = rw (is, off-tells _ (tells-deletion r) (λ d. d .0 (n .0)), tells-nothing r .1 n) e
+set-only s r t is (SetLeaves.storedNV rs qs d n h k w k′ vol-is o) =
     let j : SoundStores (s .nv) (s .vol) = record { inNV = rs; inVol = qs; records = k } in
     let nv-is = packed-as true (s .nv) (t .nv) (w .records) (k′ .first) (o .nv)
     ∙ ap (packStore (length (s .nv))) (storing-only s r j rs (distinct-first k) w ∙ ap (replaceOrAppend (isOf (r .variable)) (stored s r j)) (first-records k)) in
-    same-state t _ _ (s .policy) (s .switches) (rw (a, b, c) nv-is) (rw (a, b, c) vol-is) (o .policy) (o .switches)
-set-only s r t (SetLeaves.storedVol rs qs d n h k w k′ nv-is o) =
-    let a = off-tells _ (tells-deletion r) d in
-    let b = off-tells _ (tells-nothing r) n in
-    let c = off-tells _ (tells-nv (r .attributes)) h in
+    rw (is, off-tells _ (tells-deletion r) d, off-tells _ (tells-nothing r) n, tells-nv (r .attributes) .1 h)
+    (same-state t _ _ (s .policy) (s .switches) nv-is vol-is (o .policy) (o .switches))
+set-only s r t is (SetLeaves.storedVol rs qs d n h k w k′ nv-is o) =
     let j : SoundStores (s .nv) (s .vol) = record { inNV = rs; inVol = qs; records = k } in
     let vol-is = packed-as false (s .vol) (t .vol) (w .records) (k′ .second) (o .vol)
     ∙ ap (packStore (length (s .vol))) (storing-only s r j qs (distinct-second k) w ∙ ap (replaceOrAppend (isOf (r .variable)) (stored s r j)) (second-records k)) in
-    same-state t _ _ (s .policy) (s .switches) (rw (a, b, c) nv-is) (rw (a, b, c) vol-is) (o .policy) (o .switches)
+    rw (is, off-tells _ (tells-deletion r) d, off-tells _ (tells-nothing r) n, off-tells _ (tells-nv (r .attributes)) h)
+    (same-state t _ _ (s .policy) (s .switches) nv-is vol-is (o .policy) (o .switches))
 
-pub leaves-state : (s : State) (c : Call) (n : Status) (t : State) → Leaves s c n t → t ≡ after s c n
+pub leaves-state : (s : State) (c : Call) (n : Status) (t : State) → status s c ≡ n → Leaves s c n t → t ≡ after s c n
 unfolding packed padded
-leaves-state s c n t (Leaves.refused o) = rw (refused-test n o)
-leaves-state s c n t (Leaves.powersOn {allowed}) = ap (λ p. stateOf (s .nv) (erased (s .vol)) p (freshSwitches allowed)) (sym zeros)
-leaves-state s c n t (Leaves.restarts {allowed}) = ap (λ p. stateOf (s .nv) (s .vol) p (freshSwitches allowed)) (sym zeros)
-leaves-state s c n t (Leaves.registers {e} es p w w′) =
+leaves-state s c n t m (Leaves.refused o) = rw (refused-test n o)
+leaves-state s c n t m (Leaves.powersOn {allowed}) = ap (λ p. stateOf (s .nv) (erased (s .vol)) p (freshSwitches allowed)) (sym zeros)
+leaves-state s c n t m (Leaves.restarts {allowed}) = ap (λ p. stateOf (s .nv) (s .vol) p (freshSwitches allowed)) (sym zeros)
+leaves-state s c n t m (Leaves.registers {e} es p w w′) =
     ap (λ x. stateOf (s .nv) (s .vol) x (s .switches)) (w′ .is ∙ ap (λ l. packPolicy (l ++ (e ∷ []))) (entries-read s es w))
-leaves-state s c n t Leaves.locks = refl
-leaves-state s c n t Leaves.disables = refl
-leaves-state s c n t Leaves.dumps = refl
-leaves-state s c n t Leaves.queries = refl
-leaves-state s c n t Leaves.reads = refl
-leaves-state s c n t (Leaves.sets {r} x h) = set-only s r x h
+leaves-state s c n t m Leaves.locks = refl
+leaves-state s c n t m Leaves.disables = refl
+leaves-state s c n t m Leaves.dumps = refl
+leaves-state s c n t m Leaves.queries = refl
+leaves-state s c n t m Leaves.reads = refl
+leaves-state s c n t m (Leaves.sets {r} x h) =
+    let k = passed (sound (s .nv) (s .vol) and policyValid (s .policy)) (decisionStatus (decisionIn s r)) (ap isSuccess m) in
+    set-only s r x (decided s r (k .1)) h
 
 -- THE ENGINE IN PROPOSITIONS: a call answers a and leaves t exactly if a's status is the first that applies, and with it a is an answer of
 -- `Beside` and t a state of `Leaves`
@@ -338,7 +303,7 @@ step-exactly s c a t = (
   )),
   λ w.
       let m : status s c ≡ a .status = sym (answer-status s c (status s c)) ∙ status-exactly s c (a .status) .1 (w .0) in
-      ap (λ n. (answer s c n, after s c n)) m ∙ ap₂ (λ x y. (x, y)) (sym (beside-answer s c a (w .1))) (sym (leaves-state s c (a .status) t (w .2))),
+      ap (λ n. (answer s c n, after s c n)) m ∙ ap₂ (λ x y. (x, y)) (sym (beside-answer s c a (w .1))) (sym (leaves-state s c (a .status) t m (w .2))),
 )
 
 -- ---- a set by names
@@ -346,42 +311,41 @@ step-exactly s c a t = (
 same-found : (s t : State) (w : Variable) → SoundStores (t .nv) (t .vol) → lookup (t .nv) (t .vol) w ≡ lookup (s .nv) (s .vol) w → (q : Bytes) → RecordOf s w q → RecordOf t w q
 same-found s t w k e q f = lookup-found t w q k (e ∙ found-lookup s w q f)
 
-module _ (s : State) (r : Request) (ok : sound (s .nv) (s .vol) ≡ true) (e : Option Bytes) (granted : isSuccess (setStatus e (s .nv) (s .vol) r) ≡ true) where
+module _ (s : State) (r : Request) (ok : sound (s .nv) (s .vol) ≡ true) (granted : isSuccess (decisionStatus (decisionIn s r)) ≡ true) where
   soundBefore : SoundStores (s .nv) (s .vol)
   soundBefore = tells-sound (s .nv) (s .vol) .0 ok
 
   soundAfter : SoundStores (effect s (set r) .nv) (effect s (set r) .vol)
-  soundAfter = tells-sound (effect s (set r) .nv) (effect s (set r) .vol) .0 (set-sound e (s .nv) (s .vol) r ok granted)
+  unfolding decisionBy
+  soundAfter = tells-sound (effect s (set r) .nv) (effect s (set r) .vol) .0 (set-sound (chosenEntry s r) (s .nv) (s .vol) r ok)
 
   by-name : SetByName s r (effect s (set r))
+  unfolding decisionBy
   by-name =
       record {
         sound = soundAfter;
         others = λ w d q.
-            let same = set.set-others e (s .nv) (s .vol) r ok granted w d in
+            let same = set.set-others (chosenEntry s r) (s .nv) (s .vol) r ok w d in
             (same-found s (effect s (set r)) w soundAfter same q, same-found (effect s (set r)) s w soundBefore (sym same) q);
-        deleted = λ d. lookup-absent (effect s (set r)) (r .variable) (set.set-deletes e (s .nv) (s .vol) r ok granted (tells-deletion r .1 d));
+        deleted = λ d. lookup-absent (effect s (set r)) (r .variable) (set.set-deletes (chosenEntry s r) (s .nv) (s .vol) r ok (decided s r granted ∙ rw (tells-deletion r .1 d)));
         unchanged = λ n.
-            let k = set.set-keeps e (s .nv) (s .vol) r ok granted (off-tells _ (tells-deletion r) (λ d. d .0 (n .0))) (tells-nothing r .1 n) in
+            let k = set.set-keeps (chosenEntry s r) (s .nv) (s .vol) r ok (decided s r granted ∙ rw (off-tells _ (tells-deletion r) (λ d. d .0 (n .0)), tells-nothing r .1 n)) in
             same-state (effect s (set r)) (s .nv) (s .vol) (s .policy) (s .switches) (k .0) (k .1) refl refl;
         stored = λ d n.
-            let a = off-tells _ (tells-deletion r) d in
-            let b = off-tells _ (tells-nothing r) n in
+            let e : decisionIn s r ≡ Store = decided s r granted ∙ rw (off-tells _ (tells-deletion r) d, off-tells _ (tells-nothing r) n) in
+            let f = stored-facts (chosenEntry s r) (s .nv) (s .vol) r e in
             let q = recordAfter (lookup (s .nv) (s .vol) (r .variable)) r in
-            let kept = set.set-attributes e (s .nv) (s .vol) r ok granted in (
+            let kept = set.stored-attributes (chosenEntry s r) (s .nv) (s .vol) r ok f in (
               q,
-              lookup-found (effect s (set r)) (r .variable) q soundAfter (set.set-stores e (s .nv) (s .vol) r ok granted a b),
+              lookup-found (effect s (set r)) (r .variable) q soundAfter (set.set-stores (chosenEntry s r) (s .nv) (s .vol) r ok e),
               kind-same (attributesOf q) (r .attributes) kept,
               omega arith,
-              subst⁻¹ (PayloadAfter s r) (set.set-payload e (s .nv) (s .vol) r ok granted a b) (payload-is s r soundBefore),
+              subst⁻¹ (PayloadAfter s r) (set.stored-payload (chosenEntry s r) (s .nv) (s .vol) r ok f) (payload-is s r soundBefore),
             );
       }
 
 -- A SET THAT ANSWERS 0 CHANGES ITS VARIABLE AS THE REQUEST SAYS, AND NO OTHER (in which order records then stand, `SetLeaves` says)
 pub set-by-name : (s : State) (r : Request) → isSuccess (step s (set r) .0 .status) ≡ true → SetByName s r (step s (set r) .1)
-unfolding setStatusBy
 set-by-name s r h =
-    let e = speaking (s .switches .enabled) (chosen (entriesOf (s .policy)) (r .variable)) in
-    let n : status s (set r) ≡ Success = success-only (status s (set r)) (ap isSuccess (sym (step-status s (set r))) ∙ h) in
-    let k = past-10 (sound (s .nv) (s .vol) and policyValid (s .policy)) (setStatus e (s .nv) (s .vol) r) n in
-    subst⁻¹ (SetByName s r) (granted-effect s (set r) h) (by-name s r (and-left _ _ (k .0)) e (ap isSuccess (k .1)))
+    let k = passed (sound (s .nv) (s .vol) and policyValid (s .policy)) (decisionStatus (decisionIn s r)) (ap isSuccess (sym (step-status s (set r))) ∙ h) in
+    subst⁻¹ (SetByName s r) (granted-effect s (set r) h) (by-name s r (and-left _ _ (k .0)) (k .1))

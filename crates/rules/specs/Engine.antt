@@ -1,8 +1,8 @@
--- The rules' engine: one function from a state and a call to the answer and the state afterwards.
+-- The rules' engine (RULES.md, 9 and 10): one function from a state and a call to the answer and the state afterwards.
 -- Assumes nothing: these are definitions.
 use Prim.Native.Nat.{ℕ, suc, _+_}
 use mathlib.Core.List.{List, [], _∷_, _++_}
-use mathlib.Core.Bool.{Bool, true, false, not, _||_, cond}
+use mathlib.Core.Bool.{Bool, true, false, not, cond}
 use mathlib.Core.Option.{Option, none, some}
 use lib.ListN.{length, replicate}
 use lib.Dec.{eqb, leb}
@@ -21,11 +21,12 @@ use Rattle.status.specs.declared.Status.the-variants.{Success, InvalidParameter
 use Rattle.status.specs.Status.{isSuccess, statusNumber}
 use Rattle.switches.specs.declared.Switches.{Switches}
 use Rattle.switches.specs.Switches.{freshSwitches, refusedSwitches, withLocked, withDisabled, lockStatus, disableStatus}
-use Rattle.rules.specs.Set.{Request, exists, setStatus, setStore}
+use Rattle.rules.specs.declared.Decision.{Decision}
+use Rattle.rules.specs.Set.{Request, exists, decision, decisionStatus, decisionStore}
 
 -- ---- what the engine is
 
--- the two stores, the policy record and the switches
+-- a state (RULES.md, 1.2)
 pub record State : Type 0 where
   pub nv : Bytes
   pub vol : Bytes
@@ -48,7 +49,7 @@ pub data Call : Type 0 where
   read : Variable → Call
   set : Request → Call
 
--- the status and every value beside it
+-- an answer: its status, and what stands beside it
 pub record Answer : Type 0 where
   pub status : Status
   -- a dump's needed or written length, a read's attributes, a query's switch (1 or 0)
@@ -58,18 +59,65 @@ pub record Answer : Type 0 where
   -- the switches that a power-on or restart hands back
   pub switches : Option Switches
 
--- ---- the status: the first that applies, 10 before all else in any call that is lent the thing
+-- ---- what each call is lent and writes: one row to a call
 
--- Power-on: the non-volatile store sound, the volatile one of at most 32,768 bytes, the policy record of its right length
+-- the parts of a state
+pub record Parts : Type 0 where
+  pub nv : Bool
+  pub vol : Bool
+  pub policy : Bool
+  pub switches : Bool
+
+abbrev pub parts : Bool → Bool → Bool → Bool → Parts
+parts nv vol policy switches = record { nv = nv; vol = vol; policy = policy; switches = switches }
+
+-- the parts that a call is lent, on which its answer depends; those that it writes where it is done; and what stands beside its
+-- refusal: the needed length at 5, a buffer as it was, switches handed back
+pub record Uses : Type 0 where
+  pub lent : Parts
+  pub writes : Parts
+  pub tellsNeeded : Bool
+  pub refusedBytes : Bytes
+  pub handsBack : Option Switches
+
+-- a call with nothing beside a refusal
+abbrev pub plain : Parts → Parts → Uses
+plain lent writes = record { lent = lent; writes = writes; tellsNeeded = false; refusedBytes = []; handsBack = none }
+
+-- a power-on or restart, which hands back refused switches
+abbrev pub start : Parts → Parts → Uses
+start lent writes = record { lent = lent; writes = writes; tellsNeeded = false; refusedBytes = []; handsBack = some refusedSwitches }
+
+abbrev pub uses : Call → Uses
+uses (powerOn allowed) = start (parts true true true false) (parts false true true true)
+uses (restart allowed) = start (parts true true true false) (parts false false true true)
+uses (register e) = plain (parts false false true true) (parts false false true false)
+uses (dump buffer) =
+    record {
+      lent = parts false false true false;
+      writes = parts false false false false;
+      tellsNeeded = true;
+      refusedBytes = buffer;
+      handsBack = none;
+    }
+uses lock = plain (parts false false false true) (parts false false false true)
+uses disable = plain (parts false false false true) (parts false false false true)
+uses query = plain (parts false false false true) (parts false false false false)
+uses (read v) = plain (parts true true false false) (parts false false false false)
+uses (set r) = plain (parts true true true true) (parts true true false false)
+
+-- ---- the status: the first ground in its order (RULES.md, 9.2)
+
+-- power-on (RULES.md, 10.1)
 unfoldable pub powerOnStatus : Bytes → Bytes → Bytes → Status
 powerOnStatus nv vol policy =
     cond (soundAlone nv and leb (length vol) maxStore and eqb (length policy) policyBytes) Success VolumeCorrupted
 
--- Restart: both stores sound, the policy record of its right length
+-- restart (RULES.md, 10.2)
 unfoldable pub restartStatus : Bytes → Bytes → Bytes → Status
 restartStatus nv vol policy = cond (sound nv vol and eqb (length policy) policyBytes) Success VolumeCorrupted
 
--- Register: locked 8; malformed 2; equal namespace and name 20; a 65th entry or a sum over 8,192 is 9
+-- register (RULES.md, 10.3)
 unfoldable pub registerStatus : Bool → List Bytes → Bytes → Status
 registerStatus locked es e =
     cond locked WriteProtected
@@ -77,11 +125,11 @@ registerStatus locked es e =
     (cond (contains (sameTarget e) es) AlreadyStarted
     (cond (leb (suc (length es)) maxEntries and leb (length (flat es) + length e) policyBytes) Success OutOfResources)))
 
--- Dump: a buffer shorter than the sum of Sizes is 5
+-- dump (RULES.md, 10.4)
 unfoldable pub dumpStatus : List Bytes → Bytes → Status
 dumpStatus es buffer = cond (leb (length (flat es)) (length buffer)) Success BufferTooSmall
 
--- Read: bad name 2; absent 14
+-- read (RULES.md, 10.8)
 unfoldable pub readStatus : Bytes → Bytes → Variable → Status
 readStatus nv vol v = cond (named v) (cond (exists (lookup nv vol v)) Success NotFound) InvalidParameter
 
@@ -90,9 +138,13 @@ abbrev pub speaking : Bool → Option Bytes → Option Bytes
 speaking true e = e
 speaking false e = none
 
--- by the choice of every variable alone, and not by the list of entries
-unfoldable pub setStatusBy : (Variable → Option Bytes) → Bool → Bytes → Bytes → Request → Status
-setStatusBy choice enabled nv vol r = setStatus (speaking enabled (choice (r .variable))) nv vol r
+-- what a set decides, by the choice of every variable alone, and not by the list of entries
+unfoldable pub decisionBy : (Variable → Option Bytes) → Bool → Bytes → Bytes → Request → Decision
+decisionBy choice enabled nv vol r = decision (speaking enabled (choice (r .variable))) nv vol r
+
+-- what a set decides in a state
+abbrev pub decisionIn : State → Request → Decision
+decisionIn s r = decisionBy (chosen (entriesOf (s .policy))) (s .switches .enabled) (s .nv) (s .vol) r
 
 abbrev pub status : State → Call → Status
 status s (powerOn allowed) = powerOnStatus (s .nv) (s .vol) (s .policy)
@@ -104,10 +156,9 @@ status s disable = disableStatus (s .switches)
 status s query = Success
 status s (read v) = cond (sound (s .nv) (s .vol)) (readStatus (s .nv) (s .vol) v) VolumeCorrupted
 status s (set r) =
-    cond (sound (s .nv) (s .vol) and policyValid (s .policy))
-    (setStatusBy (chosen (entriesOf (s .policy))) (s .switches .enabled) (s .nv) (s .vol) r) VolumeCorrupted
+    cond (sound (s .nv) (s .vol) and policyValid (s .policy)) (decisionStatus (decisionIn s r)) VolumeCorrupted
 
--- ---- what stands beside a status: zeros and nothing beside a refusal, but for the needed length at 5
+-- ---- what stands beside a status (RULES.md, 9.3 and 10)
 
 abbrev pub onlyStatus : Status → Answer
 onlyStatus n = record { status = n; number = 0; bytes = []; switches = none }
@@ -115,39 +166,44 @@ onlyStatus n = record { status = n; number = 0; bytes = []; switches = none }
 abbrev pub handBack : Status → Switches → Answer
 handBack n w = record { status = n; number = 0; bytes = []; switches = some w }
 
--- a power-on or restart hands back fresh switches, or refused ones
-abbrev pub started : Status → Bool → Answer
-started n allowed = handBack n (cond (isSuccess n) (freshSwitches allowed) refusedSwitches)
+-- the sum of Sizes of the entries that stand
+abbrev pub entriesLength : State → ℕ
+entriesLength s = length (flat (entriesOf (s .policy)))
 
--- a dump: the entries from the buffer's start, later bytes as they were; the written length, or beside 5 the needed one
-abbrev pub dumped : Status → List Bytes → Bytes → Answer
-dumped n es buffer =
+-- beside 0
+abbrev pub given : State → Call → Answer
+given s (powerOn allowed) = handBack Success (freshSwitches allowed)
+given s (restart allowed) = handBack Success (freshSwitches allowed)
+given s (register e) = onlyStatus Success
+-- the written length, and the entries from the buffer's start, later bytes as they were
+given s (dump buffer) =
+    record { status = Success; number = entriesLength s; bytes = overwrite buffer 0 (flat (entriesOf (s .policy))); switches = none }
+given s lock = onlyStatus Success
+given s disable = onlyStatus Success
+-- the enabled switch
+given s query = record { status = Success; number = cond (s .switches .enabled) 1 0; bytes = []; switches = none }
+-- the attributes, and the payload
+given s (read v) =
     record {
-      status = n;
-      number = cond (isSuccess n || eqb (statusNumber n) 5) (length (flat es)) 0;
-      bytes = cond (isSuccess n) (overwrite buffer 0 (flat es)) buffer;
+      status = Success;
+      number = attributesIn (lookup (s .nv) (s .vol) v);
+      bytes = payloadIn (lookup (s .nv) (s .vol) v);
       switches = none;
     }
+given s (set r) = onlyStatus Success
 
--- a query: the enabled switch
-abbrev pub queried : Status → Bool → Answer
-queried n enabled = record { status = n; number = cond enabled 1 0; bytes = []; switches = none }
-
--- a read: the attributes, and the payload
-abbrev pub readAnswer : Status → Option Bytes → Answer
-readAnswer n r =
-    record { status = n; number = cond (isSuccess n) (attributesIn r) 0; bytes = cond (isSuccess n) (payloadIn r) []; switches = none }
+-- beside a refusal: what the call's row says
+abbrev pub refusal : State → Call → Status → Answer
+refusal s c n =
+    record {
+      status = n;
+      number = cond (uses c .tellsNeeded) (cond (eqb (statusNumber n) 5) (entriesLength s) 0) 0;
+      bytes = uses c .refusedBytes;
+      switches = uses c .handsBack;
+    }
 
 abbrev pub answer : State → Call → Status → Answer
-answer s (powerOn allowed) n = started n allowed
-answer s (restart allowed) n = started n allowed
-answer s (register e) n = onlyStatus n
-answer s (dump buffer) n = dumped n (entriesOf (s .policy)) buffer
-answer s lock n = onlyStatus n
-answer s disable n = onlyStatus n
-answer s query n = queried n (s .switches .enabled)
-answer s (read v) n = readAnswer n (lookup (s .nv) (s .vol) v)
-answer s (set r) n = onlyStatus n
+answer s c n = cond (isSuccess n) (given s c) (refusal s c n)
 
 -- ---- what a call that answers 0 leaves
 
@@ -165,13 +221,13 @@ effect s query = s
 effect s (read v) = s
 effect s (set r) =
     record {
-      nv = setStore true (s .nv) (lookup (s .nv) (s .vol) (r .variable)) r;
-      vol = setStore false (s .vol) (lookup (s .nv) (s .vol) (r .variable)) r;
+      nv = decisionStore (decisionIn s r) true (s .nv) (lookup (s .nv) (s .vol) (r .variable)) r;
+      vol = decisionStore (decisionIn s r) false (s .vol) (lookup (s .nv) (s .vol) (r .variable)) r;
       policy = s .policy;
       switches = s .switches;
     }
 
--- an answer other than 0 means that nothing was written anywhere
+-- a refused call leaves the state as it was
 abbrev pub after : State → Call → Status → State
 after s c n = cond (isSuccess n) (effect s c) s
 

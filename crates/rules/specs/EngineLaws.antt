@@ -1,35 +1,71 @@
 -- What holds of every call from every state. Assumes nothing.
 use Prim.Native.Nat.{ℕ}
-use mathlib.Core.Path.{_≡_, refl, sym, ap, _∙_}
-use mathlib.Core.List.{List, []}
-use mathlib.Core.Bool.{Bool, true, false, _||_, cond, true≢false}
-use mathlib.Core.Option.{Option, none, some}
+use mathlib.Core.Path.{_≡_, refl, sym, ap, subst⁻¹, _∙_}
+use mathlib.Core.Bool.{Bool, true, false, not, cond}
 use lib.Dec.{eqb}
-use Rattle.slices.specs.Bytes.{Bytes}
-use Rattle.names.specs.Name.{Variable}
 use Rattle.status.specs.declared.Status.{Status}
+use Rattle.status.specs.declared.Status.the-variants.{Success}
 use Rattle.status.specs.Status.{isSuccess, statusNumber}
-use Rattle.switches.specs.declared.Switches.{Switches}
-use Rattle.switches.specs.Switches.{refusedSwitches}
-use Rattle.rules.specs.Set.{Request}
-use Rattle.rules.specs.Engine.{State, Call, Answer, status, answer, after, effect, step}
+use Rattle.status.specs.StatusLaws.{success-only}
+use Rattle.rules.specs.Engine.{State, Call, Answer, Parts, parts, uses, status, onlyStatus, given, refusal, answer, effect, step}
 use Rattle.rules.specs.Engine.Call.{powerOn, restart, register, dump, lock, disable, query, read, set}
+
+-- ---- the rows
+
+abbrev pub OnlyIf : Bool → Type 0 → Type 0
+OnlyIf true P = P
+OnlyIf false P = Unit
+
+-- these parts of s and t are equal
+pub record SameParts (p : Parts) (s t : State) : Type 0 where
+  pub nv : OnlyIf (p .nv) (s .nv ≡ t .nv)
+  pub vol : OnlyIf (p .vol) (s .vol ≡ t .vol)
+  pub policy : OnlyIf (p .policy) (s .policy ≡ t .policy)
+  pub switches : OnlyIf (p .switches) (s .switches ≡ t .switches)
+
+-- t has of s every part that is not written
+abbrev pub Kept : Parts → State → State → Type 0
+Kept w s t = SameParts (parts (not (w .nv)) (not (w .vol)) (not (w .policy)) (not (w .switches))) t s
+
+-- what holds of each call by its row: what it gives has the status 0; it keeps what it does not write; its answer depends on what it is lent
+record ByRow (s : State) (c : Call) : Type 0 where
+  done : given s c .status ≡ Success
+  keeps : Kept (uses c .writes) s (effect s c)
+  lent : (t : State) → SameParts (uses c .lent) s t → step s c .0 ≡ step t c .0
+
+by-row : (s : State) (c : Call) → ByRow s c
+unfolding step
+by-row s (powerOn allowed) = record { done = refl; keeps = record { nv = refl; vol = tt; policy = tt; switches = tt }; lent = λ t e. rw (e .nv, e .vol, e .policy) }
+by-row s (restart allowed) = record { done = refl; keeps = record { nv = refl; vol = refl; policy = tt; switches = tt }; lent = λ t e. rw (e .nv, e .vol, e .policy) }
+by-row s (register x) = record { done = refl; keeps = record { nv = refl; vol = refl; policy = tt; switches = refl }; lent = λ t e. rw (e .policy, e .switches) }
+by-row s (dump buffer) = record { done = refl; keeps = record { nv = refl; vol = refl; policy = refl; switches = refl }; lent = λ t e. rw (e .policy) }
+by-row s lock = record { done = refl; keeps = record { nv = refl; vol = refl; policy = refl; switches = tt }; lent = λ t e. rw (e .switches) }
+by-row s disable = record { done = refl; keeps = record { nv = refl; vol = refl; policy = refl; switches = tt }; lent = λ t e. rw (e .switches) }
+by-row s query = record { done = refl; keeps = record { nv = refl; vol = refl; policy = refl; switches = refl }; lent = λ t e. rw (e .switches) }
+by-row s (read v) = record { done = refl; keeps = record { nv = refl; vol = refl; policy = refl; switches = refl }; lent = λ t e. rw (e .nv, e .vol) }
+by-row s (set r) = record { done = refl; keeps = record { nv = tt; vol = tt; policy = refl; switches = refl }; lent = λ t e. rw (e .nv, e .vol, e .policy, e .switches) }
+
+-- ---- the status, and a refusal
 
 -- the answer's status is the status
 pub answer-status : (s : State) (c : Call) (n : Status) → answer s c n .status ≡ n
-answer-status s (powerOn allowed) n = refl
-answer-status s (restart allowed) n = refl
-answer-status s (register e) n = refl
-answer-status s (dump buffer) n = refl
-answer-status s lock n = refl
-answer-status s disable n = refl
-answer-status s query n = refl
-answer-status s (read v) n = refl
-answer-status s (set r) n = refl
+answer-status s c n = go (isSuccess n) refl
+  where
+    go : (b : Bool) → isSuccess n ≡ b → cond b (given s c) (refusal s c n) .status ≡ n
+    go true h = by-row s c .done ∙ sym (success-only n h)
+    go false h = refl
 
 pub step-status : (s : State) (c : Call) → step s c .0 .status ≡ status s c
 unfolding step
 step-status s c = answer-status s c (status s c)
+
+-- where 0 has nothing beside it and a refusal neither, the answer is the status alone
+pub answer-alone : (s : State) (c : Call) (n : Status) → given s c ≡ onlyStatus Success → refusal s c n ≡ onlyStatus n → answer s c n ≡ onlyStatus n
+answer-alone s c n g r = go (isSuccess n) refl
+  where
+    go : (b : Bool) → isSuccess n ≡ b → cond b (given s c) (refusal s c n) ≡ onlyStatus n
+    go true h = g ∙ ap onlyStatus (sym (success-only n h))
+    go false h = r
 
 -- A REFUSED CALL CHANGES NOTHING, whatever the state and the call
 pub refused-changes-nothing : (s : State) (c : Call) → isSuccess (step s c .0 .status) ≡ false → step s c .1 ≡ s
@@ -41,77 +77,48 @@ pub granted-effect : (s : State) (c : Call) → isSuccess (step s c .0 .status) 
 unfolding step
 granted-effect s c h = ap (λ b. cond b (effect s c) s) (ap isSuccess (sym (answer-status s c (status s c))) ∙ h)
 
--- what stands beside a refusal: a dump's buffer is as it was, a power-on or restart hands back the refused switches, and nothing else is there
-abbrev pub bytesBesideRefusal : Call → Bytes
-bytesBesideRefusal (powerOn allowed) = []
-bytesBesideRefusal (restart allowed) = []
-bytesBesideRefusal (register e) = []
-bytesBesideRefusal (dump buffer) = buffer
-bytesBesideRefusal lock = []
-bytesBesideRefusal disable = []
-bytesBesideRefusal query = []
-bytesBesideRefusal (read v) = []
-bytesBesideRefusal (set r) = []
+-- and a call that does not answers as its row says
+refused-answer : (s : State) (c : Call) → isSuccess (step s c .0 .status) ≡ false → step s c .0 ≡ refusal s c (status s c)
+unfolding step
+refused-answer s c h = ap (λ b. cond b (given s c) (refusal s c (status s c))) (ap isSuccess (sym (answer-status s c (status s c))) ∙ h)
 
-abbrev pub switchesBesideRefusal : Call → Option Switches
-switchesBesideRefusal (powerOn allowed) = some refusedSwitches
-switchesBesideRefusal (restart allowed) = some refusedSwitches
-switchesBesideRefusal (register e) = none
-switchesBesideRefusal (dump buffer) = none
-switchesBesideRefusal lock = none
-switchesBesideRefusal disable = none
-switchesBesideRefusal query = none
-switchesBesideRefusal (read v) = none
-switchesBesideRefusal (set r) = none
-
-module _ (s : State) where
-  refused-bytes : (c : Call) (n : Status) → isSuccess n ≡ false → answer s c n .bytes ≡ bytesBesideRefusal c
-  refused-bytes (powerOn allowed) n h = refl
-  refused-bytes (restart allowed) n h = refl
-  refused-bytes (register e) n h = refl
-  refused-bytes (dump buffer) n h = rw h
-  refused-bytes lock n h = refl
-  refused-bytes disable n h = refl
-  refused-bytes query n h = refl
-  refused-bytes (read v) n h = rw h
-  refused-bytes (set r) n h = refl
-
-  refused-switches : (c : Call) (n : Status) → isSuccess n ≡ false → answer s c n .switches ≡ switchesBesideRefusal c
-  refused-switches (powerOn allowed) n h = rw h
-  refused-switches (restart allowed) n h = rw h
-  refused-switches (register e) n h = refl
-  refused-switches (dump buffer) n h = refl
-  refused-switches lock n h = refl
-  refused-switches disable n h = refl
-  refused-switches query n h = refl
-  refused-switches (read v) n h = refl
-  refused-switches (set r) n h = refl
-
-  -- a query is never refused
-  refused-number : (c : Call) → isSuccess (status s c) ≡ false → eqb (statusNumber (status s c)) 5 ≡ false → answer s c (status s c) .number ≡ 0
-  refused-number (powerOn allowed) h k = refl
-  refused-number (restart allowed) h k = refl
-  refused-number (register e) h k = refl
-  refused-number (dump buffer) h k = rw (h, k)
-  refused-number lock h k = refl
-  refused-number disable h k = refl
-  refused-number query h k = absurd (true≢false h)
-  refused-number (read v) h k = rw h
-  refused-number (set r) h k = refl
-
--- EVERY NUMBER BESIDE A REFUSAL IS ZERO, but for the needed length at 5
+-- EVERY NUMBER BESIDE A REFUSAL IS ZERO, but for the needed length at 5; a dump's buffer is as it was, a power-on or restart hands back
+-- the refused switches, and nothing else is there
 pub record BesideRefusal (c : Call) (a : Answer) : Type 0 where
   pub number : eqb (statusNumber (a .status)) 5 ≡ false → a .number ≡ 0
-  pub bytes : a .bytes ≡ bytesBesideRefusal c
-  pub switches : a .switches ≡ switchesBesideRefusal c
+  pub bytes : a .bytes ≡ uses c .refusedBytes
+  pub switches : a .switches ≡ uses c .handsBack
 
 pub beside-refusal : (s : State) (c : Call) → isSuccess (step s c .0 .status) ≡ false → BesideRefusal c (step s c .0)
-unfolding step
-beside-refusal s c h =
-    let e = answer-status s c (status s c) in
-    let k : isSuccess (status s c) ≡ false = ap isSuccess (sym e) ∙ h in
+beside-refusal s c h = subst⁻¹ (BesideRefusal c) (refused-answer s c h) (record { number = λ m. rw m (go (uses c .tellsNeeded)); bytes = refl; switches = refl })
+  where
+    go : (b : Bool) → cond {A = ℕ} b 0 0 ≡ 0
+    go true = refl
+    go false = refl
+
+-- ---- what is lent and what is kept
+
+-- A CALL'S ANSWER DEPENDS ON THE PARTS THAT IT IS LENT ALONE, and so only those can get it 10
+pub answers-by-lent : (s t : State) (c : Call) → SameParts (uses c .lent) s t → step s c .0 ≡ step t c .0
+answers-by-lent s t c e = by-row s c .lent t e
+
+only-if : (b : Bool) (P : Type 0) → P → OnlyIf b P
+only-if true P p = p
+only-if false P p = tt
+
+same-parts : (p : Parts) (s : State) → SameParts p s s
+same-parts p s =
     record {
-      number = λ m. refused-number s c k (ap (λ n. eqb (statusNumber n) 5) (sym e) ∙ m);
-      bytes = refused-bytes s c (status s c) k;
-      switches = refused-switches s c (status s c) k;
+      nv = only-if (p .nv) (s .nv ≡ s .nv) refl;
+      vol = only-if (p .vol) (s .vol ≡ s .vol) refl;
+      policy = only-if (p .policy) (s .policy ≡ s .policy) refl;
+      switches = only-if (p .switches) (s .switches ≡ s .switches) refl;
     }
+
+-- EACH CALL KEEPS WHAT IT DOES NOT WRITE, done or refused
+pub kept : (s : State) (c : Call) → Kept (uses c .writes) s (step s c .1)
+kept s c = go (isSuccess (step s c .0 .status)) refl
+  where
+    go : (b : Bool) → isSuccess (step s c .0 .status) ≡ b → Kept (uses c .writes) s (step s c .1)
+    go true h = subst⁻¹ (Kept (uses c .writes) s) (granted-effect s c h) (by-row s c .keeps)
+    go false h = subst⁻¹ (Kept (uses c .writes) s) (refused-changes-nothing s c h) (same-parts _ s)

@@ -1,21 +1,23 @@
 -- What a state holds, by the tests of the rules and by the propositions of Grounds.antt: soundness, the entries, a variable's record,
 -- and a store's records with one written. Assumes nothing.
+use Prim.Native.Nat.{_+_}
 use mathlib.Core.Path.{_≡_, refl, sym, ap, ap₂, subst, subst⁻¹, _∙_}
 use mathlib.Core.List.{List, [], _∷_, _++_}
 use mathlib.Core.Bool.{Bool, true, false, _||_, cond, or-true, true≢false, false≢true}
 use mathlib.Core.Option.{Option, none, some}
 use mathlib.Core.Logic.{inl, inr}
+use lib.ListN.{length, length-append}
 use Rattle.lists.specs.Lists as lists
 use Rattle.lists.specs.Lists.{Among, Pairs}
 use Rattle.lists.specs.ListsLaws.{among-middle}
 use Rattle.slices.specs.TestLaws.{and-left, and-right, and-intro, forced-off}
 use Rattle.slices.specs.Bytes.{Bytes, padded}
-use Rattle.slices.specs.Chunks.{packed, contains, distinct, find, remove, replace, replaceOrAppend}
+use Rattle.slices.specs.Chunks.{flat, packed, contains, distinct, find, remove, replace, replaceOrAppend}
 use Rattle.slices.specs.ChunksLaws.{All, nil, more}
 use Rattle.slices.specs.ItemsLaws.{all-map, contains-middle, contains-none, distinct-across, distinct-apart, distinct-cons, distinct-left, distinct-right, find-takes, or-left-off, or-off, or-right-off, remove-none}
 use Rattle.names.specs.Name.{Variable}
 use Rattle.entry.specs.Entry.{namespaceOf, nameOf, sameTarget}
-use Rattle.entry.specs.EntryLaws.{sameTarget-same, sameTarget-of}
+use Rattle.entry.specs.EntryLaws.{sized, sameTarget-same, sameTarget-of}
 use Rattle.policy.specs.Policy.{entriesOf, policyValid}
 use Rattle.policy.specs.PolicyLaws as policy
 use Rattle.store.specs.Record.{isOf, sameVariable, variableOf}
@@ -25,8 +27,8 @@ use Rattle.store.specs.StoreLaws as store
 use Rattle.stores.specs.Pair.{allRecords, sound, soundAlone, lookup}
 use Rattle.stores.specs.PairLaws.{sound-nv, sound-vol, sound-distinct, sound-of}
 use Rattle.rules.specs.Set.{exists}
-use Rattle.rules.specs.Engine.{State}
-use Rattle.rules.specs.Grounds.{Not, PolicyEntries, HasEntries, StoreRecords, Apart, PairRecords, SoundStores, SoundAlone, RecordOf, Absent, Put}
+use Rattle.rules.specs.Engine.{State, entriesLength}
+use Rattle.rules.specs.Grounds.{Not, PolicyEntries, HasEntries, sumOfSizes, StoreRecords, Apart, PairRecords, SoundStores, SoundAlone, RecordOf, Absent, Put}
 use Rattle.rules.specs.Effects.{Taken}
 use Rattle.rules.specs.ConditionLaws.{Tells, tells-off, off-tells}
 
@@ -69,18 +71,18 @@ lists-all (x ∷ l) h = more (h .0) (lists-all l (h .1))
 
 -- no item is like a later one, by the test and by the pairs
 module _ (like : Bytes → Bytes → Bool) (Like : Bytes → Bytes → Type 0) (tells : (a b : Bytes) → Tells (like a b) (Like a b)) where
-  distinct-pairs : (l : List Bytes) → distinct like l ≡ true → Pairs (λ a b. Not (Like a b)) l
+  pub distinct-pairs : (l : List Bytes) → distinct like l ≡ true → Pairs (λ a b. Not (Like a b)) l
   distinct-pairs [] e = tt
   distinct-pairs (x ∷ l) e =
       let w = distinct-apart like x l e in
       (all-lists l (all-map (λ c h. tells-off _ (tells x c) h) l (contains-none (like x) l (w .here))), distinct-pairs l (w .rest))
 
-  none-like : (x : Bytes) (l : List Bytes) → lists.All (λ c. Not (Like x c)) l → contains (like x) l ≡ false
+  pub none-like : (x : Bytes) (l : List Bytes) → lists.All (λ c. Not (Like x c)) l → contains (like x) l ≡ false
   unfolding contains
   none-like x [] h = refl
   none-like x (c ∷ l) h = or-off (like x c) (contains (like x) l) (off-tells _ (tells x c) (h .0)) (none-like x l (h .1))
 
-  pairs-distinct : (l : List Bytes) → Pairs (λ a b. Not (Like a b)) l → distinct like l ≡ true
+  pub pairs-distinct : (l : List Bytes) → Pairs (λ a b. Not (Like a b)) l → distinct like l ≡ true
   unfolding distinct
   pairs-distinct [] h = refl
   pairs-distinct (x ∷ l) h = distinct-cons like x l (none-like x l (h .0)) (pairs-distinct l (h .1))
@@ -90,7 +92,7 @@ module _ (like : Bytes → Bytes → Bool) (Like : Bytes → Bytes → Type 0) (
 tells-variable : (a b : Bytes) → Tells (sameVariable a b) (variableOf a ≡ variableOf b)
 tells-variable a b = ((λ e. isOf-variable (variableOf a) b e), λ e. subst⁻¹ (λ v. isOf v b ≡ true) e (isOf-self b))
 
-tells-target : (e f : Bytes) → Tells (sameTarget e f) ((namespaceOf e ≡ namespaceOf f) × (nameOf e ≡ nameOf f))
+pub tells-target : (e f : Bytes) → Tells (sameTarget e f) ((namespaceOf e ≡ namespaceOf f) × (nameOf e ≡ nameOf f))
 tells-target e f = (
   (λ h. let w = sameTarget-same e f h in (w .namespace, w .name)),
   λ w. sameTarget-of e f (record { namespace = w .0; name = w .1 }),
@@ -191,6 +193,15 @@ tells-alone nv = (
       and-intro _ _ (store-sound true nv (s .inNV) (s .records))
       (subst (λ l. distinct sameVariable l ≡ true) (store-read true nv (s .inNV) (s .records)) (apart-distinct (s .inNV) (s .apart))),
 )
+
+-- the sum of Sizes is the length of the entries end to end
+sizes-sum : (es : List Bytes) → All policy.WellFormed es → length (flat es) ≡ sumOfSizes es
+unfolding flat
+sizes-sum [] nil = refl
+sizes-sum (e ∷ es) (more h a) = length-append e (flat es) ∙ ap₂ _+_ (sym (sized e h .stated)) (sizes-sum es a)
+
+pub sum-of-sizes : (s : State) → entriesLength s ≡ sumOfSizes (entriesOf (s .policy))
+sum-of-sizes s = sizes-sum (entriesOf (s .policy)) (policy.entriesOf-formed (s .policy))
 
 pub valid-entries : (s : State) → policyValid (s .policy) ≡ true → HasEntries s (entriesOf (s .policy))
 valid-entries s e = packs-entries (s .policy) (entriesOf (s .policy)) (policy.policy-entries (s .policy) e)

@@ -77,7 +77,7 @@ Matches (p ∷ ps) (u ∷ us) = UnitMatches p u × Matches ps us
 abbrev pub WholeNamespace : Bytes → Type 0
 WholeNamespace e = offsetToName e ≡ length e
 
--- an entry targets a variable: the namespaces are equal, and its name is empty or matches
+-- targets (RULES.md, 4.1): one namespace for both, and a pattern that is empty or matches
 abbrev pub Targets : Bytes → Variable → Type 0
 Targets e v = (namespaceOf e ≡ v .namespace) × (WholeNamespace e ⊎ Matches (units (nameOf e)) (units (v .name)))
 
@@ -87,7 +87,7 @@ pub data Signs : List ℕ → ℕ → Type 0 where
   sign : {us : List ℕ} {n : ℕ} → Signs us n → Signs (numberSign ∷ us) (suc n)
   other : {u : ℕ} {us : List ℕ} {n : ℕ} → Not (u ≡ numberSign) → Signs us n → Signs (u ∷ us) n
 
--- the rank of an entry: the number of '#' in its name; an empty name ranks behind all others
+-- rank (RULES.md, 4.2): how many '#' its name has; of a whole namespace, one more than any name can have
 pub data Ranks (e : Bytes) : ℕ → Type 0 where
   whole : WholeNamespace e → Ranks e wholeNamespaceRank
   named : {n : ℕ} → Not (WholeNamespace e) → Signs (units (nameOf e)) n → Ranks e n
@@ -168,7 +168,7 @@ pub data Locks (s : State) (e : Bytes) (v : Variable) : Type 0 where
 
 -- ---- requests
 
--- a deletion: no append, and either an empty payload or neither BS nor RT
+-- a deletion (RULES.md, 10.9): without append, and with no payload or with neither of BS and RT
 abbrev pub Deletion : Request → Type 0
 Deletion r = Not (Append (r .attributes)) × ((r .payload ≡ []) ⊎ Not (BS (r .attributes) ⊎ RT (r .attributes)))
 

@@ -20,12 +20,11 @@ use Rattle.stores.specs.Pair.{sound, soundAlone, lookup}
 use Rattle.entry.specs.Entry.{sizeField, wellFormed, sameTarget}
 use Rattle.entry.specs.EntryLaws.{sized, sameTarget-same, sameTarget-of}
 use Rattle.policy.specs.Policy.{entriesOf, policyValid}
-use Rattle.policy.specs.PolicyLaws.{entriesOf-formed}
 use Rattle.status.specs.declared.Status.{Status}
 use Rattle.status.specs.declared.Status.the-variants.{Success, InvalidParameter, Unsupported, BufferTooSmall, WriteProtected, OutOfResources, VolumeCorrupted, NotFound, AlreadyStarted}
 use Rattle.status.specs.Status.{isSuccess}
+use Rattle.status.specs.StatusLaws.{success-only}
 use Rattle.rules.specs.Set.{Request, exists}
-use Rattle.rules.specs.LentLaws.{sizes-sum}
 use Rattle.rules.specs.Engine.{State, Call, powerOnStatus, restartStatus, registerStatus, dumpStatus, readStatus, status, step}
 use Rattle.rules.specs.EngineLaws.{step-status}
 use Rattle.rules.specs.Engine.Call.{powerOn, restart, register, dump, lock, disable, query, read, set}
@@ -34,7 +33,7 @@ use Rattle.rules.specs.Grounds.Applies.{powerOnUnsound, powerOnVolatileT
 use Rattle.rules.specs.Grounds.Applies.{registerBadRecord, registerLocked, registerMalformed, registerRepeated, registerTooMany, registerTooLong, registerDone, dumpBadRecord, dumpShort, dumpDone}
 use Rattle.rules.specs.Grounds.Applies.{lockLocked, lockDone, disableDisabled, disableLocked, disableNotAllowed, disableDone, queryDone, readUnsound, readBadName, readAbsent, readDone}
 use Rattle.rules.specs.ConditionLaws.{tells-not, tells-eq, tells-le, tells-more, tells-off, tells-named}
-use Rattle.rules.specs.FoundLaws.{tells-sound, tells-alone, valid-entries, entries-read, tells-entries, tells-exists, among-contains, contains-among}
+use Rattle.rules.specs.FoundLaws.{tells-sound, tells-alone, sum-of-sizes, valid-entries, entries-read, tells-entries, tells-exists, among-contains, contains-among}
 use Rattle.rules.specs.Grounds.Applies.{setUnsound, setBadRecord, setBadName, setLongPayload, setUnknownBit, setRuntimeWithoutBS, setAppendWithoutBS, setTooShort, setTooLong, setBitMissing, setBitProhibited, setLocked}
 use Rattle.rules.specs.Grounds.Applies.{setAbsent, setDeleted, setOtherAttributes, setEmptyAppend, setAppendTooLong, setNoRoomNV, setNoRoomVol, setDone}
 use Rattle.rules.specs.SetGroundsLaws.{set-answers}
@@ -136,7 +135,7 @@ module _ (s : State) (e : Bytes) where
     register-formed l = not-false _ (n 2 l)
 
     register-sum : 2 < p → length (flat es) + length e ≡ sumOfSizes es + sizeField e
-    register-sum l = ap₂ _+_ (sizes-sum es (entriesOf-formed (s .policy))) (sym (sized e (register-formed l) .stated))
+    register-sum l = ap₂ _+_ (sum-of-sizes s) (sym (sized e (register-formed l) .stated))
 
   register-grounds : Grounds s (register e) register-rows register-rows
   register-grounds =
@@ -193,9 +192,6 @@ module _ (s : State) (buffer : Bytes) where
   abbrev dump-rows : List Row
   dump-rows = row 0 (not (policyValid (s .policy))) VolumeCorrupted ∷ row 1 (not (leb (length (flat listed)) (length buffer))) BufferTooSmall ∷ row 2 true Success ∷ []
 
-  dump-sum : length (flat listed) ≡ sumOfSizes listed
-  dump-sum = sizes-sum listed (entriesOf-formed (s .policy))
-
   dump-listed : (p : ℕ) → NoneBefore dump-rows p → 0 < p → HasEntries s listed
   dump-listed p n l = valid-entries s (not-false _ (n 0 l))
 
@@ -204,7 +200,7 @@ module _ (s : State) (buffer : Bytes) where
       (λ n t. dumpBadRecord (λ x k. tells-not _ (tells-entries s) .0 t (x, k)))
       then (λ n t.
       let h = tells-not _ (tells-le (length (flat listed)) (length buffer)) .0 t in
-      dumpShort {buffer = buffer} listed (dump-listed 1 n (lit< tt)) (let q = dump-sum in omega arith))
+      dumpShort {buffer = buffer} listed (dump-listed 1 n (lit< tt)) (let q = sum-of-sizes s in omega arith))
       then (λ n t. dumpDone)
       then last
 
@@ -212,7 +208,7 @@ module _ (s : State) (buffer : Bytes) where
   no-dump p n k m l (dumpBadRecord h) = h listed (dump-listed p n l)
   no-dump p n k m l (dumpShort xs w h) =
       let o = ap sumOfSizes (entries-read s xs w) in
-      let q = dump-sum in
+      let q = sum-of-sizes s in
       tells-off _ (tells-not _ (tells-le (length (flat listed)) (length buffer))) (n 1 l) (λ g. omega arith)
   no-dump p n k m l dumpDone = true≢false (n 2 l)
 
@@ -409,18 +405,6 @@ status-exactly s c n = (
   (λ e. subst (Answers s c) (sym (step-status s c) ∙ e) (status-answers s c)),
   λ a. step-status s c ∙ one-answer s c (status s c) n (status-answers s c) a,
 )
-
--- a status is 0 or another
-pub success-only : (n : Status) → isSuccess n ≡ true → n ≡ Success
-success-only Success h = refl
-success-only InvalidParameter h = absurd (false≢true h)
-success-only Unsupported h = absurd (false≢true h)
-success-only BufferTooSmall h = absurd (false≢true h)
-success-only WriteProtected h = absurd (false≢true h)
-success-only OutOfResources h = absurd (false≢true h)
-success-only VolumeCorrupted h = absurd (false≢true h)
-success-only NotFound h = absurd (false≢true h)
-success-only AlreadyStarted h = absurd (false≢true h)
 
 pub refused-test : (n : Status) → Not (n ≡ Success) → isSuccess n ≡ false
 refused-test n o = forced-off (isSuccess n) (λ t. absurd (o (success-only n t)))

@@ -1,10 +1,9 @@
 pub mod Set
+pub mod DecisionLaws
 pub mod SetLaws
 pub mod Engine
 pub mod EngineLaws
 pub mod Grounds
-pub mod LentLaws
-pub mod KeptLaws
 pub mod ConditionLaws
 pub mod Effects
 pub mod FoundLaws
@@ -13,4 +12,5 @@ pub mod SetGroundsLaws
 pub mod GroundsLaws
 pub mod EffectsLaws
 pub mod StateLaws
+pub mod Opened
 pub mod Readings

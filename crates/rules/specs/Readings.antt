@@ -1,26 +1,17 @@
--- The starred bench readings of document 01, all ten lines, as the statuses that whole calls answer from a power-on, under one claim.
+-- The proved bench readings (RULES.md, 13), as the statuses that whole calls answer from a power-on, under one claim.
 -- Assumes nothing.
-use Prim.Native.Nat.{ℕ, _+_, _*_, _/_, _%_, _-_}
+use Prim.Native.Nat.{ℕ, _+_, _*_}
 use mathlib.Core.Path.{_≡_, refl}
 use mathlib.Core.List.{List, [], _∷_, _++_}
-use mathlib.Core.Bool.{Bool, true, false}
+use mathlib.Core.Bool.{true, false}
 use lib.ListN.{length, replicate, take}
 use Rattle.lists.specs.Lists.{All}
-use Rattle.slices.specs.Test.{_and_}
-use Rattle.slices.specs.Bytes.{Bytes, le16, le32, le16Bytes, le32Bytes, same, pairwise, allAre, overwrite, padded}
-use Rattle.slices.specs.Chunks.{flat, chunks, chunksFrom, used, packed, contains, distinct, find, remove, replace, replaceOrAppend}
-use Rattle.names.specs.Name.{Variable, units, noZero, isName, isTerminated, named, isHexDigit, unitMatches, wildcards}
-use Rattle.entry.specs.Entry.{headerOk, lockOk, nameOk, wellFormed, nameOf, triggerOf, targets, rank, sameTarget}
-use Rattle.policy.specs.Policy.{entryLength, policyValid, emptyPolicy}
-use Rattle.policy.specs.Choice.{chosen}
-use Rattle.store.specs.Record as stored
-use Rattle.store.specs.Store.{storeOk, withoutVariable, hasRoom, withRecord}
-use Rattle.stores.specs.Pair.{sound, soundAlone, lookup}
+use Rattle.slices.specs.Bytes.{Bytes, le16Bytes, le32Bytes, same}
 use Rattle.status.specs.Status.{statusNumber}
 use Rattle.switches.specs.Switches.{freshSwitches}
-use Rattle.rules.specs.Set.{Request, exists, isEmpty, holdsValue, locks, isDeletion, sizeAllowed, attributesAllowed, requestGround, groundOf, otherAttributes, isEmptyAppend, payloadAfter, writeStatus, badRequest, unsupportedBit, needsBS, requestStatus, setStatus, setStore}
-use Rattle.rules.specs.Engine.{State, Call, step, powerOnStatus, restartStatus, registerStatus, dumpStatus, readStatus, setStatusBy}
+use Rattle.rules.specs.Engine.{State, Call, step}
 use Rattle.rules.specs.Engine.Call.{powerOn, register, lock, disable, set}
+use Rattle.rules.specs.Opened.{rulesOpened}
 
 -- ---- how the readings are written down
 
@@ -90,35 +81,35 @@ T = 0x54 ∷ []
 -- calls after a power-on that allows disabling, and the numbers of their statuses, the power-on's first
 abbrev readings : List (List Call × List ℕ)
 readings =
-    -- 43 bytes: 2. A sound 44-byte entry: 0
+    -- one byte too few; the shortest entry
     ((register (take 43 (entry 43 44 0 0 [])) ∷ register (whole-namespace 0) ∷ []), 0 ∷ 2 ∷ 0 ∷ [])
-    -- Type 0, Size 46, name only a zero unit: 2
+    -- a name of no units, closed
     ∷ ((register (named-entry 0 0 []) ∷ []), 0 ∷ 2 ∷ [])
-    -- Type 3 with OffsetToName 64: 2; with 66 and one unit: 0
+    -- a trigger's name of no units, and of one
     ∷ ((register (entry 64 64 0 3 (G ++ (0 ∷ 0 ∷ []) ++ closed [])) ∷ register (entry 66 66 0 3 (G ++ (0 ∷ 0 ∷ []) ++ closed T)) ∷ []), 0 ∷ 2 ∷ 0 ∷ [])
-    -- "Boot####" targets "Boot00fF" and "Boot####", not "Boot000G"
+    -- '#' over hex digits, over itself, and over another letter
     ∷ ((register (named-entry 0 1 (boot (0x23 ∷ 0x23 ∷ 0x23 ∷ 0x23 ∷ []))) ∷ write (boot (0x30 ∷ 0x30 ∷ 0x66 ∷ 0x46 ∷ [])) ∷ write (boot (0x23 ∷ 0x23 ∷ 0x23 ∷ 0x23 ∷ [])) ∷ write (boot (0x30 ∷ 0x30 ∷ 0x30 ∷ 0x47 ∷ [])) ∷ []), 0 ∷ 0 ∷ 8 ∷ 8 ∷ 0 ∷ [])
-    -- "Boot00##" then "Boot##01": "Boot0001" gets the first, be it the one that locks or the other
+    -- of two entries of one rank the first registered speaks, be it the one that locks or the other
     ∷ ((register (named-entry 0 1 (boot (0x30 ∷ 0x30 ∷ 0x23 ∷ 0x23 ∷ []))) ∷ register (named-entry 0 0 (boot (0x23 ∷ 0x23 ∷ 0x30 ∷ 0x31 ∷ []))) ∷ write (boot (0x30 ∷ 0x30 ∷ 0x30 ∷ 0x31 ∷ [])) ∷ []), 0 ∷ 0 ∷ 0 ∷ 8 ∷ [])
     ∷ ((register (named-entry 0 0 (boot (0x30 ∷ 0x30 ∷ 0x23 ∷ 0x23 ∷ []))) ∷ register (named-entry 0 1 (boot (0x23 ∷ 0x23 ∷ 0x30 ∷ 0x31 ∷ []))) ∷ write (boot (0x30 ∷ 0x30 ∷ 0x30 ∷ 0x31 ∷ [])) ∷ []), 0 ∷ 0 ∷ 0 ∷ 0 ∷ [])
-    -- Whole namespace first, then "Boot####": the second, be it the one that locks or the other; the whole namespace where no other targets
+    -- a whole-namespace entry speaks only where no other targets, be it the one that locks or the other
     ∷ ((register (whole-namespace 1) ∷ register (named-entry 0 0 (boot (0x23 ∷ 0x23 ∷ 0x23 ∷ 0x23 ∷ []))) ∷ write (boot (0x30 ∷ 0x30 ∷ 0x30 ∷ 0x31 ∷ [])) ∷ write A ∷ []), 0 ∷ 0 ∷ 0 ∷ 0 ∷ 8 ∷ [])
     ∷ ((register (whole-namespace 0) ∷ register (named-entry 0 1 (boot (0x23 ∷ 0x23 ∷ 0x23 ∷ 0x23 ∷ []))) ∷ write (boot (0x30 ∷ 0x30 ∷ 0x30 ∷ 0x31 ∷ [])) ∷ write A ∷ []), 0 ∷ 0 ∷ 0 ∷ 8 ∷ 0 ∷ [])
-    -- Value 0: trigger absent, write allowed; trigger 00, 8; trigger 00 00, allowed
+    -- a trigger with Value 0: absent, with the byte 0, with two bytes 0
     ∷ ((register (triggered A) ∷ write A ∷ setting T 3 (0 ∷ []) ∷ write A ∷ setting T 3 (0 ∷ 0 ∷ []) ∷ write A ∷ []), 0 ∷ 0 ∷ 0 ∷ 0 ∷ 8 ∷ 0 ∷ 0 ∷ [])
-    -- Type 2: create 0, rewrite 8, delete 8
+    -- lock on create: before and after
     ∷ ((register (named-entry 0 2 A) ∷ write A ∷ write A ∷ delete A ∷ []), 0 ∷ 0 ∷ 0 ∷ 8 ∷ 8 ∷ [])
-    -- MinSize 2: one byte 2, two bytes 0, then delete 0
+    -- MinSize 2, which a deletion is not held to
     ∷ ((register (named-entry 2 0 A) ∷ write A ∷ setting A 3 (1 ∷ 2 ∷ []) ∷ delete A ∷ []), 0 ∷ 0 ∷ 2 ∷ 0 ∷ 0 ∷ [])
-    -- Attributes 4: 2. Attributes 8: 3
+    -- RT without BS; a bit that is not known
     ∷ ((setting A 4 (1 ∷ []) ∷ setting A 8 (1 ∷ []) ∷ []), 0 ∷ 2 ∷ 3 ∷ [])
-    -- Disable, lock: 0, 0. Lock, disable: 0, 8. Disable twice: 0, 20
+    -- lock and disable in both orders; disable twice
     ∷ ((disable ∷ lock ∷ []), 0 ∷ 0 ∷ 0 ∷ [])
     ∷ ((lock ∷ disable ∷ []), 0 ∷ 0 ∷ 8 ∷ [])
     ∷ ((disable ∷ disable ∷ []), 0 ∷ 0 ∷ 20 ∷ [])
     ∷ []
 
--- THE STARRED READINGS
-pub starred-readings : All Holds readings
-unfolding _and_ le16 le32 le16Bytes le32Bytes pairwise allAre overwrite padded flat chunks chunksFrom used packed contains distinct find remove replace replaceOrAppend units noZero isName isTerminated named isHexDigit unitMatches wildcards headerOk lockOk nameOk wellFormed nameOf triggerOf targets rank sameTarget entryLength policyValid chosen stored.namespaceOf stored.nameOf stored.payloadOf stored.attributesOk stored.headerOk stored.bodyOk stored.recordOk stored.recordLength stored.isOf stored.encodeRecord storeOk withoutVariable hasRoom withRecord sound soundAlone lookup exists isEmpty holdsValue locks isDeletion sizeAllowed attributesAllowed requestGround groundOf otherAttributes isEmptyAppend payloadAfter writeStatus badRequest unsupportedBit needsBS requestStatus setStatus setStore step powerOnStatus restartStatus registerStatus dumpStatus readStatus setStatusBy
-starred-readings = (refl, (refl, (refl, (refl, (refl, (refl, (refl, (refl, (refl, (refl, (refl, (refl, (refl, (refl, (refl, tt)))))))))))))))
+-- THE READINGS HOLD
+pub readings-hold : All Holds readings
+unfolding rulesOpened
+readings-hold = (refl, (refl, (refl, (refl, (refl, (refl, (refl, (refl, (refl, (refl, (refl, (refl, (refl, (refl, (refl, tt)))))))))))))))

@@ -1,17 +1,19 @@
--- Set: its ten steps, in document 01's order.
+-- Set: its ten steps, in their order (RULES.md, 10.9).
 -- Assumes nothing: these are definitions.
 use Prim.Native.Nat.{ℕ, _%_}
-use mathlib.Core.List.{List, [], _∷_, _++_}
+use mathlib.Core.List.{[], _∷_, _++_}
 use mathlib.Core.Bool.{Bool, true, false, not, _||_, cond}
 use mathlib.Core.Option.{Option, none, some}
 use lib.ListN.{length}
 use lib.Dec.{eqb, leb, ltb}
 use lib.Bits.{bitAnd}
-use Rattle.limits.specs.Limits.{maxPayload}
+use Rattle.limits.specs.Limits.{knownAttributes, maxPayload}
 use Rattle.slices.specs.Test.{_and_}
 use Rattle.slices.specs.Bytes.{Bytes, same}
 use Rattle.names.specs.Name.{Variable, named}
-use Rattle.entry.specs.Entry.{minSize, maxSize, attributesMustHave, attributesCantHave, lockPolicyType, triggerOf, triggerValue}
+use Rattle.entry.specs.Entry.{minSize, maxSize, attributesMustHave, attributesCantHave, lockOf, triggerOf, triggerValue}
+use Rattle.entry.specs.declared.LockRule.{LockRule}
+use Rattle.entry.specs.declared.LockRule.the-variants.{NoLock, LockNow, LockOnCreate, LockOnVarState}
 use Rattle.store.specs.Record.{hasNV, hasBS, hasRT, hasAppend, attributesOf, payloadOf, encodeRecord}
 use Rattle.store.specs.Store.{withoutVariable, hasRoom, withRecord}
 use Rattle.stores.specs.Pair.{lookup}
@@ -20,6 +22,8 @@ use Rattle.status.specs.declared.Status.the-variants.{Success, InvalidParameter
 use Rattle.status.specs.Status.{isSuccess}
 use Rattle.rules.specs.declared.Ground.{Ground}
 use Rattle.rules.specs.declared.Ground.the-variants.{NoGround, SizeGround, AttributeGround, LockGround}
+use Rattle.rules.specs.declared.Decision.{Decision}
+use Rattle.rules.specs.declared.Decision.the-variants.{Refuse, Block, Delete, Keep, Store}
 
 -- what a set is given, as it arrives
 pub record Request : Type 0 where
@@ -27,13 +31,13 @@ pub record Request : Type 0 where
   pub attributes : ℕ
   pub payload : Bytes
 
+abbrev pub requestOf : Bytes → Bytes → ℕ → Bytes → Request
+requestOf namespace name attributes payload =
+    record { variable = record { namespace = namespace; name = name }; attributes = attributes; payload = payload }
+
 -- a variable's record, if the variable exists
 abbrev pub Lookup : Type 0
 Lookup = Variable → Option Bytes
-
--- the first of two statuses that refuses
-abbrev pub orElse : Status → Status → Status
-orElse n later = cond (isSuccess n) later n
 
 unfoldable pub exists : Option Bytes → Bool
 exists none = false
@@ -45,15 +49,15 @@ isEmpty (b ∷ l) = false
 
 -- ---- steps 1 to 3
 
--- name not 1 to 64 units or with a zero unit, or payload over 1,024 bytes
+-- step 1: a bad name, or too long a payload
 unfoldable pub badRequest : Variable → Bytes → Bool
 badRequest v payload = not (named v) || ltb maxPayload (length payload)
 
--- a bit outside 0x47
+-- step 2: an attribute bit that is none of NV, BS, RT and append
 unfoldable pub unsupportedBit : ℕ → Bool
-unsupportedBit a = not (eqb (bitAnd a 0x47) a)
+unsupportedBit a = not (eqb (bitAnd a knownAttributes) a)
 
--- RT or append without BS
+-- step 3: RT or append, and no BS
 unfoldable pub needsBS : ℕ → Bool
 needsBS a = (hasRT a || hasAppend a) and not (hasBS a)
 
@@ -65,21 +69,25 @@ requestStatus r =
 
 -- ---- the locks
 
--- type 3: the trigger exists, has exactly one payload byte, and that byte equals Value
+-- a trigger that locks (RULES.md, 5): its record holds one byte of payload, the Value; an absent one does not lock
 unfoldable pub holdsValue : Option Bytes → ℕ → Bool
 holdsValue none value = false
 holdsValue (some r) value = same (payloadOf r) (value ∷ [])
 
--- whether the chosen entry locks its variable: type 1, always; type 2, where it exists; type 3, by its trigger; type 0, never
+-- when a lock rule locks the entry's variable: never, always, where it exists, or by the trigger
+abbrev pub ruleLocks : LockRule → Bytes → Lookup → Variable → Bool
+ruleLocks NoLock e found v = false
+ruleLocks LockNow e found v = true
+ruleLocks LockOnCreate e found v = exists (found v)
+ruleLocks (LockOnVarState t) e found v = holdsValue (found (triggerOf e)) (triggerValue e)
+
+-- whether the chosen entry locks its variable (RULES.md, 5)
 unfoldable pub locks : Bytes → Lookup → Variable → Bool
-locks e found v =
-    cond (eqb (lockPolicyType e) 1) true
-    (cond (eqb (lockPolicyType e) 2) (exists (found v))
-    (cond (eqb (lockPolicyType e) 3) (holdsValue (found (triggerOf e)) (triggerValue e)) false))
+locks e found v = ruleLocks (lockOf e) e found v
 
 -- ---- step 4
 
--- a deletion: no append, and either an empty payload or neither BS nor RT
+-- a deletion (RULES.md, 10.9): without append, and with no payload or with neither of BS and RT
 unfoldable pub isDeletion : ℕ → Bytes → Bool
 isDeletion a payload = not (hasAppend a) and (isEmpty payload || not (hasBS a || hasRT a))
 
@@ -101,13 +109,13 @@ orGround SizeGround later = SizeGround
 orGround AttributeGround later = AttributeGround
 orGround LockGround later = LockGround
 
--- unless a deletion: payload length outside MinSize..MaxSize, then a required bit missing or a prohibited one set
+-- what an entry says against a request that is no deletion: first its size, then its attributes
 unfoldable pub requestGround : Bytes → Request → Ground
 requestGround e r =
     cond (isDeletion (r .attributes) (r .payload)) NoGround
     (cond (sizeAllowed e (measuredLength r)) (cond (attributesAllowed e (r .attributes)) NoGround AttributeGround) SizeGround)
 
--- then locked
+-- and then against any request: a lock
 unfoldable pub groundOf : Bytes → Lookup → Request → Ground
 groundOf e found r = orGround (requestGround e r) (cond (locks e found (r .variable)) LockGround NoGround)
 
@@ -129,7 +137,7 @@ groundStatus LockGround = WriteProtected
 abbrev pub storedAttributes : ℕ → ℕ
 storedAttributes a = a % 8
 
--- exists with other NV, BS or RT
+-- step 6: the stored attributes are others
 unfoldable pub otherAttributes : Option Bytes → ℕ → Bool
 otherAttributes none a = false
 otherAttributes (some r) a = not (eqb (attributesOf r) (storedAttributes a))
@@ -150,35 +158,62 @@ recordAfter found r = encodeRecord (storedAttributes (r .attributes)) (r .variab
 abbrev pub storeOf : ℕ → Bytes → Bytes → Bytes
 storeOf a nv vol = cond (hasNV a) nv vol
 
--- steps 5 to 9, by what is found of the request's variable
-unfoldable pub writeStatus : Bytes → Bytes → Option Bytes → Request → Status
-writeStatus nv vol found r =
-    -- 5
-    cond (isDeletion (r .attributes) (r .payload)) (cond (exists found) Success NotFound)
-    -- 6
-    (cond (otherAttributes found (r .attributes)) InvalidParameter
-    -- 7
-    (cond (isEmptyAppend (r .attributes) (r .payload)) Success
+-- steps 8 and 9, by what is found of the request's variable
+abbrev pub storeDecision : Bytes → Bytes → Option Bytes → Request → Decision
+storeDecision nv vol found r =
     -- 8
-    (cond (ltb maxPayload (length (payloadAfter found (r .attributes) (r .payload)))) OutOfResources
+    cond (ltb maxPayload (length (payloadAfter found (r .attributes) (r .payload)))) (Refuse OutOfResources)
     -- 9
-    (cond (hasRoom (hasNV (r .attributes)) (storeOf (r .attributes) nv vol) (r .variable) (recordAfter found r)) Success OutOfResources))))
+    (cond (hasRoom (hasNV (r .attributes)) (storeOf (r .attributes) nv vol) (r .variable) (recordAfter found r)) Store (Refuse OutOfResources))
 
--- all steps over sound stores, the first refusal in their order;
+-- steps 5 to 9
+unfoldable pub writeDecision : Bytes → Bytes → Option Bytes → Request → Decision
+writeDecision nv vol found r =
+    -- 5
+    cond (isDeletion (r .attributes) (r .payload)) (cond (exists found) Delete (Refuse NotFound))
+    -- 6
+    (cond (otherAttributes found (r .attributes)) (Refuse InvalidParameter)
+    -- 7
+    (cond (isEmptyAppend (r .attributes) (r .payload)) Keep (storeDecision nv vol found r)))
+
+-- ---- THE DECISION
+
+-- a status that refuses, or else the decision behind it
+abbrev pub refuseOr : Status → Decision → Decision
+refuseOr n later = cond (isSuccess n) later (Refuse n)
+
+-- a ground of step 4, or else the decision behind it
+abbrev pub blockOr : Ground → Decision → Decision
+blockOr NoGround later = later
+blockOr SizeGround later = Block SizeGround
+blockOr AttributeGround later = Block AttributeGround
+blockOr LockGround later = Block LockGround
+
+-- all steps over sound stores, in their order;
 -- `speaking` is the chosen entry, none where none is chosen or the engine is disabled
-unfoldable pub setStatus : Option Bytes → Bytes → Bytes → Request → Status
-setStatus speaking nv vol r =
-    orElse (requestStatus r)
-    (orElse (groundStatus (groundBy speaking (lookup nv vol) r)) (writeStatus nv vol (lookup nv vol (r .variable)) r))
+unfoldable pub decision : Option Bytes → Bytes → Bytes → Request → Decision
+decision speaking nv vol r =
+    refuseOr (requestStatus r)
+    (blockOr (groundBy speaking (lookup nv vol) r) (writeDecision nv vol (lookup nv vol (r .variable)) r))
+
+-- the status of a decision
+abbrev pub decisionStatus : Decision → Status
+decisionStatus (Refuse n) = n
+decisionStatus (Block g) = groundStatus g
+decisionStatus Delete = Success
+decisionStatus Keep = Success
+decisionStatus Store = Success
 
 -- the store is the one that the attributes name
 abbrev pub isStoreOf : Bool → ℕ → Bool
 isStoreOf true a = hasNV a
 isStoreOf false a = not (hasNV a)
 
--- what a set that answers 0 leaves in a store
-unfoldable pub setStore : Bool → Bytes → Option Bytes → Request → Bytes
-setStore nonVolatile s found r =
-    cond (isDeletion (r .attributes) (r .payload)) (withoutVariable nonVolatile s (r .variable))
-    (cond (isEmptyAppend (r .attributes) (r .payload)) s
-    (cond (isStoreOf nonVolatile (r .attributes)) (withRecord nonVolatile s (r .variable) (recordAfter found r)) s))
+-- what a decision leaves in a store: step 10 and deletions; `found` is what was found of the request's variable
+unfoldable pub decisionStore : Decision → Bool → Bytes → Option Bytes → Request → Bytes
+decisionStore (Refuse n) nonVolatile s found r = s
+decisionStore (Block g) nonVolatile s found r = s
+decisionStore Delete nonVolatile s found r = withoutVariable nonVolatile s (r .variable)
+decisionStore Keep nonVolatile s found r = s
+decisionStore Store nonVolatile s found r =
+    cond (isStoreOf nonVolatile (r .attributes)) (withRecord nonVolatile s (r .variable) (recordAfter found r)) s

@@ -1,6 +1,6 @@
 -- The computed status of a set and its grounds agree. Assumes nothing.
-use Prim.Native.Nat.{ℕ, _+_, _*_, _%_, _/_, _≤_, _<_}
-use mathlib.Core.Path.{_≡_, refl, sym, ap, subst, _∙_}
+use Prim.Native.Nat.{ℕ, _+_, _-_, _*_, _%_, _/_, _≤_, _<_}
+use mathlib.Core.Path.{_≡_, refl, sym, ap, subst, subst⁻¹, _∙_}
 use mathlib.Core.List.{List, [], _∷_, _++_}
 use mathlib.Core.Bool.{Bool, true, false, not, _||_, cond, true≢false, false≢true}
 use mathlib.Core.Option.{Option, none, some}
@@ -10,14 +10,17 @@ use lib.ListN.{length, length-append}
 use lib.Dec.{eqb, ltb, lit<}
 use lib.Arith.{mod-mul}
 use native.Mathlib.Nat.{mod-eq-of-lt}
-use borrow.Author.Tests.{not-true, not-false, eqb-true, leb-true, lt-ltb, ltb-true}
+use borrow.Author.Tests.{not-true, not-false, eqb-true, leb-true, lt-leb, lt-ltb, ltb-true}
 use Rattle.limits.specs.Limits.{maxPayload}
-use Rattle.lists.specs.ListsLaws.{all-among, all-append, all-map}
+use Rattle.lists.specs.Lists.{Among}
+use Rattle.lists.specs.ListsLaws.{all-among, all-append, all-map, among-middle}
 use Rattle.slices.specs.Test.{_and_}
 use Rattle.slices.specs.Bytes.{Bytes}
 use Rattle.slices.specs.Chunks.{flat, distinct, replaceOrAppend}
 use Rattle.names.specs.Name.{Variable, named}
-use Rattle.entry.specs.Entry.{minSize, maxSize, attributesMustHave, attributesCantHave, lockPolicyType, triggerOf, triggerValue}
+use Rattle.entry.specs.Entry.{minSize, maxSize, attributesMustHave, attributesCantHave, lockPolicyType, offsetToName, wellFormed, lockOf, triggerOf, triggerValue}
+use Rattle.entry.specs.EntryLaws.{type-3}
+use Rattle.entry.specs.declared.LockRule.the-variants.{NoLock, LockNow, LockOnCreate, LockOnVarState}
 use Rattle.policy.specs.Policy.{entriesOf, policyValid}
 use Rattle.policy.specs.Choice.{chosen}
 use Rattle.store.specs.Record.{hasNV, hasAppend, attributesOf, payloadOf, recordOk, isOf, sameVariable, encodeRecord}
@@ -25,12 +28,13 @@ use Rattle.store.specs.EncodeLaws.{attributesOk-small}
 use Rattle.store.specs.AttributeLaws.{record-attributes}
 use Rattle.store.specs.Store.{recordsOf, hasRoom}
 use Rattle.stores.specs.Pair.{sound, lookup}
-use Rattle.status.specs.declared.Status.{Status}
 use Rattle.status.specs.declared.Status.the-variants.{Success, InvalidParameter, Unsupported, WriteProtected, OutOfResources, VolumeCorrupted, NotFound}
 use Rattle.rules.specs.declared.Ground.{Ground}
 use Rattle.rules.specs.declared.Ground.the-variants.{NoGround, SizeGround, AttributeGround, LockGround}
-use Rattle.rules.specs.Set.{Request, Lookup, orElse, orGround, exists, badRequest, unsupportedBit, needsBS, requestStatus, holdsValue, locks, isDeletion, sizeAllowed, attributesAllowed, requestGround, groundOf, groundBy, groundStatus, otherAttributes, isEmptyAppend, payloadAfter, recordAfter, storeOf, writeStatus, setStatus}
-use Rattle.rules.specs.Engine.{State, speaking, setStatusBy, status}
+use Rattle.rules.specs.declared.Decision.{Decision}
+use Rattle.rules.specs.declared.Decision.the-variants.{Refuse, Delete, Keep, Store}
+use Rattle.rules.specs.Set.{Request, Lookup, orGround, exists, badRequest, unsupportedBit, needsBS, requestStatus, holdsValue, ruleLocks, locks, isDeletion, sizeAllowed, attributesAllowed, requestGround, groundOf, groundBy, otherAttributes, isEmptyAppend, payloadAfter, recordAfter, storeOf, writeDecision, refuseOr, blockOr, decision, decisionStatus}
+use Rattle.rules.specs.Engine.{State, speaking, decisionBy, status}
 use Rattle.rules.specs.Engine.Call.{set}
 use Rattle.rules.specs.Grounds.{Not, Bit, BS, RT, Append, HasEntries, SoundStores, RecordOf, Locks, Deletion, SameAttributes, Enforced, PayloadAfter, Storing, Applies, Answers}
 use Rattle.rules.specs.Grounds.Applies.{setUnsound, setBadRecord, setBadName, setLongPayload, setUnknownBit, setRuntimeWithoutBS, setAppendWithoutBS, setTooShort, setTooLong, setBitMissing, setBitProhibited, setLocked}
@@ -64,7 +68,8 @@ write-rows deletion found other nothing long room =
     row 51 (deletion and not found) NotFound ∷ row 52 deletion Success ∷ row 60 other InvalidParameter ∷ row 70 nothing Success
     ∷ row 80 long OutOfResources ∷ row 90 (not room) OutOfResources ∷ row 100 true Success ∷ []
 
-write-chain : (d x o e l m : Bool) → cond d (cond x Success NotFound) (cond o InvalidParameter (cond e Success (cond l OutOfResources (cond m Success OutOfResources))))
+write-chain : (d x o e l m : Bool)
+    → decisionStatus (cond d (cond x Delete (Refuse NotFound)) (cond o (Refuse InvalidParameter) (cond e Keep (cond l (Refuse OutOfResources) (cond m Store (Refuse OutOfResources))))))
     ≡ firstOf (write-rows d x o e l m)
 unfolding _and_
 write-chain true true o e l m = refl
@@ -78,28 +83,28 @@ write-chain false x false false false false = refl
 abbrev ground-rows : Ground → List Row → List Row
 ground-rows g rows = row 41 (isSize g) InvalidParameter ∷ row 42 (isAttribute g) InvalidParameter ∷ row 43 (isLock g) WriteProtected ∷ rows
 
-ground-chain : (g : Ground) (n : Status) (rows : List Row) → n ≡ firstOf rows → orElse (groundStatus g) n ≡ firstOf (ground-rows g rows)
-ground-chain NoGround n rows e = e
-ground-chain SizeGround n rows e = refl
-ground-chain AttributeGround n rows e = refl
-ground-chain LockGround n rows e = refl
+ground-chain : (g : Ground) (d : Decision) (rows : List Row) → decisionStatus d ≡ firstOf rows → decisionStatus (blockOr g d) ≡ firstOf (ground-rows g rows)
+ground-chain NoGround d rows e = e
+ground-chain SizeGround d rows e = refl
+ground-chain AttributeGround d rows e = refl
+ground-chain LockGround d rows e = refl
 
 abbrev all-rows : Bool → Bool → Bool → Bool → Bool → Bool → List Row → List Row
 all-rows sound valid named long unsupported needs rows =
     row 0 (not sound) VolumeCorrupted ∷ row 0 (not valid) VolumeCorrupted ∷ row 10 (not named) InvalidParameter ∷ row 10 long InvalidParameter
     ∷ row 20 unsupported Unsupported ∷ row 30 needs InvalidParameter ∷ rows
 
-all-chain : (s v n l u b : Bool) (m : Status) (rows : List Row) → m ≡ firstOf rows
-    → cond (s and v) (orElse (cond (not n || l) InvalidParameter (cond u Unsupported (cond b InvalidParameter Success))) m) VolumeCorrupted
+all-chain : (s v n l u b : Bool) (d : Decision) (rows : List Row) → decisionStatus d ≡ firstOf rows
+    → cond (s and v) (decisionStatus (refuseOr (cond (not n || l) InvalidParameter (cond u Unsupported (cond b InvalidParameter Success))) d)) VolumeCorrupted
     ≡ firstOf (all-rows s v n l u b rows)
 unfolding _and_
-all-chain false v n l u b m rows e = refl
-all-chain true false n l u b m rows e = refl
-all-chain true true false l u b m rows e = refl
-all-chain true true true true u b m rows e = refl
-all-chain true true true false true b m rows e = refl
-all-chain true true true false false true m rows e = refl
-all-chain true true true false false false m rows e = e
+all-chain false v n l u b d rows e = refl
+all-chain true false n l u b d rows e = refl
+all-chain true true false l u b d rows e = refl
+all-chain true true true true u b d rows e = refl
+all-chain true true true false true b d rows e = refl
+all-chain true true true false false true d rows e = refl
+all-chain true true true false false false d rows e = e
 
 -- ---- step 4
 
@@ -178,23 +183,24 @@ module _ (s : State) where
       go none e h = absurd (false≢true h)
       go (some r) e h = (r, lookup-found s v r k e, tells-same (payloadOf r) (value ∷ []) .0 h)
 
-  tells-locks : SoundStores (s .nv) (s .vol) → (e : Bytes) (v : Variable) → Tells (locks e found v) (Locks s e v)
-  unfolding locks
-  tells-locks k e v = (to, back)
+  tells-locks : SoundStores (s .nv) (s .vol) → (e : Bytes) → wellFormed e ≡ true → (v : Variable) → Tells (locks e found v) (Locks s e v)
+  unfolding locks lockOf
+  tells-locks k e w v = (to (eqb (lockPolicyType e) 0) (eqb (lockPolicyType e) 1) (eqb (lockPolicyType e) 2) refl refl refl, back)
     where
-      to : cond (eqb (lockPolicyType e) 1) true (cond (eqb (lockPolicyType e) 2) (exists (found v)) (cond (eqb (lockPolicyType e) 3) (holdsValue (found (triggerOf e)) (triggerValue e)) false)) ≡ true
+      to : (x y z : Bool) → eqb (lockPolicyType e) 0 ≡ x → eqb (lockPolicyType e) 1 ≡ y → eqb (lockPolicyType e) 2 ≡ z
+          → ruleLocks (cond x NoLock (cond y LockNow (cond z LockOnCreate (LockOnVarState (record { value = triggerValue e; namespace = 44; name = 62; «name_end» = offsetToName e - 2 }))))) e found v ≡ true
           → Locks s e v
-      to = go (eqb (lockPolicyType e) 1) (eqb (lockPolicyType e) 2) (eqb (lockPolicyType e) 3) refl refl refl
-        where
-          go : (x y z : Bool) → eqb (lockPolicyType e) 1 ≡ x → eqb (lockPolicyType e) 2 ≡ y → eqb (lockPolicyType e) 3 ≡ z
-              → cond x true (cond y (exists (found v)) (cond z (holdsValue (found (triggerOf e)) (triggerValue e)) false)) ≡ true → Locks s e v
-          go true y z p q r h = Locks.now (eqb-true _ _ p)
-          go false true z p q r h = let w = tells-exists s v k .0 h in Locks.onCreate (w .0) (eqb-true _ _ q) (w .1)
-          go false false true p q r h = let w = tells-holds k (triggerOf e) (triggerValue e) .0 h in Locks.onVarState (w .0) (eqb-true _ _ r) (w .1) (w .2)
-          go false false false p q r h = absurd (false≢true h)
+      to true y z p q r h = absurd (false≢true h)
+      to false true z p q r h = Locks.now (eqb-true _ _ q)
+      to false false true p q r h = let u = tells-exists s v k .0 h in Locks.onCreate (u .0) (eqb-true _ _ r) (u .1)
+      to false false false p q r h =
+          let u = tells-holds k (triggerOf e) (triggerValue e) .0 h in
+          let a = tells-off _ (tells-eq (lockPolicyType e) 0) p in
+          let b = tells-off _ (tells-eq (lockPolicyType e) 1) q in
+          let c = tells-off _ (tells-eq (lockPolicyType e) 2) r in
+          Locks.onVarState (u .0) (type-3 e w (lt-leb (lockPolicyType e) 2 (omega arith))) (u .1) (u .2)
 
-      back : Locks s e v
-          → cond (eqb (lockPolicyType e) 1) true (cond (eqb (lockPolicyType e) 2) (exists (found v)) (cond (eqb (lockPolicyType e) 3) (holdsValue (found (triggerOf e)) (triggerValue e)) false)) ≡ true
+      back : Locks s e v → ruleLocks (lockOf e) e found v ≡ true
       back (Locks.now h) = rw h
       back (Locks.onCreate r h f) = rw h (tells-exists s v k .1 (r, f))
       back (Locks.onVarState r h f p) = rw h (tells-holds k (triggerOf e) (triggerValue e) .1 (r, f, p))
@@ -350,7 +356,8 @@ module _ (s : State) (r : Request) (k : SoundStores (s .nv) (s .vol)) where
 -- ---- the set
 
 module _ (s : State) (r : Request) where
-  abbrev chosenEntry : Option Bytes
+  -- the entry that step 4 asks, if one speaks
+  abbrev pub chosenEntry : Option Bytes
   chosenEntry = speaking (s .switches .enabled) (chosen (entriesOf (s .policy)) (r .variable))
 
   abbrev spokenGround : Ground
@@ -375,18 +382,22 @@ module _ (s : State) (r : Request) where
       (ground-rows spokenGround last-rows)
 
   set-chain : status s (set r) ≡ firstOf set-rows
-  unfolding setStatusBy setStatus requestStatus badRequest writeStatus
+  unfolding decisionBy decision requestStatus badRequest writeDecision
   set-chain =
       all-chain (sound (s .nv) (s .vol)) (policyValid (s .policy)) (named (r .variable)) (ltb maxPayload (length (r .payload))) (unsupportedBit (r .attributes)) (needsBS (r .attributes))
       _ (ground-rows spokenGround last-rows)
       (ground-chain spokenGround _ last-rows
       (write-chain (isDeletion (r .attributes) (r .payload)) (exists standing) (otherAttributes standing (r .attributes)) (isEmptyAppend (r .attributes) (r .payload)) long room))
 
-  -- the entry that step 4 asks
   enforced-entry : (e : Bytes) → Enforced s r e → chosenEntry ≡ some e
   enforced-entry e w =
       let c = subst (λ x. chosen x (r .variable) ≡ some e) (entries-read s (w .entries) (w .listed)) (is-chosen (w .entries) (r .variable) e (w .choice)) in
       rw (w .enabled) c
+
+  enforced-formed : (e : Bytes) → Enforced s r e → wellFormed e ≡ true
+  enforced-formed e w =
+      all-among (λ x. wellFormed x ≡ true) (w .entries) (w .listed .formed) e
+      (subst⁻¹ (Among e) (w .choice .place) (among-middle (w .choice .before) e (w .choice .after)))
 
   entry-enforced : HasEntries s (entriesOf (s .policy)) → (e : Bytes) → chosenEntry ≡ some e → Enforced s r e
   entry-enforced l e = go (s .switches .enabled) refl
@@ -473,7 +484,8 @@ module _ (s : State) (r : Request) where
       then (λ n t.
       let w = asked isLock refl t in
       let q = lock-says _ (spoken-of (w .0)) (w .2) in
-      setLocked (w .0) (entry-enforced (set-listed 43 n (lit< tt)) (w .0) (w .1)) (tells-locks s (set-stores 43 n (lit< tt)) (w .0) (r .variable) .0 q))
+      let f = entry-enforced (set-listed 43 n (lit< tt)) (w .0) (w .1) in
+      setLocked (w .0) f (tells-locks s (set-stores 43 n (lit< tt)) (w .0) (enforced-formed (w .0) f) (r .variable) .0 q))
       then (λ n t.
       let k = set-stores 51 n (lit< tt) in
       let w = tells-and _ _ (tells-deletion r) (tells-not _ (tells-exists s (r .variable) k)) .0 t in
@@ -505,7 +517,7 @@ module _ (s : State) (r : Request) where
       tells-off _ (tells-attributes e (r .attributes))
       (ap not (no-attribute _ (spoken-of e) (ground-off p n isSize (n 6 (omega arith)) e w) (ground-off p n isAttribute (n 7 l) e w) (not-deletion p n d))) (inr (i, h, j))
   no-set p n k m l (setLocked e w h) =
-      tells-off _ (tells-locks s (set-stores p n (omega arith)) e (r .variable))
+      tells-off _ (tells-locks s (set-stores p n (omega arith)) e (enforced-formed e w) (r .variable))
       (no-lock _ (spoken-of e) (ground-off p n isSize (n 6 (omega arith)) e w) (ground-off p n isAttribute (n 7 (omega arith)) e w) (ground-off p n isLock (n 8 l) e w)) h
   no-set p n k m l (setAbsent d h) =
       tells-off _ (tells-and _ _ (tells-deletion r) (tells-not _ (tells-exists s (r .variable) (set-stores p n (omega arith))))) (n 9 l) (d, λ w. h (w .0) (w .1))

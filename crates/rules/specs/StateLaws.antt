@@ -1,31 +1,33 @@
 -- The states that calls lead to. A power-on that answers 0 leads to a sound state from any state, and every call from a
 -- sound state to a sound state. Assumes nothing.
 use Prim.Native.Nat.{suc, _+_, _≤_}
-use mathlib.Core.Path.{_≡_, refl}
-use mathlib.Core.List.{List, []}
+use mathlib.Core.Path.{_≡_, refl, sym, ap, subst⁻¹, _∙_}
+use mathlib.Core.List.{List, [], _∷_, _++_}
 use mathlib.Core.Bool.{Bool, true, false, not, cond, true≢false, false≢true}
 use native.Mathlib.Omega.{arith}
 use lib.ListN.{length}
 use lib.Dec.{eqb, leb}
-use borrow.Author.Tests.{leb-true}
+use borrow.Author.Tests.{le-leb, leb-true}
 use Rattle.limits.specs.Limits.{maxEntries, policyBytes, maxStore}
 use Rattle.slices.specs.Test.{_and_}
 use Rattle.slices.specs.TestLaws.{and-left, and-right}
 use Rattle.slices.specs.Bytes.{Bytes}
 use Rattle.slices.specs.Chunks.{flat, contains, distinct}
-use Rattle.slices.specs.ChunksLaws.{nil}
+use Rattle.slices.specs.ChunksLaws.{nil, more}
+use Rattle.slices.specs.ItemsLaws.{all-append}
 use Rattle.entry.specs.Entry.{wellFormed, sameTarget}
 use Rattle.policy.specs.Policy.{entriesOf, emptyPolicy, policyValid}
-use Rattle.policy.specs.PolicyLaws.{sizesSum-flat, entries-policy, policy-append}
+use Rattle.policy.specs.PolicyLaws.{policyValid-length, sizesSum-flat, entriesOf-formed, entriesOf-pack, entries-policy, policy-append}
 use Rattle.policy.specs.Choice.{chosen}
+use Rattle.store.specs.StoreLaws.{storeOk-length}
 use Rattle.stores.specs.Pair.{sound, soundAlone}
-use Rattle.stores.specs.PairLaws.{sound-erased}
+use Rattle.stores.specs.PairLaws.{sound-erased, sound-alone, sound-vol}
 use Rattle.status.specs.declared.Status.{Status}
 use Rattle.status.specs.declared.Status.the-variants.{Success, InvalidParameter, WriteProtected, OutOfResources, VolumeCorrupted, AlreadyStarted}
 use Rattle.status.specs.Status.{isSuccess}
-use Rattle.rules.specs.Set.{setStatus}
 use Rattle.rules.specs.SetLaws.{set-sound}
-use Rattle.rules.specs.Engine.{State, Call, powerOnStatus, registerStatus, speaking, setStatusBy, status, effect, step}
+use Rattle.rules.specs.EngineLaws.{step-status, granted-effect}
+use Rattle.rules.specs.Engine.{State, Call, powerOnStatus, restartStatus, registerStatus, speaking, decisionBy, status, effect, step}
 use Rattle.rules.specs.Engine.Call.{powerOn, restart, register, dump, lock, disable, query, read, set}
 
 -- sound stores, a valid policy record, and a disabled engine has leave to disable
@@ -37,7 +39,7 @@ pub record Sound (s : State) : Type 0 where
 -- ---- what a status of 0 says
 
 -- a test before a status
-passed : (b : Bool) (n : Status) → isSuccess (cond b n VolumeCorrupted) ≡ true → (b ≡ true) × (isSuccess n ≡ true)
+pub passed : (b : Bool) (n : Status) → isSuccess (cond b n VolumeCorrupted) ≡ true → (b ≡ true) × (isSuccess n ≡ true)
 passed true n h = (refl, h)
 passed false n h = absurd (false≢true h)
 
@@ -71,6 +73,20 @@ register-granted locked es e h =
       room = leb-true _ _ (and-right (leb (suc (length es)) maxEntries) _ (t .3));
     }
 
+-- the entries afterwards: none, or the registered one behind the others
+pub power-on-lists : (s : State) (allowed : Bool) → entriesOf (effect s (powerOn allowed) .policy) ≡ []
+power-on-lists s allowed = entriesOf-pack [] nil
+
+pub restart-lists : (s : State) (allowed : Bool) → entriesOf (effect s (restart allowed) .policy) ≡ []
+restart-lists s allowed = entriesOf-pack [] nil
+
+pub register-lists : (s : State) (e : Bytes) → isSuccess (status s (register e)) ≡ true
+    → entriesOf (effect s (register e) .policy) ≡ entriesOf (s .policy) ++ (e ∷ [])
+register-lists s e h =
+    let es = entriesOf (s .policy) in
+    let t = register-granted (s .switches .locked) es e (passed (policyValid (s .policy)) (registerStatus (s .switches .locked) es e) h .1) in
+    entriesOf-pack (es ++ (e ∷ [])) (all-append es (e ∷ []) (entriesOf-formed (s .policy)) (more (t .formed) nil))
+
 -- a disable's tests
 disable-tests : (e l a : Bool) → isSuccess (cond e (cond l WriteProtected (cond a Success WriteProtected)) AlreadyStarted) ≡ true → a ≡ true
 disable-tests true true a h = absurd (false≢true h)
@@ -97,7 +113,7 @@ powered s allowed h =
 -- ---- every call
 
 effect-sound : (s : State) (c : Call) → Sound s → isSuccess (status s c) ≡ true → Sound (effect s c)
-unfolding setStatusBy
+unfolding decisionBy
 effect-sound s (powerOn allowed) w h = powered s allowed h
 effect-sound s (restart allowed) w h = record { stores = w .stores; policy = empty-valid; leave = λ x. absurd (true≢false x) }
 effect-sound s (register e) w h =
@@ -121,10 +137,8 @@ effect-sound s disable w h =
 effect-sound s query w h = w
 effect-sound s (read v) w h = w
 effect-sound s (set r) w h =
-    let e = speaking (s .switches .enabled) (chosen (entriesOf (s .policy)) (r .variable)) in
     record {
-      stores = set-sound e (s .nv) (s .vol) r (w .stores)
-          (passed (sound (s .nv) (s .vol) and policyValid (s .policy)) (setStatus e (s .nv) (s .vol) r) h .1);
+      stores = set-sound (speaking (s .switches .enabled) (chosen (entriesOf (s .policy)) (r .variable))) (s .nv) (s .vol) r (w .stores);
       policy = w .policy;
       leave = w .leave;
     }
@@ -140,5 +154,19 @@ step-sound s c w = go (isSuccess (status s c)) refl
 
 -- A POWER-ON THAT ANSWERS 0 LEADS TO A SOUND STATE, whatever the state was
 pub power-on-sound : (s : State) (allowed : Bool) → isSuccess (step s (powerOn allowed) .0 .status) ≡ true → Sound (step s (powerOn allowed) .1)
-unfolding step
-power-on-sound s allowed h = rw h (powered s allowed h)
+power-on-sound s allowed h =
+    subst⁻¹ Sound (granted-effect s (powerOn allowed) h) (powered s allowed (ap isSuccess (sym (step-status s (powerOn allowed))) ∙ h))
+
+-- A SOUND STATE REFUSES NO POWER-ON AND NO RESTART
+pub power-on-done : (s : State) (allowed : Bool) → Sound s → isSuccess (status s (powerOn allowed)) ≡ true
+unfolding powerOnStatus _and_
+power-on-done s allowed w =
+    rw (
+      sound-alone (s .nv) (s .vol) (w .stores),
+      le-leb (length (s .vol)) maxStore (storeOk-length false (s .vol) (sound-vol (s .nv) (s .vol) (w .stores))),
+      policyValid-length (s .policy) (w .policy),
+    )
+
+pub restart-done : (s : State) (allowed : Bool) → Sound s → isSuccess (status s (restart allowed)) ≡ true
+unfolding restartStatus _and_
+restart-done s allowed w = rw (w .stores, policyValid-length (s .policy) (w .policy))

@@ -1,14 +1,19 @@
 -- Lists of bytes: little-endian numbers, parts, equality, and a copy over part of a list.
 -- Assumes nothing: these are definitions.
-use Prim.Native.Nat.{ℕ, _+_, _-_, _*_, _/_, _%_}
+use Prim.Native.Nat.{ℕ, _+_, _-_, _*_, _/_, _%_, _<_}
 use mathlib.Core.List.{List, [], _∷_, _++_}
 use mathlib.Core.Bool.{Bool, true, false}
 use lib.ListN.{length, getD, take, drop, replicate}
 use lib.Dec.{eqb}
+use Rattle.lists.specs.Lists.{All}
 use Rattle.slices.specs.Test.{_and_}
 
 abbrev pub Bytes : Type 0
 Bytes = List ℕ
+
+-- each number is a byte
+abbrev pub AreBytes : Bytes → Type 0
+AreBytes = All (λ b. b < 256)
 
 -- the number that the two, or four, bytes from a place on spell, the lowest first; a byte past the end counts as 0
 unfoldable pub le16 : Bytes → ℕ → ℕ

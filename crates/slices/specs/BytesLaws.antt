@@ -26,6 +26,13 @@ module _ (f : ℕ → ℕ → Bool) where
   unfolding pairwise
   pairwise-end ps us k h h₁ = rw (drop-of-length-le ps h, drop-of-length-le us h₁)
 
+  pub pairwise-length : (ps us : Bytes) → pairwise f ps us ≡ true → length ps ≡ length us
+  unfolding pairwise
+  pairwise-length [] [] e = refl
+  pairwise-length [] (u ∷ us) e = absurd (false≢true e)
+  pairwise-length (p ∷ ps) [] e = absurd (false≢true e)
+  pairwise-length (p ∷ ps) (u ∷ us) e = ap suc (pairwise-length ps us (and-right _ _ e))
+
   -- a test that every unit passes with itself, every list does
   pub pairwise-refl : ((u : ℕ) → f u u ≡ true) → (us : Bytes) → pairwise f us us ≡ true
   unfolding _and_ pairwise

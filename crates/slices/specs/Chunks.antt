@@ -8,11 +8,8 @@ use mathlib.Core.Option.{Option, none, some}
 use lib.ListN.{length, take}
 use Rattle.slices.specs.Test.{_and_}
 use Rattle.slices.specs.Bytes.{Bytes, padded}
-
 -- the items' bytes end to end
-unfoldable pub flat : List Bytes → Bytes
-flat [] = []
-flat (c ∷ cs) = c ++ flat cs
+unfoldable pub use Rattle.lists.specs.Lists.{flat}
 
 -- the item of n bytes that begins l, and those behind it; none where n is 0
 abbrev pub next : ℕ → Bytes → (ℕ → List Bytes) → List Bytes

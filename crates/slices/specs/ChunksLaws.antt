@@ -3,12 +3,13 @@
 -- Assumes nothing.
 use Prim.Native.Nat.{ℕ, zero, suc, _+_, _-_, _≤_, _<_, zero-le}
 use mathlib.Core.Path.{_≡_, refl, sym, ap, _∙_}
-use mathlib.Core.List.{List, [], _∷_, _++_, append-assoc, append-nil}
+use mathlib.Core.List.{List, [], _∷_, _++_, append-assoc}
 use mathlib.Core.Bool.{true}
 use native.Mathlib.Omega.{arith}
 use native.Mathlib.Nat.{le-refl}
 use lib.ListN.{length, take, drop, replicate, length-append, length-drop, length-replicate, take-append-drop}
 use lib.Seq.{length-take-le, take-add, drop-drop, take-at, drop-at}
+pub use Rattle.lists.specs.ListsLaws.{flat-append, flat-one}
 use Rattle.slices.specs.Bytes.{Bytes, allAre, padded}
 use Rattle.slices.specs.BytesLaws.{allAre-is, allAre-replicate}
 use Rattle.slices.specs.Chunks.{flat, next, chunksFrom, chunks, used, packed}
@@ -17,16 +18,6 @@ use Rattle.slices.specs.Chunks.{flat, next, chunksFrom, chunks, used, pa
 pub data All (P : Bytes → Type 0) : List Bytes → Type 0 where
   nil : All P []
   more : {c : Bytes} {cs : List Bytes} → P c → All P cs → All P (c ∷ cs)
-
-pub flat-append : (cs ds : List Bytes) → flat (cs ++ ds) ≡ flat cs ++ flat ds
-unfolding flat
-flat-append [] ds = refl
-flat-append (c ∷ cs) ds = rw (flat-append cs ds) (sym (append-assoc c (flat cs) (flat ds)))
-
--- one item alone
-pub flat-one : (c : Bytes) → flat (c ∷ []) ≡ c
-unfolding flat
-flat-one c = append-nil c
 
 pub length-packed : (n v : ℕ) (cs : List Bytes) → length (flat cs) ≤ n → length (packed n v cs) ≡ n
 unfolding packed padded

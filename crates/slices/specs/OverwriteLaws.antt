@@ -3,7 +3,7 @@ use mathlib.Core.Path.{_≡_, refl, sym, ap, _∙_}
 use mathlib.Core.List.{[], _++_, append-assoc}
 use Prim.Native.Nat.{ℕ, _+_, _-_, _≤_}
 use native.Mathlib.Omega.{arith}
-use lib.ListN.{length, take, drop, length-append, length-take, length-drop}
+use lib.ListN.{length, take, drop, length-append, length-take}
 use lib.Seq.{length-take-le, take-at, drop-at, take-append-le, take-take, drop-drop, drop-append-add, paste-zero}
 use Rattle.slices.specs.Bytes.{Bytes, overwrite}
 use Rattle.slices.specs.PartLaws.{drop-take}
@@ -24,7 +24,7 @@ overwrite-seam x y w at e =
     rw (take-at x y at e, ← e, drop-append-add x y (length w)) (append-assoc x w (drop (length w) y))
 
 -- a write that ends where the one before began
-pub overwrite-before : (s : Bytes) (at to : ℕ) (v w : Bytes) → at + length v ≡ to → to ≤ length s
+overwrite-before : (s : Bytes) (at to : ℕ) (v w : Bytes) → at + length v ≡ to → to ≤ length s
     → overwrite (overwrite s to w) at v ≡ take at s ++ (v ++ (w ++ drop (to + length w) s))
 unfolding overwrite
 overwrite-before s at to v w e h =

@@ -1,13 +1,14 @@
 -- Laws of parts of a list of bytes. Assumes nothing.
 use Prim.Native.Nat.{ℕ, zero, suc, _+_, _-_, _≤_, _<_}
-use mathlib.Core.Path.{_≡_, sym, ap, _∙_}
+use mathlib.Core.Path.{_≡_, sym, ap, _∙_, subst⁻¹}
 use mathlib.Core.List.{[], _∷_}
 use native.Mathlib.Omega.{arith}
 use native.Mathlib.Nat.{add-sub-cancel-left, sub-zero, zero-sub, suc-sub-suc}
 use native.Mathlib.Numerals.{add-one}
-use lib.ListN.{length, getD, take, drop, replicate, length-take, length-drop, drop-of-length-le}
+use lib.ListN.{length, getD, take, drop, replicate, length-take, length-drop, drop-of-length-le, take-append-drop}
 use lib.Seq.{drop-cons, take-all, take-nil, getD-take, getD-drop, take-take}
-use Rattle.slices.specs.Bytes.{Bytes, part}
+use Rattle.lists.specs.ListsLaws.{all-left, all-right}
+use Rattle.slices.specs.Bytes.{Bytes, AreBytes, part}
 
 -- one byte more, at the code's i + 1
 pub drop-step : (s : Bytes) (i : ℕ) → i < length s → drop i s ≡ getD s i 0 ∷ drop (i + 1) s
@@ -47,6 +48,12 @@ drop-take (suc n) (suc a) (b ∷ s) = drop-take n a s ∙ rw suc-sub-suc
 
 pub part-take : (a e n : ℕ) (s : Bytes) → e ≤ n → part a e (take n s) ≡ part a e s
 part-take a e n s h = ap (take (e - a)) (drop-take n a s) ∙ take-take (e - a) (n - a) (drop a s) (omega arith)
+
+-- a part of bytes is bytes
+pub bytes-part : (a e : ℕ) (s : Bytes) → AreBytes s → AreBytes (part a e s)
+bytes-part a e s h =
+    let d : AreBytes (drop a s) = all-right _ (take a s) (drop a s) (subst⁻¹ AreBytes (take-append-drop a s) h) in
+    all-left _ (take (e - a) (drop a s)) (drop (e - a) (drop a s)) (subst⁻¹ AreBytes (take-append-drop (e - a) (drop a s)) d)
 
 pub drop-replicate : (m n v : ℕ) → drop m (replicate n v) ≡ replicate (n - m) v
 drop-replicate zero n v = rw sub-zero

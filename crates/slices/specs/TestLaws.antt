@@ -1,6 +1,7 @@
 -- Laws of tests joined. Assumes nothing.
 use mathlib.Core.Path.{_≡_, refl, sym}
-use mathlib.Core.Bool.{Bool, true, false, _&&_, false≢true}
+use mathlib.Core.Bool.{Bool, true, false, _&&_, _||_, false≢true}
+use mathlib.Core.Logic.{_⊎_, inl, inr}
 use Rattle.slices.specs.Test.{_and_}
 
 pub and-left : (a b : Bool) → (a and b) ≡ true → a ≡ true
@@ -42,6 +43,11 @@ pub and-eager : (a b : Bool) → (a && b) ≡ (a and b)
 unfolding _and_
 and-eager true b = refl
 and-eager false b = refl
+
+-- one of two tests holds
+pub or-cases : (a b : Bool) → (a || b) ≡ true → (a ≡ true) ⊎ (b ≡ true)
+or-cases true b e = inl refl
+or-cases false b e = inr e
 
 -- a test is false if its being true would be false
 pub forced-off : (b : Bool) → (b ≡ true → false ≡ true) → b ≡ false

@@ -117,45 +117,6 @@ pub fn eight(a: &[u8], b: &[u8], i: usize) -> bool
     ok
 }
 
-// Whether two slices as long hold the same bytes, left at the first that differs: for a few bytes.
-fn few_equal(a: &[u8], b: &[u8]) -> bool
-    requires { ⌜ length (now a) ≡ length (now b) ⌝ }
-    ensures { λ r. ⌜ r ≡ same (now (a .entry)) (now (b .entry)) ⌝ }
-{
-    let mut i = 0;
-    while i < a.len() {
-        if a[i] != b[i] {
-            return false;
-        }
-        i += 1;
-    }
-    true
-}
-
-// Whether two slices hold the same bytes. The last eight are compared first, since names differ there most often.
-pub fn equal(a: &[u8], b: &[u8]) -> bool
-    ensures { λ r. ⌜ r ≡ same (now (a .entry)) (now (b .entry)) ⌝ }
-{
-    if a.len() != b.len() {
-        return false;
-    }
-    if a.len() < 8 {
-        return few_equal(a, b);
-    }
-    let last = a.len() - 8;
-    if !eight(a, b, last) {
-        return false;
-    }
-    let mut i = 0;
-    while i < last {
-        if !eight(a, b, i) {
-            return false;
-        }
-        i += 8;
-    }
-    true
-}
-
 // A hash of h0 and the bytes of s, four at a time.
 pub fn hash(h0: usize, s: &[u8]) -> usize
     ensures { λ r. ⌜ r ≡ hashFrom h0 (now (s .entry)) ⌝ }

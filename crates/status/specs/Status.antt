@@ -1,4 +1,4 @@
--- The statuses of document 01's table and their numbers.
+-- The statuses and their numbers (RULES.md, 9.1).
 -- Assumes nothing: these are definitions.
 use Prim.Native.Nat.{ℕ}
 use mathlib.Core.Bool.{Bool, true, false}

@@ -1,4 +1,4 @@
-// What a call may answer: the low part of the EFI status, without the high bit, by the names of the UEFI specification.
+// The statuses (RULES.md, 9.1), by the names of the UEFI specification: an EFI_STATUS without its error bit.
 ghost use mathlib.Core.Path.{_≡_};
 ghost use Rattle.status.specs.Status.{statusNumber, isSuccess};
 

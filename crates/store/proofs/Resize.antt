@@ -1,7 +1,7 @@
 -- Room in place of a record, and a record written, as writes into the bytes. Assumes nothing.
 use mathlib.Core.Path.{_≡_, refl, sym, ap, _∙_}
 use mathlib.Core.Bool.{true}
-use mathlib.Core.List.{[], _∷_, _++_, append-assoc}
+use mathlib.Core.List.{[], _∷_, _++_}
 use Prim.Native.Nat.{ℕ, _+_, _-_, _/_, _%_, _≤_, _<_}
 use native.Mathlib.Omega.{arith}
 use lib.ListN.{length, take, drop, replicate, length-append, length-drop, length-replicate, replicate-append-replicate, take-append-drop}
@@ -58,16 +58,17 @@ module _ (s : Bytes) (at old new end : ℕ) (h₁ : at + old ≤ end) (h₂ : en
       sym (rw (h, ← take-add (at + old) (end - (at + old)) s) (take-append-drop (at + old + (end - (at + old))) s))
       ∙ grown (omega arith)
 
-  pub resized-up : old < new → overwrite s (at + new) tail ≡ resized s at old new end
-  resized-up h = moved ∙ grown (omega arith)
+  module _ {t₁ : Bytes} (q : t₁ ≡ overwrite s (at + new) tail) where
+    pub resized-up : old < new → t₁ ≡ resized s at old new end
+    resized-up h = q ∙ moved ∙ grown (omega arith)
 
-  pub resized-down : new < old → overwrite (overwrite s (at + new) tail) stop (replicate (old - new) 255) ≡ resized s at old new end
-  unfolding resized padded
-  resized-down h =
-      let e : length s - stop ≡ old - new + (length s - (stop + (old - new))) = omega arith in
-      ap (λ (l : Bytes). overwrite l stop (replicate (old - new) 255)) moved
-      ∙ overwrite-seam front (drop stop s) (replicate (old - new) 255) stop front-length
-      ∙ rw (front-length, length-replicate, drop-drop, free-behind s end (stop + (old - new)) free (omega arith), replicate-append-replicate, e)
+    pub resized-down : {t₂ : Bytes} → new < old → t₂ ≡ overwrite t₁ stop (replicate (old - new) 255) → t₂ ≡ resized s at old new end
+    unfolding resized padded
+    resized-down h q₂ =
+        let e : length s - stop ≡ old - new + (length s - (stop + (old - new))) = omega arith in
+        q₂ ∙ ap (λ (l : Bytes). overwrite l stop (replicate (old - new) 255)) (q ∙ moved)
+        ∙ overwrite-seam front (drop stop s) (replicate (old - new) 255) stop front-length
+        ∙ rw (front-length, length-replicate, drop-drop, free-behind s end (stop + (old - new)) free (omega arith), replicate-append-replicate, e)
 
 -- ---- the bytes of small numbers
 number : (x : ℕ) → x < 65536 → le32Bytes x ≡ (x % 256) ∷ (x / 256) ∷ 0 ∷ 0 ∷ []
@@ -90,21 +91,23 @@ header-bytes a n d ha hn hd = rw (byte a ha, byte n hn, number d hd)
 
 -- the six writes of a record
 module _ (s : Bytes) (at a : ℕ) (v : Variable) (p : Bytes) (hg : length (v .namespace) ≡ namespaceBytes) (hs : at ≤ length s) where
+  abbrev n : ℕ
+  n = length (v .name) + 2
+
   abbrev first : Bytes
-  first = recordMark ++ le32Bytes a ++ le32Bytes (length (v .name) + 2) ++ le32Bytes (length p)
+  first = recordMark ++ le32Bytes a ++ le32Bytes n ++ le32Bytes (length p)
 
-  abbrev pad : ℕ
-  pad = recordSize (length (v .name) + 2) (length p) - (34 + length (v .name) + length p)
-
-  pub record-writes : {h t₁ t₂ t₃ t₄ t₅ t₆ : Bytes} {z : ℕ} → h ≡ first → z ≡ recordSize (length (v .name) + 2) (length p) → t₁ ≡ overwrite s at h → t₂ ≡ overwrite t₁ (at + 16) (v .namespace)
-      → t₃ ≡ overwrite t₂ (at + 32) (v .name) → t₄ ≡ overwrite t₃ (at + 32 + length (v .name)) (0 ∷ 0 ∷ []) → t₅ ≡ overwrite t₄ (at + 34 + length (v .name)) p
-      → t₆ ≡ overwrite t₅ (at + (34 + length (v .name) + length p)) (replicate (z - (34 + length (v .name) + length p)) 255) → t₆ ≡ overwrite s at (encodeRecord a v p)
+  pub record-writes : {h t₁ t₂ t₃ t₄ t₅ t₆ : Bytes} {z : ℕ} → h ≡ first → z ≡ recordSize n (length p) → t₁ ≡ overwrite s at h → t₂ ≡ overwrite t₁ (at + 16) (v .namespace)
+      → t₃ ≡ overwrite t₂ (at + 32) (v .name) → t₄ ≡ overwrite t₃ (at + (32 + n) - 2) (0 ∷ 0 ∷ []) → t₅ ≡ overwrite t₄ (at + (32 + n)) p
+      → t₆ ≡ overwrite t₅ (at + (32 + n + length p)) (replicate (z - (32 + n + length p)) 255) → t₆ ≡ overwrite s at (encodeRecord a v p)
   unfolding encodeRecord le32Bytes
   record-writes {t₅ = t₅} q q₀ q₁ q₂ q₃ q₄ q₅ q₆ =
       let h : Bytes = first in
       let e₁ = q₂ ∙ overwrite-next s at (at + 16) h (v .namespace) (q₁ ∙ ap (overwrite s at) q) refl hs in
       let e₂ = q₃ ∙ overwrite-next s at (at + 32) (h ++ v .namespace) (v .name) e₁ (simp length-append (omega arith)) hs in
-      let e₃ = q₄ ∙ overwrite-next s at (at + 32 + length (v .name)) (h ++ v .namespace ++ v .name) (0 ∷ 0 ∷ []) e₂ (simp length-append (omega arith)) hs in
-      let e₄ = q₅ ∙ overwrite-next s at (at + 34 + length (v .name)) (h ++ v .namespace ++ v .name ++ (0 ∷ 0 ∷ [])) p e₃ (simp length-append (omega arith)) hs in
-      q₆ ∙ ap (λ (n : ℕ). overwrite t₅ (at + (34 + length (v .name) + length p)) (replicate (n - (34 + length (v .name) + length p)) 255)) q₀
-      ∙ overwrite-next s at (at + (34 + length (v .name) + length p)) (h ++ v .namespace ++ v .name ++ (0 ∷ 0 ∷ []) ++ p) (replicate pad 255) e₄ (simp length-append (omega arith)) hs
+      let e₃ = q₄ ∙ overwrite-next s at (at + (32 + n) - 2) (h ++ v .namespace ++ v .name) (0 ∷ 0 ∷ []) e₂ (simp length-append (omega arith)) hs in
+      let e₄ = q₅ ∙ overwrite-next s at (at + (32 + n)) (h ++ v .namespace ++ v .name ++ (0 ∷ 0 ∷ [])) p e₃ (simp length-append (omega arith)) hs in
+      let k : 32 + n + length p ≡ 34 + length (v .name) + length p = omega arith in
+      q₆ ∙ ap (λ (m : ℕ). overwrite t₅ (at + (32 + n + length p)) (replicate m 255)) (ap (λ (m : ℕ). m - (32 + n + length p)) q₀ ∙ ap (λ (m : ℕ). recordSize n (length p) - m) k)
+      ∙ overwrite-next s at (at + (32 + n + length p)) (h ++ v .namespace ++ v .name ++ (0 ∷ 0 ∷ []) ++ p) (replicate (recordSize n (length p) - (34 + length (v .name) + length p)) 255) e₄
+      (simp length-append (omega arith)) hs

@@ -1,7 +1,7 @@
 -- The tests of one record, as the code makes them. Assumes nothing.
-use Prim.Native.Nat.{ℕ, _+_, _%_, _≤_, _<_}
-use mathlib.Core.Path.{_≡_, sym, _∙_}
-use mathlib.Core.Bool.{Bool, true, false, _&&_}
+use Prim.Native.Nat.{ℕ, zero, suc, _+_, _%_, _≤_, _<_}
+use mathlib.Core.Path.{_≡_, refl, sym, _∙_}
+use mathlib.Core.Bool.{Bool, true, false, not, _&&_}
 use native.Mathlib.Omega.{arith}
 use native.Mathlib.Nat.{le-refl}
 use lib.ListN.{length, getD, take}
@@ -13,18 +13,26 @@ use Rattle.slices.specs.TestLaws.{and-no, and-yes, and-assoc, and-eager}
 use Rattle.slices.specs.Bytes.{Bytes, part, same, allAre}
 use Rattle.slices.specs.PartLaws.{part-rest}
 use Rattle.names.specs.Name.{isTerminated}
-use Rattle.store.specs.Record.{attributesOf, nameSize, dataSize, namespaceOf, nameOf, payloadOf, isOf, recordSize, hasBS, hasNV, attributesOk, headerOk, bodyOk, recordOk, recordLength}
-use Rattle.store.specs.Parts.{variable}
+use Rattle.store.specs.Record.{attributesOf, nameSize, dataSize, namespaceOf, nameOf, isOf, recordSize, hasBS, hasNV, attributesOk, headerOk, bodyOk, recordOk, recordLength}
+use Rattle.store.specs.Parts.{variable, boundsIn}
+use Rattle.store.specs.declared.Found.{Found}
+use Rattle.store.specs.declared.Found.the-variants.{At}
 use Rattle.store.specs.RecordLaws.{mark-is, length-short, length-header, length-ok, length-not, ok-parts, nameSize-take, dataSize-take}
 
 -- ---- the header
-pub attributes-nv : {b : Bool} (a : ℕ) → b ≡ true → ((leb a 7 && hasBS a) && hasNV a) ≡ attributesOk b a
-unfolding attributesOk
-attributes-nv a e = simp (e, and-eager, and-assoc)
+clear-bit : (n : ℕ) → n < 2 → not (eqb n 1) ≡ eqb n 0
+clear-bit zero h = refl
+clear-bit (suc zero) h = refl
+clear-bit (suc (suc n)) h = absurd (omega arith)
 
-pub attributes-vol : {b : Bool} (a : ℕ) → b ≡ false → ((leb a 7 && hasBS a) && eqb (a % 2) 0) ≡ attributesOk b a
-unfolding attributesOk
-attributes-vol a e = simp (e, and-eager, and-assoc)
+module _ {b x y : Bool} (a : ℕ) (p : x ≡ hasBS a) (q : y ≡ hasNV a) where
+  pub attributes-nv : b ≡ true → ((leb a 7 && x) && y) ≡ attributesOk b a
+  unfolding attributesOk
+  attributes-nv e = simp (e, p, q, and-eager, and-assoc)
+
+  pub attributes-vol : b ≡ false → ((leb a 7 && x) && not y) ≡ attributesOk b a
+  unfolding attributesOk
+  attributes-vol e = simp (e, p, q, clear-bit (a % 2) (omega arith), and-eager, and-assoc)
 
 pub header-is : {n d a : ℕ} {x : Bool} (b : Bool) (r : Bytes) → 32 ≤ length r → n ≡ nameSize r → d ≡ dataSize r → a ≡ attributesOf r → x ≡ attributesOk b a
     → ((((((((eqb (getD r 0 0) 0xAA && eqb (getD r 1 0) 0x55) && eqb (getD r 2 0) 0x3F) && eqb (getD r 3 0) 0) && x) && leb 4 n) && leb n 130) && leb 1 d) && leb d maxPayload)
@@ -76,15 +84,16 @@ module _ (b : Bool) (l : Bytes) where
       length-no-body t = sym (length-not b l (ok-is ∙ t))
 
 -- ---- whose record it is
-module _ {x : Bool} {n : ℕ} (g u r : Bytes) (p : n ≡ nameSize r) (e : x ≡ same (part 32 (30 + n) r) u) where
+module _ {x : Bool} {n : Bytes} (g u r : Bytes) (p : n ≡ nameOf r) (e : x ≡ same n u) where
   pub other-name : x ≡ false → false ≡ isOf (variable g u) r
-  unfolding isOf nameOf
+  unfolding isOf
   other-name h = rw (← p, ← e, h, and-no (same (namespaceOf r) g))
 
-  pub same-name : {y : Bool} → x ≡ true → y ≡ same (part 16 32 r) g → y ≡ isOf (variable g u) r
-  unfolding isOf nameOf namespaceOf
-  same-name {y} h f = f ∙ rw (← p, ← e, h, and-yes (same (part 16 32 r) g))
+  pub same-name : {y : Bool} {m : Bytes} → x ≡ true → m ≡ namespaceOf r → y ≡ same m g → y ≡ isOf (variable g u) r
+  unfolding isOf
+  same-name {y} {m} h q f = f ∙ rw (← p, ← q, ← e, h, and-yes (same m g))
 
-pub payload-is : {n d : ℕ} (r : Bytes) → n ≡ nameSize r → d ≡ dataSize r → part (32 + n) (32 + n + d) r ≡ payloadOf r
-unfolding payloadOf
-payload-is r p q = rw (p, q)
+-- ---- where the payload stands
+pub bounds-are : {n d : ℕ} {f : Found} (s : Bytes) (at len : ℕ) → f ≡ At at len → n ≡ nameSize (part at (at + len) s) → d ≡ dataSize (part at (at + len) s)
+    → record { from = at + 32 + n; to = at + 32 + n + d } ≡ boundsIn s f
+bounds-are s at len e p q = rw (e, p, q)

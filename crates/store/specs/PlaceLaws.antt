@@ -7,19 +7,21 @@ use mathlib.Core.Option.{none, some}
 use native.Mathlib.Omega.{arith}
 use native.Mathlib.Nat.{zero-add}
 use lib.ListN.{length, take, drop, length-append, take-append-drop}
-use lib.Seq.{take-append-seam, drop-append-seam, take-length}
+use lib.Seq.{take-append-seam, drop-append-seam, take-length, drop-drop}
 use Rattle.slices.specs.Bytes.{Bytes, part}
-use Rattle.slices.specs.PartLaws.{part-of}
+use Rattle.slices.specs.PartLaws.{part-of, part-take, length-part}
 use Rattle.slices.specs.Chunks.{flat, contains, find, remove, replace}
 use Rattle.slices.specs.ChunksLaws.{All, flat-append, flat-chunks}
-use Rattle.slices.specs.ItemsLaws.{all-right, all-here, find-none}
+use Rattle.slices.specs.ItemsLaws.{all-right, all-here, find-none, or-left-off, or-right-off}
 use Rattle.names.specs.Name.{Variable}
-use Rattle.store.specs.Record.{recordOk, recordLength, isOf}
+use Rattle.store.specs.Record.{nameSize, dataSize, payloadOf, recordOk, recordLength, isOf}
 use Rattle.store.specs.RecordLaws.{recordLength-within, begins, begins-fits, ok-length, ok-some}
-use Rattle.store.specs.Parts.{HeaderFits}
+use Rattle.store.specs.Parts.{HeaderFits, isFound, recordIn, payloadIn, boundsIn, Held}
 use Rattle.store.specs.Store.{recordsOf, endOf, placeFrom, placeOf}
-use Rattle.store.specs.StoreLaws.{records-ok, length-records}
+use Rattle.store.specs.StoreLaws.{records-ok, length-records, endOf-within}
+use Rattle.store.specs.declared.Found.{Found}
 use Rattle.store.specs.declared.Found.the-variants.{At, Absent}
+use Rattle.store.specs.declared.Bounds.{Bounds}
 
 -- where the first that the test takes stands: those before it, itself, and those behind
 pub record Split (p : Bytes → Bool) (rs : List Bytes) (from at len : ℕ) : Type 0 where
@@ -87,6 +89,11 @@ module _ (p : Bytes → Bool) where
           let z : _≡_ {A = ℕ} 0 1 = cc in absurd (omega arith)
       go false q ih = rw q (ih (rw q at e))
 
+  pub absent-place : (rs : List Bytes) (from : ℕ) → contains p rs ≡ false → placeFrom p from rs ≡ Absent
+  unfolding contains placeFrom
+  absent-place [] from h = refl
+  absent-place (r ∷ rs) from h = rw (or-left-off (p r) (contains p rs) h) (absent-place rs (from + length r) (or-right-off (p r) (contains p rs) h))
+
 module _ (nonVolatile : Bool) (s : Bytes) (v : Variable) where
   pub find-absent : placeOf nonVolatile s v ≡ Absent → find (isOf v) (recordsOf nonVolatile s) ≡ none
   find-absent e = find-none (isOf v) (recordsOf nonVolatile s) (place-absent (isOf v) (recordsOf nonVolatile s) 0 e)
@@ -138,3 +145,52 @@ module _ (nonVolatile : Bool) (s : Bytes) (v : Variable) where
     fits-at =
         let r : Bytes = part at (at + len) s in
         rw take-length at (begins-fits nonVolatile (length r) r (begins nonVolatile (length r) r (ok-length nonVolatile r ok-at) (ok-some nonVolatile r ok-at)))
+
+  -- what was found: whether the store holds the variable, and its record, which lies within
+  pub contains-place : contains (isOf v) (recordsOf nonVolatile s) ≡ isFound (placeOf nonVolatile s v)
+  contains-place = go (placeOf nonVolatile s v) refl
+    where
+      go : (f : Found) → placeOf nonVolatile s v ≡ f → contains (isOf v) (recordsOf nonVolatile s) ≡ isFound f
+      go (At at len) e = split-at at len e .held
+      go Absent e = place-absent (isOf v) (recordsOf nonVolatile s) 0 e
+
+  pub find-place : find (isOf v) (recordsOf nonVolatile s) ≡ recordIn s (placeOf nonVolatile s v)
+  find-place = go (placeOf nonVolatile s v) refl
+    where
+      go : (f : Found) → placeOf nonVolatile s v ≡ f → find (isOf v) (recordsOf nonVolatile s) ≡ recordIn s f
+      go (At at len) e = find-at at len e
+      go Absent e = find-absent e
+
+  pub place-held : Held s (placeOf nonVolatile s v)
+  place-held = go (placeOf nonVolatile s v) refl
+    where
+      go : (f : Found) → placeOf nonVolatile s v ≡ f → Held s f
+      go (At at len) e = (omega (arith, place-within at len e, endOf-within nonVolatile s), fits-at at len e)
+      go Absent e = tt
+
+-- ---- where the payload of what was found stands
+-- a part of a part
+part-part : (at len from n : ℕ) (s : Bytes) → from + n ≤ len → part from (from + n) (part at (at + len) s) ≡ part (at + from) (at + from + n) s
+part-part at len from n s h =
+    ap (part from (from + n)) (part-of at len s) ∙ part-take from (from + n) len (drop at s) h ∙ part-of from n (drop at s)
+    ∙ ap (take n) (drop-drop from at s) ∙ sym (part-of (at + from) n s)
+
+fields-within : (s : Bytes) (at len : ℕ) → Held s (At at len) → 32 + nameSize (part at (at + len) s) + dataSize (part at (at + len) s) ≤ len
+fields-within s at len w = omega (arith, w .1 .fits, length-part at (at + len) s (w .0))
+
+ordered : (s : Bytes) (f : Found) → Held s f → (boundsIn s f .from ≤ boundsIn s f .to) × (boundsIn s f .to ≤ length s)
+ordered s (At at len) w = (omega arith, omega (arith, w .0, fields-within s at len w))
+ordered s Absent w = (omega arith, omega arith)
+
+taken : (s : Bytes) (f : Found) → Held s f → part (boundsIn s f .from) (boundsIn s f .to) s ≡ payloadIn (recordIn s f)
+unfolding payloadOf
+taken s (At at len) w =
+    let n : ℕ = nameSize (part at (at + len) s) in
+    let d : ℕ = dataSize (part at (at + len) s) in
+    let k : at + 32 + n ≡ at + (32 + n) = omega arith in
+    ap (λ (x : ℕ). part x (x + d) s) k ∙ sym (part-part at len (32 + n) d s (fields-within s at len w))
+taken s Absent w = refl
+
+pub bounds-payload : {b : Bounds} (s : Bytes) (f : Found) → b ≡ boundsIn s f → Held s f
+    → (b .from ≤ b .to) × (b .to ≤ length s) × (part (b .from) (b .to) s ≡ payloadIn (recordIn s f))
+bounds-payload s f e w = rw e (ordered s f w .0, ordered s f w .1, taken s f w)

@@ -1,16 +1,16 @@
--- A variable's record, as its bytes.
+-- A variable's record (RULES.md, 6.1), as its bytes.
 -- Assumes nothing: these are definitions.
 use Prim.Native.Nat.{ℕ, _+_, _-_, _*_, _/_, _%_}
-use mathlib.Core.List.{List, [], _∷_, _++_}
+use mathlib.Core.List.{[], _∷_, _++_}
 use mathlib.Core.Bool.{Bool, true, false, cond}
-use lib.ListN.{length, getD, take, drop, replicate}
+use lib.ListN.{length, take, drop, replicate}
 use lib.Dec.{eqb, leb}
-use Rattle.limits.specs.Limits.{maxNameSize, maxPayload}
+use Rattle.limits.specs.Limits.{maxNameSize, maxPayload, recordAdded, recordHeader}
 use Rattle.slices.specs.Test.{_and_}
 use Rattle.slices.specs.Bytes.{Bytes, le32, le32Bytes, part, same, allAre}
 use Rattle.names.specs.Name.{Variable, isTerminated}
 
--- the bits of an attribute word: NV 1, BS 2, RT 4, append 0x40
+-- the bits of an attribute word (RULES.md, 2.3)
 abbrev pub hasNV : ℕ → Bool
 hasNV a = eqb (a % 2) 1
 
@@ -34,29 +34,29 @@ abbrev pub dataSize : Bytes → ℕ
 dataSize r = le32 r 12
 
 unfoldable pub namespaceOf : Bytes → Bytes
-namespaceOf r = part 16 32 r
+namespaceOf r = part 16 recordHeader r
 
 -- the name without its closing zero unit
 unfoldable pub nameOf : Bytes → Bytes
-nameOf r = part 32 (30 + nameSize r) r
+nameOf r = part recordHeader (recordHeader - 2 + nameSize r) r
 
 unfoldable pub payloadOf : Bytes → Bytes
-payloadOf r = part (32 + nameSize r) (32 + nameSize r + dataSize r) r
+payloadOf r = part (recordHeader + nameSize r) (recordHeader + nameSize r + dataSize r) r
 
 -- how long the record is with a NameSize of n and a DataSize of d: a multiple of 4
 abbrev pub recordSize : ℕ → ℕ → ℕ
-recordSize n d = (35 + n + d) / 4 * 4
+recordSize n d = (recordHeader + 3 + n + d) / 4 * 4
 
--- stored attributes: only bits 1, 2, 4; BS set; NV set in the non-volatile store and clear in the other
+-- stored attributes (RULES.md, 6.1): NV, BS and RT at most, always BS, and NV exactly in the non-volatile store
 unfoldable pub attributesOk : Bool → ℕ → Bool
 attributesOk true a = leb a 7 and hasBS a and hasNV a
 attributesOk false a = leb a 7 and hasBS a and eqb (a % 2) 0
 
--- 0x55AA, state 0x3F and a zero byte
+-- 0x55AA, the state and a zero byte
 abbrev pub recordMark : Bytes
-recordMark = 0xAA ∷ 0x55 ∷ 0x3F ∷ 0 ∷ []
+recordMark = 0xAA ∷ 0x55 ∷ recordAdded ∷ 0 ∷ []
 
--- the first 32 bytes of a record
+-- the header of a record
 unfoldable pub headerOk : Bool → Bytes → Bool
 headerOk nonVolatile r =
     same (take 4 r) recordMark
@@ -66,7 +66,7 @@ headerOk nonVolatile r =
 
 -- the name with its zero unit, and 0xFF behind the payload
 unfoldable pub bodyOk : Bytes → Bool
-bodyOk r = isTerminated (part 32 (32 + nameSize r) r) and allAre 255 (drop (32 + nameSize r + dataSize r) r)
+bodyOk r = isTerminated (part recordHeader (recordHeader + nameSize r) r) and allAre 255 (drop (recordHeader + nameSize r + dataSize r) r)
 
 -- the bytes are one record of the store
 unfoldable pub recordOk : Bool → Bytes → Bool
@@ -96,4 +96,4 @@ unfoldable pub encodeRecord : ℕ → Variable → Bytes → Bytes
 encodeRecord attributes v payload =
     recordMark ++ le32Bytes attributes ++ le32Bytes (length (v .name) + 2) ++ le32Bytes (length payload)
     ++ v .namespace ++ v .name ++ (0 ∷ 0 ∷ []) ++ payload
-    ++ replicate (recordSize (length (v .name) + 2) (length payload) - (34 + length (v .name) + length payload)) 255
+    ++ replicate (recordSize (length (v .name) + 2) (length payload) - (recordHeader + 2 + length (v .name) + length payload)) 255

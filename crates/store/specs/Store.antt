@@ -1,8 +1,8 @@
--- A store: its records from byte 0 on, then only 0xFF.
+-- A store (RULES.md, 6.2): its records from byte 0 on, then only 0xFF.
 -- Assumes nothing: these are definitions.
 use Prim.Native.Nat.{ℕ, _+_}
 use mathlib.Core.List.{List, [], _∷_}
-use mathlib.Core.Bool.{Bool, true, false, cond}
+use mathlib.Core.Bool.{Bool, cond}
 use lib.ListN.{length, drop}
 use lib.Dec.{leb}
 use Rattle.limits.specs.Limits.{maxStore}

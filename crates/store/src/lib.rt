@@ -1,16 +1,15 @@
-// The store of variables: one record, the walk over all records, the search, and the edits in place.
+// The store of variables: one record, the search, where a payload stands, and the edits in place.
 ghost use mathlib.Core.Path.{_≡_};
 ghost use mathlib.Core.Bool.{true};
 ghost use mathlib.Core.List.{_++_};
 ghost use Prim.Native.Nat.{ℕ, _+_, _≤_, _<_};
-ghost use lib.ListN.{length, take, drop};
-ghost use Rattle.limits.specs.Limits.{namespaceBytes, maxNameBytes, maxPayload};
+ghost use lib.ListN.{length, drop};
+ghost use Rattle.limits.specs.Limits.{namespaceBytes, maxNameBytes, maxPayload, recordHeader};
 ghost use Rattle.slices.specs.Bytes.{Bytes, le32Bytes, allAre, overwrite};
 ghost use Rattle.slices.specs.Chunks.{find};
-ghost use Rattle.names.specs.Name.{Variable};
-ghost use Rattle.store.specs.Record.{attributesOf, nameSize, dataSize, payloadOf, recordSize, attributesOk, recordMark, headerOk, bodyOk, recordLength, isOf, encodeRecord};
+ghost use Rattle.store.specs.Record.{hasNV, hasBS, hasRT, hasAppend, attributesOf, nameSize, dataSize, namespaceOf, nameOf, recordSize, attributesOk, recordMark, headerOk, bodyOk, recordLength, isOf, encodeRecord};
 ghost use Rattle.store.specs.Store.{recordsOf, endOf, storeOk, placeOf, withoutVariable, hasRoom, withRecord};
-ghost use Rattle.store.specs.Parts.{variable, HeaderFits, Storable, payloadIn, joined, resized};
+ghost use Rattle.store.specs.Parts.{variable, HeaderFits, Storable, isFound, recordIn, attributesIn, payloadIn, boundsIn, Held, joined, resized};
 
 pub enum Found {
     // The variable's record begins at `at` and is `len` bytes long.
@@ -19,26 +18,59 @@ pub enum Found {
     Absent,
 }
 
-fn attributes_ok(a: usize, nonvolatile: bool) -> bool
-    ensures { λ r. ⌜ r ≡ attributesOk nonvolatile a ⌝ }
+// A part of a store: from the byte `from` up to, and without, the byte `to`.
+pub struct Bounds {
+    pub from: usize,
+    pub to: usize,
+}
+
+// The bits of an attribute word.
+pub fn has_nv(attributes: u32) -> bool
+    ensures { λ r. ⌜ r ≡ hasNV attributes ⌝ }
 {
+    attributes % 2 == 1
+}
+
+pub fn has_bs(attributes: u32) -> bool
+    ensures { λ r. ⌜ r ≡ hasBS attributes ⌝ }
+{
+    attributes / 2 % 2 == 1
+}
+
+pub fn has_rt(attributes: u32) -> bool
+    ensures { λ r. ⌜ r ≡ hasRT attributes ⌝ }
+{
+    attributes / 4 % 2 == 1
+}
+
+pub fn has_append(attributes: u32) -> bool
+    ensures { λ r. ⌜ r ≡ hasAppend attributes ⌝ }
+{
+    attributes / 64 % 2 == 1
+}
+
+// Whether a record of the store may have these attributes.
+fn attributes_ok(attributes: u32, nonvolatile: bool) -> bool
+    ensures { λ r. ⌜ r ≡ attributesOk nonvolatile attributes ⌝ }
+{
+    let low = (attributes <= 7) & has_bs(attributes);
     if nonvolatile {
-        return (a <= 7) & (a / 2 % 2 == 1) & (a % 2 == 1);
+        return low & has_nv(attributes);
     }
-    (a <= 7) & (a / 2 % 2 == 1) & (a % 2 == 0)
+    low & !has_nv(attributes)
 }
 
 fn header_ok(r: &[u8], nonvolatile: bool) -> bool
-    requires { ⌜ 32 ≤ length (now r) ⌝ }
+    requires { ⌜ recordHeader ≤ length (now r) ⌝ }
     ensures { λ x. ⌜ x ≡ headerOk nonvolatile (now (r .entry)) ⌝ }
 {
     let n = slices::get32(r, 8);
     let d = slices::get32(r, 12);
     (r[0] == 0xAA)
         & (r[1] == 0x55)
-        & (r[2] == 0x3F)
+        & (r[2] == limits::RECORD_ADDED)
         & (r[3] == 0)
-        & attributes_ok(slices::get32(r, 4), nonvolatile)
+        & attributes_ok(slices::get32(r, 4) as u32, nonvolatile)
         & (4 <= n)
         & (n <= limits::MAX_NAME_SIZE)
         & (1 <= d)
@@ -46,13 +78,13 @@ fn header_ok(r: &[u8], nonvolatile: bool) -> bool
 }
 
 fn body_ok(r: &[u8], n: usize, d: usize) -> bool
-    requires { ⌜ (n ≡ nameSize (now r)) × (d ≡ dataSize (now r)) × (32 + n + d ≤ length (now r)) ⌝ }
+    requires { ⌜ (n ≡ nameSize (now r)) × (d ≡ dataSize (now r)) × (recordHeader + n + d ≤ length (now r)) ⌝ }
     ensures { λ x. ⌜ x ≡ bodyOk (now (r .entry)) ⌝ }
 {
-    if !names::is_terminated(&r[32..32 + n]) {
+    if !names::is_terminated(&r[limits::RECORD_HEADER..limits::RECORD_HEADER + n]) {
         return false;
     }
-    slices::few_are(&r[32 + n + d..], 255)
+    slices::few_are(&r[limits::RECORD_HEADER + n + d..], 255)
 }
 
 // How long a record is with a NameSize of n and a DataSize of d.
@@ -60,14 +92,14 @@ fn record_size(n: usize, d: usize) -> usize
     requires { ⌜ (n < 4294967296) × (d < 4294967296) ⌝ }
     ensures { λ r. ⌜ r ≡ recordSize n d ⌝ }
 {
-    (35 + n + d) / 4 * 4
+    (limits::RECORD_HEADER + 3 + n + d) / 4 * 4
 }
 
 // The length of the well-formed record that begins t, or 0.
 pub fn record_length(t: &[u8], nonvolatile: bool) -> usize
     ensures { λ r. ⌜ r ≡ recordLength nonvolatile (now (t .entry)) ⌝ }
 {
-    if t.len() < 32 {
+    if t.len() < limits::RECORD_HEADER {
         return 0;
     }
     if !header_ok(t, nonvolatile) {
@@ -82,16 +114,32 @@ pub fn record_length(t: &[u8], nonvolatile: bool) -> usize
     if body_ok(&t[..size], n, d) { size } else { 0 }
 }
 
+// The namespace of a record.
+pub fn namespace_of(r: &[u8]) -> &[u8]
+    requires { ⌜ HeaderFits (now r) ⌝ }
+    ensures { λ x. ⌜ now x ≡ namespaceOf (now (r .entry)) ⌝ }
+{
+    &r[16..limits::RECORD_HEADER]
+}
+
+// The name of a record, without its closing zero unit.
+pub fn name_of(r: &[u8]) -> &[u8]
+    requires { ⌜ HeaderFits (now r) ⌝ }
+    ensures { λ x. ⌜ now x ≡ nameOf (now (r .entry)) ⌝ }
+{
+    let end = limits::RECORD_HEADER - 2 + slices::get32(r, 8);
+    &r[limits::RECORD_HEADER..end]
+}
+
 // Whether the record r is that of the variable: the names first, since most records share a namespace.
 fn is_of(r: &[u8], namespace: &[u8], name: &[u8]) -> bool
     requires { ⌜ HeaderFits (now r) ⌝ }
     ensures { λ x. ⌜ x ≡ isOf (variable (now (namespace .entry)) (now (name .entry))) (now (r .entry)) ⌝ }
 {
-    let n = slices::get32(r, 8);
-    if !slices::equal(&r[32..30 + n], name) {
+    if !names::same_name(name_of(r), name) {
         return false;
     }
-    slices::equal(&r[16..32], namespace)
+    names::same_name(namespace_of(r), namespace)
 }
 
 // Where the variable's record stands in a store whose records end at `end`. What is known to be a record is not tested again.
@@ -105,7 +153,7 @@ pub fn find_within(s: &[u8], nonvolatile: bool, end: usize, namespace: &[u8], na
     while at < end {
         let r = &s[at..];
         let size = record_size(slices::get32(r, 8), slices::get32(r, 12));
-        if slices::get32(r, 32) == first {
+        if slices::get32(r, limits::RECORD_HEADER) == first {
             if is_of(&r[..size], namespace, name) {
                 return Found::At { at: at, len: size };
             }
@@ -115,6 +163,16 @@ pub fn find_within(s: &[u8], nonvolatile: bool, end: usize, namespace: &[u8], na
     Found::Absent
 }
 
+// Whether a record was found.
+pub fn is_found(found: Found) -> bool
+    ensures { λ r. ⌜ r ≡ isFound found ⌝ }
+{
+    match found {
+        Found::At { at: _, len: _ } => true,
+        Found::Absent => false,
+    }
+}
+
 // The attributes of a record.
 pub fn attributes(r: &[u8]) -> u32
     ensures { λ x. ⌜ x ≡ attributesOf (now (r .entry)) ⌝ }
@@ -122,16 +180,47 @@ pub fn attributes(r: &[u8]) -> u32
     slices::le32(r, 4)
 }
 
-// The payload of a record, as a part of it.
-pub fn payload_part(r: &[u8]) -> &[u8]
-    ensures { λ x. ⌜ now x ≡ payloadOf (now (r .entry)) ⌝ }
+// The attributes of the record that was found; 0 where there is none.
+pub fn attributes_found(s: &[u8], found: Found) -> u32
+    requires { ⌜ Held (now s) found ⌝ }
+    ensures { λ r. ⌜ r ≡ attributesIn (recordIn (now (s .entry)) found) ⌝ }
 {
-    let at = 32 + slices::le32(r, 8) as usize;
-    let end = at + slices::le32(r, 12) as usize;
-    slices::part(r, at, end)
+    match found {
+        Found::At { at, len } => attributes(&s[at..at + len]),
+        Found::Absent => 0,
+    }
 }
 
-// The payload where the variable's record was found, as a part of the store, or an empty part.
+// Where the payload of the record that was found stands, behind the header and the name; 0 and 0 where there is none.
+pub fn payload_bounds(s: &[u8], found: Found) -> Bounds
+    requires { ⌜ Held (now s) found ⌝ }
+    ensures { λ r. ⌜ r ≡ boundsIn (now (s .entry)) found ⌝ }
+{
+    match found {
+        Found::At { at, len } => {
+            let record = &s[at..at + len];
+            let from = at + limits::RECORD_HEADER + slices::get32(record, 8);
+            Bounds {
+                from,
+                to: from + slices::get32(record, 12),
+            }
+        }
+        Found::Absent => Bounds { from: 0, to: 0 },
+    }
+}
+
+// The payload of the record that was found, as a part of the store; an empty part where there is none.
+pub fn payload(s: &[u8], found: Found) -> &[u8]
+    requires { ⌜ Held (now s) found ⌝ }
+    ensures { λ r. ⌜ now r ≡ payloadIn (recordIn (now (s .entry)) found) ⌝ }
+{
+    let bounds = payload_bounds(s, found);
+    let from = bounds.from;
+    let to = bounds.to;
+    &s[from..to]
+}
+
+// The same of the variable's record, where it was found.
 pub fn payload_found<'a>(
     s: &'a [u8],
     nonvolatile: bool,
@@ -142,10 +231,7 @@ pub fn payload_found<'a>(
     requires { ⌜ found ≡ placeOf nonvolatile (now s) (variable (now namespace) (now name)) ⌝ }
     ensures { λ r. ⌜ now r ≡ payloadIn (find (isOf (variable (now (namespace .entry)) (now (name .entry)))) (recordsOf nonvolatile (now (s .entry)))) ⌝ }
 {
-    match found {
-        Found::At { at, len } => payload_part(&s[at..at + len]),
-        Found::Absent => &s[..0],
-    }
+    payload(s, found)
 }
 
 // Makes room of `new` bytes in place of the `old` ones at `at`, in a store whose records end at `end`.
@@ -196,7 +282,7 @@ fn header(attributes: u8, n: usize, d: usize) -> [u8; 16]
     [
         0xAA,
         0x55,
-        0x3F,
+        limits::RECORD_ADDED,
         0,
         attributes,
         0,
@@ -225,16 +311,17 @@ fn put_record(
     requires { ⌜ (length (now namespace) ≡ namespaceBytes) × (length (now name) ≤ maxNameBytes) × (length (now payload) ≤ maxPayload) × (at + recordSize (length (now name) + 2) (length (now payload)) ≤ length (now s)) ⌝ }
     ensures { λ _. ⌜ now (s .exit) ≡ overwrite (now (s .entry)) at (encodeRecord attributes (variable (now (namespace .entry)) (now (name .entry))) (now (payload .entry))) ⌝ }
 {
-    let k = name.len();
-    let m = payload.len();
-    let end = 34 + k + m;
-    let first = header(attributes, k + 2, m);
+    let n = name.len() + 2;
+    let d = payload.len();
+    let from = limits::RECORD_HEADER + n;
+    let end = from + d;
+    let first = header(attributes, n, d);
     slices::copy_in(s, at, &first);
     slices::copy_in(s, at + 16, namespace);
-    slices::copy_in(s, at + 32, name);
-    slices::fill(s, at + 32 + k, 2, 0);
-    slices::copy_in(s, at + 34 + k, payload);
-    slices::fill(s, at + end, record_size(k + 2, m) - end, 255);
+    slices::copy_in(s, at + limits::RECORD_HEADER, name);
+    slices::fill(s, at + from - 2, 2, 0);
+    slices::copy_in(s, at + from, payload);
+    slices::fill(s, at + end, record_size(n, d) - end, 255);
 }
 
 // Step 9: whether the store has room for the variable's record with a payload of n bytes, in place of the one found or behind the last.

@@ -23,17 +23,17 @@ use Rattle.stores.specs.declared.Scanned.the-variants.{End, Repeated}
 use Rattle.stores.specs.declared.PairCheck.the-variants.{Sound, Unsound}
 
 -- what an answer of a scan says
-pub record Ends (nonVolatile : Bool) (s : Bytes) (os : List Bytes) (k : ℕ) : Type 0 where
+pub record Ended (nonVolatile : Bool) (s : Bytes) (os : List Bytes) (k : ℕ) : Type 0 where
   pub free : distinct sameVariable (os ++ recordsOf nonVolatile s) ≡ true
   pub is : k ≡ endOf nonVolatile s
   pub within : k ≤ length s
 
 module _ (nonVolatile : Bool) (s : Bytes) (os : List Bytes) where
-  pub ends-at : (k : ℕ) → scanned nonVolatile s os ≡ End k → Ends nonVolatile s os k
+  pub ends-at : (k : ℕ) → scanned nonVolatile s os ≡ End k → Ended nonVolatile s os k
   unfolding scanned
   ends-at k e = go (distinct sameVariable (os ++ recordsOf nonVolatile s)) refl
     where
-      go : (b : Bool) → distinct sameVariable (os ++ recordsOf nonVolatile s) ≡ b → Ends nonVolatile s os k
+      go : (b : Bool) → distinct sameVariable (os ++ recordsOf nonVolatile s) ≡ b → Ended nonVolatile s os k
       go true q =
           let f : End (endOf nonVolatile s) ≡ End k = rw q at e in
           let g : k ≡ endOf nonVolatile s = cc in
@@ -84,13 +84,13 @@ module _ (nv vol : Bytes) where
   pub repeated-second : distinct sameVariable (allRecords nv vol) ≡ false → Unsound ≡ pairCheck nv vol
   repeated-second h = twice h
 
-  module _ {x y : Bool} {i j : ℕ} (h : length nv ≤ maxStore) (k : length vol ≤ maxStore) (p : i ≡ endOf true nv) (q : Ends false vol (recordsOf true nv) j)
+  module _ {x y : Bool} {i j : ℕ} (h : length nv ≤ maxStore) (k : length vol ≤ maxStore) (p : i ≡ endOf true nv) (q : Ended false vol (recordsOf true nv) j)
       (e : x ≡ allAre 255 (part i (length nv) nv)) (f : y ≡ allAre 255 (part j (length vol) vol)) where
     both-are : sound nv vol ≡ (x && y)
     unfolding sound
     both-are = rw (free-is true nv h p e, free-is false vol k (q .is) f, q .free, and-yes y) (sym (and-eager x y))
 
-    pub check-sound : (x && y) ≡ true → Sound i j ≡ pairCheck nv vol
+    pub check-sound : (x && y) ≡ true → Sound (record { nv = i; vol = j }) ≡ pairCheck nv vol
     unfolding pairCheck
     check-sound z = rw (both-are ∙ z, p, q .is)
 
@@ -106,6 +106,6 @@ pub repeated-alone : (nv : Bytes) → distinct sameVariable (recordsOf true nv) 
 unfolding soundAlone
 repeated-alone nv h = sym (rw h (and-no (storeOk true nv)))
 
-pub check-alone : {x : Bool} {i : ℕ} (nv : Bytes) → length nv ≤ maxStore → Ends true nv [] i → x ≡ allAre 255 (part i (length nv) nv) → x ≡ soundAlone nv
+pub check-alone : {x : Bool} {i : ℕ} (nv : Bytes) → length nv ≤ maxStore → Ended true nv [] i → x ≡ allAre 255 (part i (length nv) nv) → x ≡ soundAlone nv
 unfolding soundAlone
 check-alone {x} nv h p e = sym (rw (free-is true nv h (p .is) e, p .free) (and-yes x))

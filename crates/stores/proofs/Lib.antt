@@ -1,3 +1,4 @@
 pub mod Hashed
 pub mod Seen
 pub mod Both
+pub mod Located

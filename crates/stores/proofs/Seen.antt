@@ -14,7 +14,7 @@ use Rattle.slices.specs.PartLaws.{part-of}
 use Rattle.slices.specs.Chunks.{flat, chunks, chunksFrom, used, contains, distinct}
 use Rattle.slices.specs.ChunksLaws.{All, nil, more, flat-append, flat-one, chunks-stop, chunks-step, chunks-flat, chunks-items, item-first, at-within, used-here, used-again}
 use Rattle.slices.specs.ItemsLaws.{contains-append, all-append, all-map, or-left-off, or-right-off, distinct-append, distinct-repeated}
-use Rattle.store.specs.Record.{nameSize, namespaceOf, nameOf, recordLength, variableOf, isOf, sameVariable}
+use Rattle.store.specs.Record.{namespaceOf, nameOf, recordLength, variableOf, isOf, sameVariable}
 use Rattle.store.specs.RecordLaws.{recordLength-within, recordLength-local, recordLength-free}
 use Rattle.store.specs.VariableLaws.{isOf-variable, sameVariable-sym, sameVariable-like}
 use Rattle.store.specs.Parts.{variable}
@@ -169,7 +169,6 @@ key-at at n s e = rw part-of at e
 pub search-at : {x : Bool} (at n : ℕ) (s : Bytes) (rs : List Bytes) → x ≡ contains (sameVariable (part at (at + n) s)) rs → x ≡ contains (sameVariable (take n (drop at s))) rs
 search-at at n s rs e = e ∙ ap (λ (r : Bytes). contains (sameVariable r) rs) (part-of at n s)
 
-pub search-is : {x y : Bool} {n : ℕ} (r : Bytes) (os rs : List Bytes) → n ≡ nameSize r → x ≡ contains (isOf (variable (part 16 32 r) (part 32 (30 + n) r))) os
-    → y ≡ contains (isOf (variable (part 16 32 r) (part 32 (30 + n) r))) rs → (x || y) ≡ contains (sameVariable r) (os ++ rs)
-unfolding namespaceOf nameOf
-search-is r os rs e p q = rw (p, q, e) (sym (contains-append (sameVariable r) os rs))
+pub search-is : {x y : Bool} {g u : Bytes} (r : Bytes) (os rs : List Bytes) → g ≡ namespaceOf r → u ≡ nameOf r → x ≡ contains (isOf (variable g u)) os
+    → y ≡ contains (isOf (variable g u)) rs → (x || y) ≡ contains (sameVariable r) (os ++ rs)
+search-is r os rs a b p q = rw (p, q, a, b) (sym (contains-append (sameVariable r) os rs))

@@ -3,7 +3,7 @@
 use Prim.Native.Nat.{ℕ, _+_, _≤_}
 use mathlib.Core.Path.{_≡_, refl, sym, ap, _∙_}
 use mathlib.Core.List.{List, append-nil}
-use mathlib.Core.Bool.{Bool, true, false}
+use mathlib.Core.Bool.{Bool, true, false, cond}
 use mathlib.Core.Option.{Option, none, some}
 use native.Mathlib.Omega.{arith}
 use lib.ListN.{replicate}
@@ -18,9 +18,11 @@ use Rattle.store.specs.AttributeLaws.{record-nv}
 use Rattle.store.specs.VariableLaws.{isOf-variable, isOf-like, isOf-other, sameVariable-sym, sameVariable-like}
 use Rattle.store.specs.Store.{recordsOf, storeOk, placeOf, withoutVariable, hasRoom, withRecord}
 use Rattle.store.specs.StoreLaws.{records-ok, records-without, storeOk-without, records-with, storeOk-with, records-erased, storeOk-erased}
-use Rattle.store.specs.PlaceLaws.{find-at, find-absent}
-use Rattle.store.specs.declared.Found.the-variants.{At, Absent}
-use Rattle.stores.specs.Pair.{allRecords, sound, soundAlone, lookup}
+use Rattle.store.specs.PlaceLaws.{find-at}
+use Rattle.store.specs.declared.Found.the-variants.{At}
+use Rattle.stores.specs.Pair.{allRecords, sound, soundAlone, lookup, endsOf, pairCheck}
+use Rattle.stores.specs.declared.Ends.{Ends}
+use Rattle.stores.specs.declared.PairCheck.the-variants.{Sound, Unsound}
 
 module _ (nv vol : Bytes) where
   -- ---- what soundness says
@@ -189,3 +191,21 @@ module _ (nv vol : Bytes) (v : Variable) where
         find-remove-other (isOf v) (isOf w) (isOf-other v w other) (recordsOf false vol),
       )
       (sym (lookup-either nv vol w))
+
+-- ---- what the check's answer tells
+
+pub check-sound : (nv vol : Bytes) (e : Ends) → pairCheck nv vol ≡ Sound e → (sound nv vol ≡ true) × (e ≡ endsOf nv vol)
+unfolding pairCheck
+check-sound nv vol e h = go (sound nv vol) refl h
+  where
+    go : (t : Bool) → sound nv vol ≡ t → cond t (Sound (endsOf nv vol)) Unsound ≡ Sound e → (sound nv vol ≡ true) × (e ≡ endsOf nv vol)
+    go true k l = (k, cc)
+    go false k l = let z : _≡_ {A = ℕ} 0 1 = cc in absurd (omega arith)
+
+pub check-unsound : (nv vol : Bytes) → pairCheck nv vol ≡ Unsound → sound nv vol ≡ false
+unfolding pairCheck
+check-unsound nv vol h = go (sound nv vol) refl h
+  where
+    go : (t : Bool) → sound nv vol ≡ t → cond t (Sound (endsOf nv vol)) Unsound ≡ Unsound → sound nv vol ≡ false
+    go true k l = let z : _≡_ {A = ℕ} 0 1 = cc in absurd (omega arith)
+    go false k l = k

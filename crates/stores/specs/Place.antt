@@ -1,48 +1,46 @@
 -- Where a variable's record stands in the pair of stores.
 -- Assumes nothing: these are definitions.
-use Prim.Native.Nat.{ℕ, _+_, _≤_}
-use mathlib.Core.Bool.{Bool, true, false}
-use mathlib.Core.Option.{Option, none, some}
-use lib.ListN.{length}
-use Rattle.slices.specs.Bytes.{Bytes, part}
+use Prim.Native.Nat.{ℕ}
+use mathlib.Core.Bool.{Bool, true, false, cond}
+use mathlib.Core.Option.{Option}
+use Rattle.slices.specs.Bytes.{Bytes}
 use Rattle.names.specs.Name.{Variable}
 use Rattle.store.specs.declared.Found.{Found}
 use Rattle.store.specs.declared.Found.the-variants.{At, Absent}
+use Rattle.store.specs.declared.Bounds.{Bounds}
 use Rattle.store.specs.Store.{placeOf}
-use Rattle.store.specs.Parts.{attributesIn, payloadIn}
+use Rattle.store.specs.Parts.{isFound, recordIn, attributesIn, payloadIn, boundsIn, Held}
 use Rattle.stores.specs.declared.Place.{Place}
-use Rattle.stores.specs.declared.Place.the-variants.{NonVolatile, Volatile, Nowhere}
 
 -- the place in the non-volatile store, or else that in the volatile one
 abbrev pub eitherPlace : Found → Found → Place
-eitherPlace (At at len) vol = NonVolatile at len
-eitherPlace Absent (At at len) = Volatile at len
-eitherPlace Absent Absent = Nowhere
+eitherPlace (At at len) vol = record { nonvolatile = true; found = At at len }
+eitherPlace Absent vol = record { nonvolatile = false; found = vol }
 
 unfoldable pub placeIn : Bytes → Bytes → Variable → Place
 placeIn nv vol v = eitherPlace (placeOf true nv v) (placeOf false vol v)
 
 -- whether a place holds a record
 abbrev pub isSomewhere : Place → Bool
-isSomewhere (NonVolatile at len) = true
-isSomewhere (Volatile at len) = true
-isSomewhere Nowhere = false
+isSomewhere p = isFound (p .found)
 
--- the record at a place
+-- the store that a place is in
+abbrev pub storeAt : Bytes → Bytes → Place → Bytes
+storeAt nv vol p = cond (p .nonvolatile) nv vol
+
+-- the record at a place, what it says, and where its payload stands in that store
 abbrev pub recordAt : Bytes → Bytes → Place → Option Bytes
-recordAt nv vol (NonVolatile at len) = some (part at (at + len) nv)
-recordAt nv vol (Volatile at len) = some (part at (at + len) vol)
-recordAt nv vol Nowhere = none
+recordAt nv vol p = recordIn (storeAt nv vol p) (p .found)
 
--- what the record at a place says
 abbrev pub attributesAt : Bytes → Bytes → Place → ℕ
 attributesAt nv vol p = attributesIn (recordAt nv vol p)
 
 abbrev pub payloadAt : Bytes → Bytes → Place → Bytes
 payloadAt nv vol p = payloadIn (recordAt nv vol p)
 
--- a place lies within its store
+abbrev pub boundsAt : Bytes → Bytes → Place → Bounds
+boundsAt nv vol p = boundsIn (storeAt nv vol p) (p .found)
+
+-- the store of a place holds what was found there: it lies within, and so do the fields that its header tells
 abbrev pub Within : Bytes → Bytes → Place → Type 0
-Within nv vol (NonVolatile at len) = at + len ≤ length nv
-Within nv vol (Volatile at len) = at + len ≤ length vol
-Within nv vol Nowhere = Unit
+Within nv vol p = Held (storeAt nv vol p) (p .found)

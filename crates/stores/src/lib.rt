@@ -1,5 +1,5 @@
-// The two lent stores together: the check that both are sound, in a time that grows with their bytes.
-// A filter has one byte for each of 8,192 slots of a hash; a record is searched for only where its slot does not rule out that its variable was seen.
+// The two lent stores together: the check that both are sound, in a time that grows with their bytes, and where a variable stands in them.
+// The check's filter has one byte for each of 8,192 slots of a hash; a record is searched for only where its slot does not rule out that its variable was seen.
 ghost use mathlib.Core.Path.{_≡_};
 ghost use mathlib.Core.List.{_++_};
 ghost use mathlib.Core.Bool.{true, false, cond};
@@ -10,14 +10,21 @@ ghost use Rattle.slices.specs.Chunks.{contains, distinct};
 ghost use Rattle.store.specs.Record.{variableOf, isOf, sameVariable};
 ghost use Rattle.store.specs.Store.{recordsOf, endOf};
 ghost use Rattle.store.specs.Parts.{variable, HeaderFits};
-ghost use Rattle.stores.specs.Pair.{soundAlone, pairCheck};
+ghost use Rattle.stores.specs.Pair.{soundAlone, endsOf, pairCheck};
 ghost use Rattle.stores.specs.Filter.{hashOf, slotOf, fingerprintOf, Filter, scanned};
-ghost use Rattle.stores.specs.Place.{placeIn, isSomewhere, attributesAt, payloadAt, Within};
+ghost use Rattle.stores.specs.Place.{placeIn, isSomewhere, attributesAt, payloadAt, boundsAt, Within};
+use store::Bounds;
 use store::Found;
 
-// What the check of the two stores finds: where the records of each end; or that they are unsound.
+// Where the records of two stores end.
+pub struct Ends {
+    pub nv: usize,
+    pub vol: usize,
+}
+
+// What the check of the two stores finds.
 pub enum PairCheck {
-    Sound { nv_end: usize, vol_end: usize },
+    Sound(Ends),
     Unsound,
 }
 
@@ -33,8 +40,7 @@ pub fn hash(r: &[u8]) -> usize
     requires { ⌜ HeaderFits (now r) ⌝ }
     ensures { λ x. ⌜ x ≡ hashOf (variableOf (now (r .entry))) ⌝ }
 {
-    let n = slices::get32(r, 8);
-    let h = slices::hash(slices::hash(0, &r[16..32]), &r[32..30 + n]);
+    let h = slices::hash(slices::hash(0, store::namespace_of(r)), store::name_of(r));
     h % 4294967296 * 2654435761
 }
 
@@ -64,11 +70,7 @@ fn has_within(s: &[u8], nonvolatile: bool, end: usize, namespace: &[u8], name: &
     requires { ⌜ end ≡ endOf nonvolatile (now s) ⌝ }
     ensures { λ r. ⌜ r ≡ contains (isOf (variable (now (namespace .entry)) (now (name .entry)))) (recordsOf nonvolatile (now (s .entry))) ⌝ }
 {
-    let f = store::find_within(s, nonvolatile, end, namespace, name);
-    match f {
-        Found::At { at: _, len: _ } => true,
-        Found::Absent => false,
-    }
+    store::is_found(store::find_within(s, nonvolatile, end, namespace, name))
 }
 
 // Whether the record r has a variable of o or of s.
@@ -84,9 +86,8 @@ fn is_repeated(
     requires { ⌜ HeaderFits (now r) × (oend ≡ endOf other (now o)) × (end ≡ endOf nonvolatile (now s)) ⌝ }
     ensures { λ x. ⌜ x ≡ contains (sameVariable (now (r .entry))) (recordsOf other (now (o .entry)) ++ recordsOf nonvolatile (now (s .entry))) ⌝ }
 {
-    let n = slices::get32(r, 8);
-    let namespace = &r[16..32];
-    let name = &r[32..30 + n];
+    let namespace = store::namespace_of(r);
+    let name = store::name_of(r);
     has_within(o, other, oend, namespace, name) | has_within(s, nonvolatile, end, namespace, name)
 }
 
@@ -150,10 +151,10 @@ pub fn check(nv: &[u8], vol: &[u8]) -> PairCheck
         return PairCheck::Unsound;
     };
     if slices::all_are(&nv[nv_end..], 255) & slices::all_are(&vol[vol_end..], 255) {
-        PairCheck::Sound {
-            nv_end: nv_end,
-            vol_end: vol_end,
-        }
+        PairCheck::Sound(Ends {
+            nv: nv_end,
+            vol: vol_end,
+        })
     } else {
         PairCheck::Unsound
     }
@@ -173,36 +174,39 @@ pub fn check_alone(nv: &[u8]) -> bool
     slices::all_are(&nv[end..], 255)
 }
 
-// Where a variable stands in two sound stores.
-pub enum Place {
-    // Its record begins at `at` in that store and is `len` bytes long.
-    NonVolatile { at: usize, len: usize },
-    Volatile { at: usize, len: usize },
-    Nowhere,
+// Which store holds a variable's record, and where it stands there; of an absent variable the volatile store.
+pub struct Place {
+    pub nonvolatile: bool,
+    pub found: Found,
 }
 
-// Where the variable stands, in stores whose records end at nv_end and vol_end.
-pub fn locate(
-    nv: &[u8],
-    nv_end: usize,
-    vol: &[u8],
-    vol_end: usize,
-    namespace: &[u8],
-    name: &[u8],
-) -> Place
-    requires { ⌜ («nv_end» ≡ endOf true (now nv)) × («vol_end» ≡ endOf false (now vol)) ⌝ }
-    ensures { λ r.
-        ⌜ r ≡ placeIn (now (nv .entry)) (now (vol .entry)) (record { namespace = now (namespace .entry); name = now (name .entry) }) ⌝ }
+// Where the variable stands.
+pub fn locate(nv: &[u8], vol: &[u8], ends: Ends, namespace: &[u8], name: &[u8]) -> Place
+    requires { ⌜ ends ≡ endsOf (now nv) (now vol) ⌝ }
+    ensures { λ r. ⌜ r ≡ placeIn (now (nv .entry)) (now (vol .entry)) (variable (now (namespace .entry)) (now (name .entry))) ⌝ }
 {
-    let in_nv = store::find_within(nv, true, nv_end, namespace, name);
-    if let Found::At { at, len } = in_nv {
-        return Place::NonVolatile { at, len };
+    let in_nv = store::find_within(nv, true, ends.nv, namespace, name);
+    match in_nv {
+        Found::At { at: _, len: _ } => Place {
+            nonvolatile: true,
+            found: in_nv,
+        },
+        Found::Absent => {
+            let in_vol = store::find_within(vol, false, ends.vol, namespace, name);
+            Place {
+                nonvolatile: false,
+                found: in_vol,
+            }
+        }
     }
-    let in_vol = store::find_within(vol, false, vol_end, namespace, name);
-    match in_vol {
-        Found::At { at, len } => Place::Volatile { at, len },
-        Found::Absent => Place::Nowhere,
-    }
+}
+
+// Whether a place holds a record.
+pub fn is_somewhere(place: Place) -> bool
+    ensures { λ r. ⌜ r ≡ isSomewhere place ⌝ }
+{
+    let found = place.found;
+    store::is_found(found)
 }
 
 // The attributes of the record at a place; 0 where there is none.
@@ -210,10 +214,24 @@ pub fn attributes_at(nv: &[u8], vol: &[u8], place: Place) -> u32
     requires { ⌜ Within (now nv) (now vol) place ⌝ }
     ensures { λ r. ⌜ r ≡ attributesAt (now (nv .entry)) (now (vol .entry)) place ⌝ }
 {
-    match place {
-        Place::NonVolatile { at, len } => store::attributes(&nv[at..at + len]),
-        Place::Volatile { at, len } => store::attributes(&vol[at..at + len]),
-        Place::Nowhere => 0,
+    let found = place.found;
+    if place.nonvolatile {
+        store::attributes_found(nv, found)
+    } else {
+        store::attributes_found(vol, found)
+    }
+}
+
+// Where the payload of the record at a place stands in the store that holds it; 0 and 0 where there is none.
+pub fn payload_bounds(nv: &[u8], vol: &[u8], place: Place) -> Bounds
+    requires { ⌜ Within (now nv) (now vol) place ⌝ }
+    ensures { λ r. ⌜ r ≡ boundsAt (now (nv .entry)) (now (vol .entry)) place ⌝ }
+{
+    let found = place.found;
+    if place.nonvolatile {
+        store::payload_bounds(nv, found)
+    } else {
+        store::payload_bounds(vol, found)
     }
 }
 
@@ -222,20 +240,10 @@ pub fn payload_at<'a>(nv: &'a [u8], vol: &'a [u8], place: Place) -> &'a [u8]
     requires { ⌜ Within (now nv) (now vol) place ⌝ }
     ensures { λ r. ⌜ now r ≡ payloadAt (now (nv .entry)) (now (vol .entry)) place ⌝ }
 {
-    match place {
-        Place::NonVolatile { at, len } => store::payload_part(&nv[at..at + len]),
-        Place::Volatile { at, len } => store::payload_part(&vol[at..at + len]),
-        Place::Nowhere => &nv[..0],
-    }
-}
-
-// Whether a place holds a record.
-pub fn is_somewhere(place: Place) -> bool
-    ensures { λ r. ⌜ r ≡ isSomewhere place ⌝ }
-{
-    match place {
-        Place::NonVolatile { at: _, len: _ } => true,
-        Place::Volatile { at: _, len: _ } => true,
-        Place::Nowhere => false,
+    let found = place.found;
+    if place.nonvolatile {
+        store::payload(nv, found)
+    } else {
+        store::payload(vol, found)
     }
 }

@@ -1,4 +1,4 @@
--- The switches of the engine (enabled, locked, disabling allowed), and the calls on them alone.
+-- The switches of the engine (RULES.md, 8.1), and the calls on them alone.
 -- Assumes nothing: these are definitions.
 use mathlib.Core.Bool.{Bool, true, false, cond}
 use Rattle.status.specs.declared.Status.{Status}
@@ -10,7 +10,7 @@ use Rattle.switches.specs.declared.SwitchAnswer.{SwitchAnswer}
 abbrev pub freshSwitches : Bool → Switches
 freshSwitches allowed = record { enabled = true; locked = false; «disabling_allowed» = allowed }
 
--- handed back by a refused power-on or restart: enabled, locked and without leave to disable
+-- what a refused start hands back: an engine that neither registers nor can be disabled
 abbrev pub refusedSwitches : Switches
 refusedSwitches = record { enabled = true; locked = true; «disabling_allowed» = false }
 
@@ -21,11 +21,11 @@ withLocked s = record { enabled = s .enabled; locked = true; «disabling_allowed
 abbrev pub withDisabled : Switches → Switches
 withDisabled s = record { enabled = false; locked = s .locked; «disabling_allowed» = s .«disabling_allowed» }
 
--- Lock: 8 if locked already
+-- lock (RULES.md, 10.5)
 abbrev pub lockStatus : Switches → Status
 lockStatus s = cond (s .locked) WriteProtected Success
 
--- Disable: 20 if disabled; 8 if locked or not allowed
+-- disable (RULES.md, 10.6)
 abbrev pub disableStatus : Switches → Status
 disableStatus s = cond (s .enabled) (cond (s .locked) WriteProtected (cond (s .«disabling_allowed») Success WriteProtected)) AlreadyStarted
 

@@ -1,9 +1,9 @@
-// The engine's switches: enabled, locked, disabling allowed.
+// The engine's switches: enabled, locked, disabling allowed; and the bytes in which a caller keeps them.
 ghost use mathlib.Core.Path.{_≡_};
 ghost use Rattle.switches.specs.Switches.{lockAnswer, disableAnswer};
+ghost use Rattle.switches.specs.SwitchBytes.{givesLeave, switchesOf, byteOf, bytesOf, lockedBytes, disabledBytes, bytesAnswer};
 use status::Status;
 
-#[repr(C)]
 pub struct Switches {
     pub enabled: bool,
     pub locked: bool,
@@ -72,20 +72,89 @@ pub fn disable(switches: Switches) -> SwitchAnswer
     }
 }
 
-// `lock` on switches that the caller lends: what it leaves is written back in place.
-pub fn lock_lent(switches: &mut Switches) -> Status
-    ensures { λ r. ⌜ (r ≡ lockAnswer (now (switches .entry)) .status) × (now (switches .exit) ≡ lockAnswer (now (switches .entry)) .switches) ⌝ }
-{
-    let answer = lock(*switches);
-    *switches = answer.switches;
-    answer.status
+// The switches as a caller keeps and lends them. Each of the 256 values of each byte has a meaning.
+#[repr(C)]
+pub struct SwitchBytes {
+    pub enabled: u8,
+    pub locked: u8,
+    pub disabling_allowed: u8,
 }
 
-// `disable` on switches that the caller lends: what it leaves is written back in place.
-pub fn disable_lent(switches: &mut Switches) -> Status
-    ensures { λ r. ⌜ (r ≡ disableAnswer (now (switches .entry)) .status) × (now (switches .exit) ≡ disableAnswer (now (switches .entry)) .switches) ⌝ }
+// What a call on lent bytes answers: whether it is granted, the number of its status, and the bytes to be written if it is.
+pub struct BytesAnswer {
+    pub granted: bool,
+    pub status: u32,
+    pub switches: SwitchBytes,
+}
+
+// Whether a byte gives leave to disable: 1 does, and no other.
+pub fn gives_leave(byte: u8) -> bool
+    ensures { λ r. ⌜ r ≡ givesLeave byte ⌝ }
 {
-    let answer = disable(*switches);
-    *switches = answer.switches;
-    answer.status
+    byte == 1
+}
+
+// What the bytes say: `enabled` and `locked` are set by any byte but 0, leave to disable is given by 1 alone.
+pub fn switches_of(bytes: SwitchBytes) -> Switches
+    ensures { λ r. ⌜ r ≡ switchesOf bytes ⌝ }
+{
+    Switches {
+        enabled: bytes.enabled != 0,
+        locked: bytes.locked != 0,
+        disabling_allowed: gives_leave(bytes.disabling_allowed),
+    }
+}
+
+// The byte of a switch that is handed back.
+fn byte_of(set: bool) -> u8
+    ensures { λ r. ⌜ r ≡ byteOf set ⌝ }
+{
+    if set {
+        return 1;
+    }
+    0
+}
+
+// The bytes of switches that are handed back: 1 if set, 0 if clear.
+pub fn bytes_of(switches: Switches) -> SwitchBytes
+    ensures { λ r. ⌜ r ≡ bytesOf switches ⌝ }
+{
+    SwitchBytes {
+        enabled: byte_of(switches.enabled),
+        locked: byte_of(switches.locked),
+        disabling_allowed: byte_of(switches.disabling_allowed),
+    }
+}
+
+// The bytes with `locked` set.
+pub fn locked_bytes(bytes: SwitchBytes) -> SwitchBytes
+    ensures { λ r. ⌜ r ≡ lockedBytes bytes ⌝ }
+{
+    SwitchBytes {
+        enabled: bytes.enabled,
+        locked: 1,
+        disabling_allowed: bytes.disabling_allowed,
+    }
+}
+
+// The bytes with `enabled` clear.
+pub fn disabled_bytes(bytes: SwitchBytes) -> SwitchBytes
+    ensures { λ r. ⌜ r ≡ disabledBytes bytes ⌝ }
+{
+    SwitchBytes {
+        enabled: 0,
+        locked: bytes.locked,
+        disabling_allowed: bytes.disabling_allowed,
+    }
+}
+
+// The answer of a call on lent bytes: they are to be written only beside SUCCESS.
+pub fn bytes_answer(status: Status, new: SwitchBytes) -> BytesAnswer
+    ensures { λ r. ⌜ r ≡ bytesAnswer status new ⌝ }
+{
+    BytesAnswer {
+        granted: status::is_success(status),
+        status: status::number(status),
+        switches: new,
+    }
 }

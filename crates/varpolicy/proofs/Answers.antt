@@ -1,32 +1,21 @@
 -- The exported answers, by those of the engine's calls. Assumes nothing.
 use Prim.Native.Nat.{ℕ}
-use mathlib.Core.Path.{_≡_, refl, sym, ap, _∙_}
-use mathlib.Core.Bool.{cond}
-use lib.Dec.{eqb}
+use mathlib.Core.Path.{_≡_, sym, ap, ap₂, subst, _∙_}
+use mathlib.Core.Bool.{Bool, cond}
 use Rattle.slices.specs.Bytes.{Bytes}
 use Rattle.status.specs.declared.Status.{Status}
-use Rattle.status.specs.declared.Status.the-variants.{Success, InvalidParameter, Unsupported, BufferTooSmall, WriteProtected, OutOfResources, VolumeCorrupted, NotFound, AlreadyStarted}
 use Rattle.status.specs.Status.{statusNumber, isSuccess}
+use Rattle.status.specs.StatusLaws.{zero-success}
 use Rattle.switches.specs.declared.Switches.{Switches}
 use Rattle.switches.specs.declared.SwitchAnswer.{SwitchAnswer}
-use Rattle.rules.specs.Engine.{State, Answer, stateOf, onlyStatus, handBack}
+use Rattle.switches.specs.SwitchBytes.{bytesOf}
+use Rattle.switches.specs.SwitchBytesLaws.{bytes-read-back}
+use Rattle.rules.specs.Engine.{State, Answer, Call, stateOf, onlyStatus, handBack, step}
 use Rattle.engine.specs.declared.DumpAnswer.{DumpAnswer}
 use Rattle.engine.specs.declared.QueryAnswer.{QueryAnswer}
 use Rattle.engine.specs.Answers.{dumpAnswer, queryAnswer}
 use Rattle.varpolicy.specs.declared.Started.{Started}
-use Rattle.varpolicy.specs.Exports.{numbered, statusAlone, startedAnswer, standing, dumpedAnswer, queriedAnswer}
-
--- 0 is the number of success alone
-zero-success : (n : Status) → eqb (statusNumber n) 0 ≡ isSuccess n
-zero-success Success = refl
-zero-success InvalidParameter = refl
-zero-success Unsupported = refl
-zero-success BufferTooSmall = refl
-zero-success WriteProtected = refl
-zero-success OutOfResources = refl
-zero-success VolumeCorrupted = refl
-zero-success NotFound = refl
-zero-success AlreadyStarted = refl
+use Rattle.varpolicy.specs.Exports.{Numbered, numbered, statusAlone, startedAnswer, standing, dumpedAnswer, queriedAnswer}
 
 module _ {x : Answer × State} {s : State} where
   pub status-numbered : {n : ℕ} (a : Status) → x ≡ (onlyStatus a, s) → n ≡ statusNumber a → numbered x ≡ (statusAlone n, s)
@@ -40,11 +29,33 @@ module _ {x : Answer × State} {s : State} where
       → numbered x ≡ (queriedAnswer (record { status = n; enabled = a .enabled }), s)
   query-numbered a e k = ap numbered e ∙ ap (λ m. (queriedAnswer (record { status = m; enabled = a .enabled }), s)) (sym k)
 
-pub start-numbered : {x : Answer × State} {r : Started} (nv vol policy : Bytes) (w : Switches) (a : SwitchAnswer)
-    → x ≡ (handBack (a .status) (a .switches), stateOf nv vol policy (cond (isSuccess (a .status)) (a .switches) w))
-    → r ≡ record { status = statusNumber (a .status); switches = a .switches }
-    → numbered x ≡ (startedAnswer r, stateOf nv vol policy (standing r w))
-start-numbered nv vol policy w a e k =
-    ap numbered e
-    ∙ ap (λ b. (startedAnswer (record { status = statusNumber (a .status); switches = a .switches }), stateOf nv vol policy (cond b (a .switches) w))) (sym (zero-success (a .status)))
-    ∙ ap (λ r. (startedAnswer r, stateOf nv vol policy (standing r w))) (sym k)
+-- a call at switches u, which are those that the bytes say
+module _ {u w : Switches} (same : u ≡ w) where
+  pub status-at : {n : ℕ} (call : Call) (nv vol policy nv′ vol′ policy′ : Bytes) (a : Status)
+      → step (stateOf nv vol policy u) call ≡ (onlyStatus a, stateOf nv′ vol′ policy′ u) → n ≡ statusNumber a
+      → numbered (step (stateOf nv vol policy w) call) ≡ (statusAlone n, stateOf nv′ vol′ policy′ w)
+  status-at {n = n} call nv vol policy nv′ vol′ policy′ a e k =
+      subst (λ t. numbered (step (stateOf nv vol policy t) call) ≡ (statusAlone n, stateOf nv′ vol′ policy′ t)) same (status-numbered a e k)
+
+  pub query-at : {n : ℕ} (call : Call) (nv vol policy : Bytes) (a : QueryAnswer)
+      → step (stateOf nv vol policy u) call ≡ (queryAnswer a, stateOf nv vol policy u) → n ≡ statusNumber (a .status)
+      → numbered (step (stateOf nv vol policy w) call) ≡ (queriedAnswer (record { status = n; enabled = a .enabled }), stateOf nv vol policy w)
+  query-at {n = n} call nv vol policy a e k =
+      subst (λ t. numbered (step (stateOf nv vol policy t) call) ≡ (queriedAnswer (record { status = n; enabled = a .enabled }), stateOf nv vol policy t))
+      same (query-numbered a e k)
+
+-- a start, with leave to disable as the byte says
+module _ (nv vol policy : Bytes) (w : Switches) (a : SwitchAnswer) where
+  abbrev started : Started
+  started = record { status = statusNumber (a .status); switches = bytesOf (a .switches) }
+
+  abbrev leaves : Bool → Switches → Numbered × State
+  leaves granted t = (startedAnswer started, stateOf nv vol policy (cond granted t w))
+
+  pub start-numbered : (call : Bool → Call) {u v : Bool} (s : State) {r : Started} → u ≡ v
+      → step s (call u) ≡ (handBack (a .status) (a .switches), stateOf nv vol policy (cond (isSuccess (a .status)) (a .switches) w)) → r ≡ started
+      → numbered (step s (call v)) ≡ (startedAnswer r, stateOf nv vol policy (standing r w))
+  start-numbered call s same e k =
+      ap (λ b. numbered (step s (call b))) (sym same) ∙ ap numbered e
+      ∙ ap₂ leaves (sym (zero-success (a .status))) (sym (bytes-read-back (a .switches)))
+      ∙ ap (λ r. (startedAnswer r, stateOf nv vol policy (standing r w))) (sym k)

@@ -1,31 +1,38 @@
 // The calls of the engine for C. Each answers what the rules' `step` answers, with the status as its number, and leaves in what
-// it is lent for writing what `step` leaves there, for every input. A slice is a pointer and a length.
+// it is lent for writing what `step` leaves there, for every input. A slice is a pointer and a length. The switches are a byte
+// each, and every byte has a meaning: `switchesOf`, `givesLeave`.
 ghost use mathlib.Core.Path.{_≡_};
 ghost use Prim.Native.Nat.{_+_, _≤_};
+ghost use mathlib.Core.Bool.{cond};
+ghost use lib.Dec.{eqb};
 ghost use lib.ListN.{length};
-ghost use Rattle.slices.specs.Bytes.{Bytes, part};
-ghost use Rattle.store.specs.Parts.{HeaderFits};
+ghost use Rattle.slices.specs.Bytes.{Bytes};
+ghost use Rattle.names.specs.Name.{variable};
 ghost use Rattle.status.specs.Status.{statusNumber};
 ghost use Rattle.switches.specs.declared.Switches.{Switches};
+ghost use Rattle.switches.specs.SwitchBytes.{givesLeave, switchesOf, bytesOf, lockedBytes, disabledBytes, lockBytes, disableBytes};
 ghost use Rattle.rules.specs.Engine.{stateOf, step};
 ghost use Rattle.rules.specs.Engine.Call.{powerOn, restart, register, dump, lock, disable, query, set};
-ghost use Rattle.decision.specs.Decision.{requestOf};
+ghost use Rattle.rules.specs.Set.{requestOf};
 ghost use Rattle.engine.specs.Answers.{readingOf};
-ghost use Rattle.varpolicy.specs.Exports.{numbered, statusAlone, startedAnswer, standing, dumpedAnswer, queriedAnswer, foundNothing, foundAt, foundOf, FoundStep};
-use engine::Reading;
+ghost use Rattle.varpolicy.specs.Exports.{numbered, statusAlone, startedAnswer, standing, dumpedAnswer, queriedAnswer, readOf, NumberedRead};
 use status::Status;
 use status::number;
-use stores::Place;
+use switches::BytesAnswer;
 use switches::SwitchAnswer;
-use switches::Switches;
-use switches::disable_lent;
-use switches::lock_lent;
+use switches::SwitchBytes;
+use switches::bytes_answer;
+use switches::bytes_of;
+use switches::disabled_bytes;
+use switches::gives_leave;
+use switches::locked_bytes;
+use switches::switches_of;
 
-// What a power-on or restart answers.
+// What a power-on or restart answers. Each byte of the switches is 0 or 1.
 #[repr(C)]
 pub struct Started {
     pub status: u32,
-    pub switches: Switches,
+    pub switches: SwitchBytes,
 }
 
 // What a dump answers: beside 0 the length written, beside 5 the length needed.
@@ -44,7 +51,7 @@ pub struct Queried {
 
 // What a read answers: the attributes, and where the payload stands in the store that non_volatile names.
 #[repr(C)]
-pub struct Found {
+pub struct Read {
     pub status: u32,
     pub attributes: u32,
     pub non_volatile: bool,
@@ -52,31 +59,32 @@ pub struct Found {
     pub length: usize,
 }
 
-// A start's answer with the number of its status.
+// A start's answer with the number of its status, and the switches in bytes.
 fn numbered_start(answer: SwitchAnswer) -> Started
-    ensures { λ r. ⌜ r ≡ record { status = statusNumber (answer .status); switches = answer .switches } ⌝ }
+    ensures { λ r. ⌜ r ≡ record { status = statusNumber (answer .status); switches = bytesOf (answer .switches) } ⌝ }
 {
     let status = answer.status;
     let switches = answer.switches;
     Started {
         status: number(status),
-        switches,
+        switches: bytes_of(switches),
     }
 }
 
-// Power-on: fills the volatile store with 0xFF and the policy record with zeros, and hands back the engine's switches.
+// Power-on: wipes the volatile store and the policy record, and hands back the engine's switches. Disabling is allowed by 1, and
+// by no other byte (RULES.md, 8.2).
 #[no_mangle]
 pub extern "C" fn varpolicy_power_on(
     nv: &[u8],
     vol: &mut [u8],
     policy: &mut [u8],
-    disabling_allowed: bool,
+    disabling_allowed: u8,
 ) -> Started
     ensures { λ r.
-        ⌜ ((w : Switches) → numbered (step (stateOf (now (nv .entry)) (now (vol .entry)) (now (policy .entry)) w) (powerOn «disabling_allowed»))
+        ⌜ ((w : Switches) → numbered (step (stateOf (now (nv .entry)) (now (vol .entry)) (now (policy .entry)) w) (powerOn (givesLeave «disabling_allowed»)))
         ≡ (startedAnswer r, stateOf (now (nv .entry)) (now (vol .exit)) (now (policy .exit)) (standing r w))) ⌝ }
 {
-    numbered_start(engine::power_on(nv, vol, policy, disabling_allowed))
+    numbered_start(engine::power_on(nv, vol, policy, gives_leave(disabling_allowed)))
 }
 
 // Restart: as power-on, over stores that it leaves as they are.
@@ -85,23 +93,23 @@ pub extern "C" fn varpolicy_restart(
     nv: &[u8],
     vol: &[u8],
     policy: &mut [u8],
-    disabling_allowed: bool,
+    disabling_allowed: u8,
 ) -> Started
     ensures { λ r.
-        ⌜ ((w : Switches) → numbered (step (stateOf (now (nv .entry)) (now (vol .entry)) (now (policy .entry)) w) (restart «disabling_allowed»))
+        ⌜ ((w : Switches) → numbered (step (stateOf (now (nv .entry)) (now (vol .entry)) (now (policy .entry)) w) (restart (givesLeave «disabling_allowed»)))
         ≡ (startedAnswer r, stateOf (now (nv .entry)) (now (vol .entry)) (now (policy .exit)) (standing r w))) ⌝ }
 {
-    numbered_start(engine::restart(nv, vol, policy, disabling_allowed))
+    numbered_start(engine::restart(nv, vol, policy, gives_leave(disabling_allowed)))
 }
 
 // Register: the packed entry stands behind the others.
 #[no_mangle]
-pub extern "C" fn varpolicy_register(policy: &mut [u8], switches: Switches, entry: &[u8]) -> u32
+pub extern "C" fn varpolicy_register(policy: &mut [u8], switches: SwitchBytes, entry: &[u8]) -> u32
     ensures { λ r.
-        ⌜ ((nv vol : Bytes) → numbered (step (stateOf nv vol (now (policy .entry)) switches) (register (now (entry .entry))))
-        ≡ (statusAlone r, stateOf nv vol (now (policy .exit)) switches)) ⌝ }
+        ⌜ ((nv vol : Bytes) → numbered (step (stateOf nv vol (now (policy .entry)) (switchesOf switches)) (register (now (entry .entry))))
+        ≡ (statusAlone r, stateOf nv vol (now (policy .exit)) (switchesOf switches))) ⌝ }
 {
-    number(engine::register(policy, switches, entry))
+    number(engine::register(policy, switches_of(switches), entry))
 }
 
 // Dump: the entries, in the order registered, at the start of the buffer.
@@ -119,34 +127,65 @@ pub extern "C" fn varpolicy_dump(policy: &[u8], buffer: &mut [u8]) -> Dumped
     }
 }
 
-// Lock, on lent switches.
-#[no_mangle]
-pub extern "C" fn varpolicy_lock(switches: &mut Switches) -> u32
-    ensures { λ r.
-        ⌜ ((nv vol policy : Bytes) → numbered (step (stateOf nv vol policy (now (switches .entry))) lock)
-        ≡ (statusAlone r, stateOf nv vol policy (now (switches .exit)))) ⌝ }
+// Lock on the bytes of the switches, by value: what is to be written is `locked` alone.
+fn lock_bytes(bytes: SwitchBytes) -> BytesAnswer
+    ensures { λ r. ⌜ r ≡ lockBytes bytes ⌝ }
 {
-    number(lock_lent(switches))
+    let answer = engine::lock(switches_of(bytes));
+    let status = answer.status;
+    bytes_answer(status, locked_bytes(bytes))
 }
 
-// Disable, on lent switches.
+// Lock, on lent switches. Beside 0 the byte `locked` is 1 and the other two are as they were; beside any other status all three
+// are. The contract cannot tell a store of the old bytes from none; the machine code makes none: refused, the switches may lie on
+// a page that is read-only (rust/varpolicy/tests/switches.rs).
 #[no_mangle]
-pub extern "C" fn varpolicy_disable(switches: &mut Switches) -> u32
+pub extern "C" fn varpolicy_lock(switches: &mut SwitchBytes) -> u32
     ensures { λ r.
-        ⌜ ((nv vol policy : Bytes) → numbered (step (stateOf nv vol policy (now (switches .entry))) disable)
-        ≡ (statusAlone r, stateOf nv vol policy (now (switches .exit)))) ⌝ }
+        ⌜ ((nv vol policy : Bytes) → numbered (step (stateOf nv vol policy (switchesOf (now (switches .entry)))) lock)
+        ≡ (statusAlone r, stateOf nv vol policy (switchesOf (now (switches .exit)))))
+        × (now (switches .exit) ≡ cond (eqb r 0) (lockedBytes (now (switches .entry))) (now (switches .entry))) ⌝ }
 {
-    number(disable_lent(switches))
+    let answer = lock_bytes(*switches);
+    if answer.granted {
+        *switches = answer.switches;
+    }
+    answer.status
+}
+
+// Disable on the bytes of the switches, by value: what is to be written is `enabled` alone.
+fn disable_bytes(bytes: SwitchBytes) -> BytesAnswer
+    ensures { λ r. ⌜ r ≡ disableBytes bytes ⌝ }
+{
+    let answer = engine::disable(switches_of(bytes));
+    let status = answer.status;
+    bytes_answer(status, disabled_bytes(bytes))
+}
+
+// Disable, on lent switches. Beside 0 the byte `enabled` is 0 and the other two are as they were; beside any other status all three
+// are, and the machine code stores nothing, as in lock.
+#[no_mangle]
+pub extern "C" fn varpolicy_disable(switches: &mut SwitchBytes) -> u32
+    ensures { λ r.
+        ⌜ ((nv vol policy : Bytes) → numbered (step (stateOf nv vol policy (switchesOf (now (switches .entry)))) disable)
+        ≡ (statusAlone r, stateOf nv vol policy (switchesOf (now (switches .exit)))))
+        × (now (switches .exit) ≡ cond (eqb r 0) (disabledBytes (now (switches .entry))) (now (switches .entry))) ⌝ }
+{
+    let answer = disable_bytes(*switches);
+    if answer.granted {
+        *switches = answer.switches;
+    }
+    answer.status
 }
 
 // Query: the enabled switch.
 #[no_mangle]
-pub extern "C" fn varpolicy_query(switches: Switches) -> Queried
+pub extern "C" fn varpolicy_query(switches: SwitchBytes) -> Queried
     ensures { λ r.
-        ⌜ ((nv vol policy : Bytes) → numbered (step (stateOf nv vol policy switches) query)
-        ≡ (queriedAnswer r, stateOf nv vol policy switches)) ⌝ }
+        ⌜ ((nv vol policy : Bytes) → numbered (step (stateOf nv vol policy (switchesOf switches)) query)
+        ≡ (queriedAnswer r, stateOf nv vol policy (switchesOf switches))) ⌝ }
 {
-    let answer = engine::query(switches);
+    let answer = engine::query(switches_of(switches));
     let status = answer.status;
     Queried {
         status: number(status),
@@ -154,53 +193,22 @@ pub extern "C" fn varpolicy_query(switches: Switches) -> Queried
     }
 }
 
-// What a refused read answers.
-fn found_nothing(status: Status) -> Found
-    ensures { λ r. ⌜ r ≡ foundNothing (statusNumber status) ⌝ }
-{
-    Found {
-        status: number(status),
-        attributes: 0,
-        non_volatile: false,
-        offset: 0,
-        length: 0,
-    }
-}
-
-// What a read answers of the record of `len` bytes at `at`.
-fn found_at(s: &[u8], non_volatile: bool, at: usize, len: usize) -> Found
-    requires { ⌜ (at + len ≤ length (now s)) × HeaderFits (part at (at + len) (now s)) ⌝ }
-    ensures { λ r. ⌜ r ≡ foundAt (now (s .entry)) «non_volatile» at len ⌝ }
-{
-    let record = &s[at..at + len];
-    let payload = at + 32 + slices::get32(record, 8);
-    Found {
-        status: number(Status::Success),
-        attributes: store::attributes(record),
-        non_volatile,
-        offset: payload,
-        length: slices::get32(record, 12),
-    }
-}
-
 // Read: the variable's attributes, and where its payload stands.
 #[no_mangle]
-pub extern "C" fn varpolicy_read(nv: &[u8], vol: &[u8], namespace: &[u8; 16], name: &[u8]) -> Found
-    ensures { λ r.
-        ⌜ r ≡ foundOf (now (nv .entry)) (now (vol .entry))
-        (readingOf (now (nv .entry)) (now (vol .entry)) (record { namespace = now (namespace .entry); name = now (name .entry) })) ⌝ }
-    ensures { λ r.
+pub extern "C" fn varpolicy_read(nv: &[u8], vol: &[u8], namespace: &[u8; 16], name: &[u8]) -> Read
+    ensures is { λ r. ⌜ r ≡ readOf (readingOf (now (nv .entry)) (now (vol .entry)) (variable (now (namespace .entry)) (now (name .entry)))) ⌝ }
+    ensures answers { λ r.
         ⌜ ((policy : Bytes) (w : Switches)
-        → FoundStep (stateOf (now (nv .entry)) (now (vol .entry)) policy w) (record { namespace = now (namespace .entry); name = now (name .entry) }) r) ⌝ }
+        → NumberedRead (stateOf (now (nv .entry)) (now (vol .entry)) policy w) (variable (now (namespace .entry)) (now (name .entry))) r) ⌝ }
 {
-    let reading = engine::look_up(nv, vol, namespace, name);
-    match reading {
-        Reading::Refused(status) => found_nothing(status),
-        Reading::Stands(place) => match place {
-            Place::NonVolatile { at, len } => found_at(nv, true, at, len),
-            Place::Volatile { at, len } => found_at(vol, false, at, len),
-            Place::Nowhere => found_nothing(Status::NotFound),
-        },
+    let reading = engine::read(nv, vol, *namespace, name);
+    let status = reading.status;
+    Read {
+        status: number(status),
+        attributes: reading.attributes,
+        non_volatile: reading.nonvolatile,
+        offset: reading.from,
+        length: reading.to - reading.from,
     }
 }
 
@@ -210,22 +218,22 @@ pub extern "C" fn varpolicy_set(
     nv: &mut [u8],
     vol: &mut [u8],
     policy: &[u8],
-    switches: Switches,
+    switches: SwitchBytes,
     namespace: &[u8; 16],
     name: &[u8],
     attributes: u32,
     payload: &[u8],
 ) -> u32
     ensures { λ r.
-        ⌜ numbered (step (stateOf (now (nv .entry)) (now (vol .entry)) (now (policy .entry)) switches)
+        ⌜ numbered (step (stateOf (now (nv .entry)) (now (vol .entry)) (now (policy .entry)) (switchesOf switches))
         (set (requestOf (now (namespace .entry)) (now (name .entry)) attributes (now (payload .entry)))))
-        ≡ (statusAlone r, stateOf (now (nv .exit)) (now (vol .exit)) (now (policy .entry)) switches) ⌝ }
+        ≡ (statusAlone r, stateOf (now (nv .exit)) (now (vol .exit)) (now (policy .entry)) (switchesOf switches)) ⌝ }
 {
     number(engine::set(
         nv,
         vol,
         policy,
-        switches,
+        switches_of(switches),
         *namespace,
         name,
         attributes,

@@ -1,10 +1,8 @@
-//! Whole calls of the library, beside ordinary Rust with two hash tables.
+//! Whole calls, by the library and by ordinary Rust with two hash tables.
 
-use crate::inputs::{self, Lent, OURS, VOLATILE, variable};
-use crate::measure::{Answer, Case, Work};
+use crate::lent::{Answer, Lent, OURS};
 use crate::plain::calls as plain;
 use crate::plain::index::{Small, Standard};
-use crate::table::{Bar, Group};
 use varpolicy::{Attributes, Name, Switches, calls};
 
 const NV_BS: Attributes = Attributes(3);
@@ -66,6 +64,11 @@ impl Call {
             Call::Dump => dump(who, lent),
         }
     }
+
+    /// Whether an answer tells that what is lent is not sound or not valid.
+    pub fn is_refused(answer: &Answer) -> bool {
+        answer[0] == plain::VOLUME_CORRUPTED as usize
+    }
 }
 
 fn read(who: Who, name: &[u8], lent: &Lent) -> Answer {
@@ -116,61 +119,4 @@ fn dump(who: Who, lent: &mut Lent) -> Answer {
 fn plain_switches(switches: Switches) -> plain::Switches {
     let Switches { enabled, locked, disabling_allowed } = switches;
     plain::Switches { enabled, locked, disabling_allowed }
-}
-
-const VERSIONS: &[&str] = &["library", "standard", "small"];
-const RATIOS: &[&str] = &["to std.", "to small"];
-
-/// Sets of a variable under a policy of 64 entries.
-fn set_under(name: Name, enabled: bool) -> Call {
-    Call::Set { name, payloads: [vec![1], vec![2]], enabled }
-}
-
-/// Whole calls.
-pub fn whole() -> Group {
-    let mut cases = Vec::new();
-    let mut case = |name: String, call: Call, lent: &Lent, most: f64| {
-        let case = Case::new(name, Work::Call(call), lent.clone());
-        cases.push(Case { bar: Some(Bar::AtMost(most)), ..case });
-    };
-    for count in [20, 100, 300, 819] {
-        let stores = inputs::with_records(count);
-        let mut case = |what: &str, call: Call| case(format!("{what}, {count} records each"), call, &stores, 1.25);
-        case("read the last", Call::Read { name: variable(VOLATILE + count - 1) });
-        case("read an absent one", Call::Read { name: variable(60000) });
-        let rewrite = |name, old: &[u8], new: &[u8]| {
-            let payloads = [old.to_vec(), new.to_vec()];
-            Call::Set { name, payloads, enabled: true }
-        };
-        case("set, same length", rewrite(variable(count - 1), &[1], &[2]));
-        if count < 819 {
-            case("set, first record longer, shorter", rewrite(variable(0), &[1], &[2; 20]));
-        }
-    }
-    for (what, entries, name) in inputs::policies() {
-        let lent = inputs::with_short_stores(&entries);
-        case(format!("set, 64 entries, {what}"), set_under(name, true), &lent, 1.1);
-    }
-    for units in [8, 41] {
-        let mut entries = inputs::numbered(units);
-        let last = entries.pop().expect("64 entries").pack().to_vec();
-        let lent = inputs::with_entries(&entries);
-        case(format!("register the 64th, names of {units} units"), Call::Register { entry: last }, &lent, 1.25);
-    }
-    let lent = inputs::with_entries(&inputs::numbered(41));
-    case(format!("dump, 64 entries, {} bytes", lent.policy_end), Call::Dump, &lent, 1.1);
-    Group { title: "whole calls", columns: VERSIONS, ratios: RATIOS, cases, growth: None }
-}
-
-/// The choice and what the chosen entry says: a set, less the same set with the engine disabled.
-pub fn choice_in_set() -> Group {
-    let cases = inputs::policies().into_iter().map(|(what, entries, name)| Case {
-        name: format!("choice in a set, 64 entries, {what}"),
-        work: Work::Call(set_under(name, true)),
-        without: Some(Work::Call(set_under(name, false))),
-        lent: inputs::with_short_stores(&entries),
-        bar: Some(Bar::AtMost(1.1)),
-    });
-    let title = "the choice, with what the chosen entry says";
-    Group { title, columns: VERSIONS, ratios: RATIOS, cases: cases.collect(), growth: None }
 }

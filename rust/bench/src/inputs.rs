@@ -1,27 +1,8 @@
 //! The bytes that are lent: stores, policy records, names.
 
-use crate::libparts;
-use varpolicy::{Entry, Lock, MAX_STORE_BYTES, Name, Namespace, POLICY_BYTES};
-
-/// The namespace of all variables here, and of most entries.
-pub const OURS: Namespace = [7; 16];
-
-/// What is lent, and how many calls were made.
-#[derive(Clone, PartialEq)]
-pub struct Lent {
-    /// The non-volatile store.
-    pub nv: Vec<u8>,
-    /// The volatile store.
-    pub volatile: Vec<u8>,
-    /// The policy record.
-    pub policy: Vec<u8>,
-    /// Where its entries end.
-    pub policy_end: usize,
-    /// What a dump, a copy or a move is written to.
-    pub buffer: Vec<u8>,
-    /// How many calls were made.
-    pub calls: usize,
-}
+use crate::archive;
+use crate::lent::{Lent, OURS};
+use varpolicy::{Entry, Lock, MAX_STORE_BYTES, Name, POLICY_BYTES};
 
 /// No variables and no entries.
 pub fn empty() -> Lent {
@@ -96,10 +77,10 @@ fn two_units(number: u32) -> Name {
 /// The numbers of `count` names of two units whose records have one slot in the filter of the library's check.
 pub fn of_one_slot(count: usize) -> Vec<u32> {
     let mut bytes = record(&two_units(0), 3);
-    let slot = libparts::slot(&bytes);
+    let slot = archive::slot(&bytes);
     let has_slot = |number: &u32| {
         bytes[32..36].copy_from_slice(&two_units(*number));
-        libparts::slot(&bytes) == slot
+        archive::slot(&bytes) == slot
     };
     (0..).filter(has_slot).take(count).collect()
 }

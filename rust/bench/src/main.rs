@@ -9,25 +9,41 @@
 //! * bars: the same, and the program fails if the library breaks a bar.
 //!
 //! The ratio is library to ordinary Rust. Buffers are made before and are not cleared in between.
+//!
+//! Each file uses only those above it:
+//!
+//! | File | What it holds |
+//! |---|---|
+//! | `lent` | what every version is lent, and what it answers |
+//! | `archive`, `plain` | the parts in the proved archive; the calls and their parts in ordinary Rust |
+//! | `inputs` | the bytes that are lent |
+//! | `calls`, `parts` | a whole call, and a part, by the version of a column |
+//! | `case` | what is measured, and the bars |
+//! | `groups` | which cases |
+//! | `measure`, `report` | how they are measured; the tables |
 
+mod archive;
 mod calls;
+mod case;
+mod groups;
 mod inputs;
-mod libparts;
+mod lent;
 mod measure;
 mod parts;
 #[allow(missing_docs)]
 mod plain;
-mod table;
+mod report;
 
+use case::Group;
+use report::Verdict;
 use std::process::ExitCode;
-use table::{Group, Verdict};
 
 const ABOUT: &str = "\
-library: libvarpolicy.a. part: the same function in libparts.a, compiled by itself. The others are ordinary Rust over
-the same bytes. standard, small: with the standard library's hash table, or a small one on the stack. pairwise: every key
-compared with all before it. whole, by unit: a walk over the records that compares a name at once, or its first unit
-first. Every call checks all it is lent: two stores of 32,768 bytes with records of 40 bytes or, where there are 64
-entries, one of 256 bytes. Names of one slot share a slot of the filter in the library's check.
+library: libvarpolicy.a. part: the same function in libbench_parts.a, compiled by itself. The others are ordinary Rust
+over the same bytes. standard, small: with the standard library's hash table, or a small one on the stack. pairwise:
+every key compared with all before it. whole, by unit: a walk over the records that compares a name at once, or its
+first unit first. Every call checks all it is lent: two stores of 32,768 bytes with records of 40 bytes or, where there
+are 64 entries, one of 256 bytes. Names of one slot share a slot of the filter in the library's check.
 A choice or a search trusts the check before it, so it is the difference of two calls of one function, with and without
 it: a set with the engine enabled and disabled, or a name and an empty one. Both run the same machine code, whatever the
 compiler inlined; the count of a function by its name would depend on that. The checks are calls that stop behind them.
@@ -37,14 +53,14 @@ pairwise. (memset and memmove are then told to use vector instructions: of `rep 
 
 /// The groups of cases. Each is made by itself, so that a run under valgrind makes only its own.
 const GROUPS: [fn(&[u32]) -> Group; 8] = [
-    |_| calls::whole(),
-    |_| calls::choice_in_set(),
-    |_| parts::choice(),
-    |_| parts::comparison(),
-    |_| parts::policy_check(),
-    parts::pair_check,
-    |_| parts::search(),
-    |_| parts::moves(),
+    |_| groups::whole(),
+    |_| groups::choice_in_set(),
+    |_| groups::choice(),
+    |_| groups::comparison(),
+    |_| groups::policy_check(),
+    groups::pair_check,
+    |_| groups::search(),
+    |_| groups::moves(),
 ];
 
 fn main() -> ExitCode {
@@ -79,7 +95,7 @@ fn bench(time: bool, instructions: bool, must_hold: bool) -> ExitCode {
     if time {
         println!("NANOSECONDS of a call, the least in 60 rounds run in turn\n");
         for group in &groups {
-            table::print(group, None, |case, _| Some(case.time(group.columns.len())));
+            report::print(group, None, |case, _| Some(case.time(group.columns.len())));
         }
     }
     if !instructions {
@@ -89,7 +105,7 @@ fn bench(time: bool, instructions: bool, must_hold: bool) -> ExitCode {
     let mut verdict = Verdict::default();
     let one_slot = one_slot.iter().map(u32::to_string).collect::<Vec<_>>().join(",");
     for (place, group) in groups.iter().enumerate() {
-        let counted = table::print(group, Some(&mut verdict), |case, place_of_case| {
+        let counted = report::print(group, Some(&mut verdict), |case, place_of_case| {
             case.instructions(group.columns.len(), &[place.to_string(), place_of_case.to_string(), one_slot.clone()])
         });
         if !counted {

@@ -1,61 +1,12 @@
 //! How a case is measured: by time, all versions in turn, or by the instructions that valgrind counts.
 
-use crate::calls::Call;
-use crate::inputs::Lent;
-use crate::parts::Part;
-use crate::plain::calls::VOLUME_CORRUPTED;
-use crate::table::Bar;
+use crate::case::{Case, Work};
+use crate::lent::{Answer, Lent};
 use std::hint::black_box;
 use std::process::Command;
 use std::time::{Duration, Instant};
 
-/// An answer as numbers, so that all versions can be compared.
-pub type Answer = [usize; 4];
-
-/// What is measured: a whole call, or a part of one.
-pub enum Work {
-    /// A whole call.
-    Call(Call),
-    /// A part.
-    Part(Part),
-}
-
-impl Work {
-    /// Whether an answer tells that what is lent is not sound or not valid.
-    fn is_refused(&self, answer: &Answer) -> bool {
-        match self {
-            Work::Call(_) => answer[0] == VOLUME_CORRUPTED as usize,
-            Work::Part(Part::CheckPolicy | Part::CheckStores) => answer[0] == 0,
-            Work::Part(_) => false,
-        }
-    }
-}
-
-/// A case: its name, what is measured and what is lent.
-pub struct Case {
-    /// The name in the table.
-    pub name: String,
-    /// What is measured.
-    pub work: Work,
-    /// What is subtracted: the same without the part that is measured.
-    pub without: Option<Work>,
-    /// What is lent.
-    pub lent: Lent,
-    /// What the library is held to.
-    pub bar: Option<Bar>,
-}
-
 impl Case {
-    /// A case whose work is measured whole.
-    pub fn new(name: String, work: Work, lent: Lent) -> Case {
-        Case { name, work, without: None, lent, bar: None }
-    }
-
-    /// The work and, if there is one, what is subtracted.
-    fn works(&self) -> impl Iterator<Item = &Work> {
-        std::iter::once(&self.work).chain(&self.without)
-    }
-
     /// Whether the versions of all columns give the same answers and leave the same bytes, over four calls, and none
     /// refuses what it is lent.
     pub fn check(&self, columns: usize) -> Result<(), &'static str> {

@@ -2,14 +2,14 @@
 
 use crate::state::{Guarded, State};
 use reference::{RegisterGround, SetGround};
-use varpolicy::{Attributes, Namespace, Status, Switches, calls};
+use varpolicy::{Attributes, Namespace, Status, SwitchBytes, calls};
 
 /// A call with its own arguments. The state is lent beside it.
 #[derive(Clone, Debug)]
 #[allow(missing_docs)]
 pub enum Call {
-    PowerOn { disabling_allowed: bool },
-    Restart { disabling_allowed: bool },
+    PowerOn { disabling_allowed: u8 },
+    Restart { disabling_allowed: u8 },
     Register { entry: Vec<u8> },
     Dump { buffer: Vec<u8> },
     Lock,
@@ -50,7 +50,7 @@ pub struct Answer {
 #[allow(missing_docs)]
 pub enum Values {
     None,
-    Started(Switches),
+    Started(SwitchBytes),
     Dumped { length: usize, buffer: Vec<u8> },
     State { enabled: bool },
     Found { attributes: u32, non_volatile: bool, offset: usize, payload: Vec<u8> },
@@ -118,15 +118,17 @@ pub fn by_reference(state: &mut State, call: &Call) -> (Answer, Ground) {
     let mut ground = Ground::Status;
     let answer = match call {
         Call::PowerOn { disabling_allowed } => {
-            let (status, handed) = reference::power_on(nv, volatile, policy, *disabling_allowed);
-            start(switches, translate(status), from_reference(handed))
+            let leave = reference::gives_leave(*disabling_allowed);
+            let (status, handed) = reference::power_on(nv, volatile, policy, leave);
+            start(switches, translate(status), from_reference(reference::SwitchBytes::of(handed)))
         }
         Call::Restart { disabling_allowed } => {
-            let (status, handed) = reference::restart(nv, volatile, policy, *disabling_allowed);
-            start(switches, translate(status), from_reference(handed))
+            let leave = reference::gives_leave(*disabling_allowed);
+            let (status, handed) = reference::restart(nv, volatile, policy, leave);
+            start(switches, translate(status), from_reference(reference::SwitchBytes::of(handed)))
         }
         Call::Register { entry } => {
-            let decided = reference::register(policy, to_reference(*switches), entry);
+            let decided = reference::register(policy, to_reference(*switches).read(), entry);
             ground = Ground::Register(decided);
             plain(translate(decided.status()))
         }
@@ -137,7 +139,7 @@ pub fn by_reference(state: &mut State, call: &Call) -> (Answer, Ground) {
         }
         Call::Lock => plain(with_switches(switches, reference::lock)),
         Call::Disable => {
-            let locked = switches.locked;
+            let locked = to_reference(*switches).read().locked;
             let status = with_switches(switches, reference::disable);
             if status == Status::WriteProtected {
                 ground = if locked { Ground::DisableLocked } else { Ground::DisableNotAllowed };
@@ -145,14 +147,14 @@ pub fn by_reference(state: &mut State, call: &Call) -> (Answer, Ground) {
             plain(status)
         }
         Call::Query => {
-            let (status, enabled) = reference::query(to_reference(*switches));
+            let (status, enabled) = reference::query(to_reference(*switches).read());
             ground = if enabled { Ground::QueryEnabled } else { Ground::QueryDisabled };
             Answer { status: translate(status), values: Values::State { enabled } }
         }
         Call::Read { namespace, name } => read_by_reference(nv, volatile, namespace, name),
         Call::Set { namespace, name, attributes, payload } => {
             let request = reference::Request { namespace, name, attributes: *attributes, payload };
-            let decided = reference::set(nv, volatile, policy, to_reference(*switches), request);
+            let decided = reference::set(nv, volatile, policy, to_reference(*switches).read(), request);
             ground = Ground::Set(decided);
             plain(translate(decided.status()))
         }
@@ -181,7 +183,7 @@ fn plain(status: Status) -> Answer {
 }
 
 /// After a start that succeeded the history goes on with the switches handed back, else with its own.
-fn start(switches: &mut Switches, status: Status, handed: Switches) -> Answer {
+fn start(switches: &mut SwitchBytes, status: Status, handed: SwitchBytes) -> Answer {
     if status == Status::Success {
         *switches = handed;
     }
@@ -192,19 +194,21 @@ fn translate(status: reference::Status) -> Status {
     Status::from_number(status as u32).expect("both have UEFI's numbers")
 }
 
-fn to_reference(switches: Switches) -> reference::Switches {
-    let Switches { enabled, locked, disabling_allowed } = switches;
-    reference::Switches { enabled, locked, disabling_allowed }
+/// The bytes as the reference takes them.
+pub fn to_reference(switches: SwitchBytes) -> reference::SwitchBytes {
+    let SwitchBytes { enabled, locked, disabling_allowed } = switches;
+    reference::SwitchBytes { enabled, locked, disabling_allowed }
 }
 
-fn from_reference(switches: reference::Switches) -> Switches {
-    let reference::Switches { enabled, locked, disabling_allowed } = switches;
-    Switches { enabled, locked, disabling_allowed }
+fn from_reference(switches: reference::SwitchBytes) -> SwitchBytes {
+    let reference::SwitchBytes { enabled, locked, disabling_allowed } = switches;
+    SwitchBytes { enabled, locked, disabling_allowed }
 }
 
-fn with_switches(switches: &mut Switches, call: fn(&mut reference::Switches) -> reference::Status) -> Status {
-    let mut lent = to_reference(*switches);
-    let status = call(&mut lent);
-    *switches = from_reference(lent);
+fn with_switches(switches: &mut SwitchBytes, call: fn(&mut reference::Switches) -> reference::Status) -> Status {
+    let lent = to_reference(*switches);
+    let mut read = lent.read();
+    let status = call(&mut read);
+    *switches = from_reference(lent.moved_to(read));
     translate(status)
 }

@@ -50,7 +50,7 @@ impl Comparison {
             check(sides.library == before, describe("a refused call has changed something"))?;
         }
         if answer.status == Status::VolumeCorrupted {
-            inputs::count_unsound(&mut self.coverage, before.switches, call);
+            inputs::count_unsound(&mut self.coverage, before.read_switches(), call);
         }
         check(self.coverage.answer(call.name(), answer.status, ground), describe("no such answer is possible"))?;
         Ok(answer)

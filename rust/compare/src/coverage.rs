@@ -68,6 +68,7 @@ const ANSWERS: [(&str, Status, Ground, &str); 50] = [
 #[allow(missing_docs)]
 pub enum Input {
     Switches,
+    SwitchBytes,
     Start,
     Registration,
     EntryName,
@@ -106,6 +107,7 @@ fn groups() -> Vec<Group> {
     use Input::*;
     vec![
         Group::new(Switches, "switches (enabled, locked, disabling allowed)", labels::switch_labels()),
+        Group::new(SwitchBytes, "byte of a switch that is neither 0 nor 1", labels::switch_byte_labels()),
         Group::new(Start, "start", labels::START),
         Group::new(Registration, "registration", labels::REGISTRATION),
         Group::new(EntryName, "name of an entry to register", labels::PACKED_NAME),

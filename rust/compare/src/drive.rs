@@ -3,7 +3,7 @@
 //! A history that began with a power-on is also run by the library a second time without its
 //! rebuilds: every answer and every byte of the stores and switches must be the same, and the policy
 //! record and granted dumps may differ only in the order of the entries, and only after a rebuild in
-//! another order (document 01, "Histories and rebuilds").
+//! another order (docs/RULES.md, 12.5).
 
 use crate::call::{Answer, Call, Ground, Values, by_library};
 use crate::comparison::{Comparison, Sides, check};
@@ -13,7 +13,7 @@ use crate::random::Random;
 use crate::state::State;
 use crate::{damage, make};
 use reference::{Entry, Policy};
-use varpolicy::{MAX_STORE_BYTES, POLICY_BYTES, Status, Switches};
+use varpolicy::{MAX_STORE_BYTES, POLICY_BYTES, Status, SwitchBytes};
 
 /// Adds at least `calls` calls to a comparison, or tells the first difference in words.
 pub fn run(comparison: &mut Comparison, calls: u64, seed: u64) -> Result<(), String> {
@@ -56,7 +56,7 @@ impl Run<'_> {
         let old_policy = vec![self.random.byte(); POLICY_BYTES];
         let old_volatile = if self.random.one_in(2) { volatile } else { self.random.bytes(volatile.len()) };
         let mut sides = Sides::new(State::new(&nv, &old_volatile, &old_policy));
-        let power_on = Call::PowerOn { disabling_allowed: !self.random.one_in(4) };
+        let power_on = Call::PowerOn { disabling_allowed: (!self.random.one_in(4)).into() };
         let answer = self.comparison.exchange(&mut sides, &power_on)?;
         check(answer.status == Status::Success, "power-on over a sound store was refused")?;
         let straight = sides.library.clone();
@@ -95,8 +95,7 @@ impl Run<'_> {
             }
         }
         let mut state = State::new(&nv, &volatile, &packed(&[policy.encode()]));
-        let bits = self.random.bits();
-        state.switches = Switches { enabled: bits & 3 != 0, locked: bits & 12 == 0, disabling_allowed: bits & 16 != 0 };
+        state.switches = self.switches();
         for _ in 0..1 + self.random.below(10) {
             if self.random.one_in(3) {
                 self.damaged_call(&state)?;
@@ -109,6 +108,18 @@ impl Run<'_> {
             }
         }
         Ok(())
+    }
+
+    /// Any switches, more often enabled and unlocked than not; one in eight has any byte in one place.
+    fn switches(&mut self) -> SwitchBytes {
+        let bits = self.random.bits();
+        let [enabled, locked, disabling_allowed] = [bits & 3 != 0, bits & 12 == 0, bits & 16 != 0].map(u8::from);
+        let mut switches = SwitchBytes { enabled, locked, disabling_allowed };
+        if self.random.one_in(8) {
+            let places = [&mut switches.enabled, &mut switches.locked, &mut switches.disabling_allowed];
+            *places[self.random.below(3)] = self.random.byte();
+        }
+        switches
     }
 
     /// Two sound stores to begin with.
@@ -140,8 +151,8 @@ impl Run<'_> {
             92..=93 => Call::Lock,
             94..=95 => Call::Disable,
             96..=97 => Call::Query,
-            98 => Call::PowerOn { disabling_allowed: random.one_in(2) },
-            _ => Call::Restart { disabling_allowed: random.one_in(2) },
+            98 => Call::PowerOn { disabling_allowed: random.one_in(2).into() },
+            _ => Call::Restart { disabling_allowed: random.one_in(2).into() },
         }
     }
 
@@ -161,8 +172,8 @@ impl Run<'_> {
         let mut damaged = State::new(&nv, &volatile, &policy);
         damaged.switches = state.switches;
         let call = match self.random.below(4) {
-            0 => Call::PowerOn { disabling_allowed: true },
-            1 => Call::Restart { disabling_allowed: true },
+            0 => Call::PowerOn { disabling_allowed: 1 },
+            1 => Call::Restart { disabling_allowed: 1 },
             _ => self.call(damage::entry_sizes(&policy).iter().sum()),
         };
         self.comparison.exchange(&mut Sides::new(damaged), &call).map(|_| ())
@@ -219,8 +230,8 @@ impl Run<'_> {
         if reorder {
             self.random.shuffle(&mut entries);
         }
-        let Switches { enabled, locked, disabling_allowed } = before.switches;
-        self.rebuild_call(history, &Call::Restart { disabling_allowed })?;
+        let reference::Switches { enabled, locked, .. } = before.read_switches();
+        self.rebuild_call(history, &Call::Restart { disabling_allowed: before.switches.disabling_allowed })?;
         for entry in &entries {
             self.rebuild_call(history, &Call::Register { entry: entry.clone() })?;
         }

@@ -5,7 +5,7 @@ use crate::random::Random;
 use std::collections::BTreeSet;
 use varpolicy::{MAX_STORE_BYTES, Namespace, POLICY_BYTES};
 
-/// The namespace that document 01 calls G.
+/// The namespace of the bench readings (docs/RULES.md, 13).
 pub const G: Namespace =
     [0x5C, 0x67, 0xD1, 0x81, 0xF6, 0x86, 0xDF, 0x48, 0xBD, 0x95, 0x9A, 0x6E, 0x4F, 0x09, 0x25, 0xC3];
 
@@ -190,7 +190,7 @@ pub fn crowded_stores(random: &mut Random, count: usize) -> (Vec<u8>, Vec<u8>, P
     (nv, volatile, Pool { names, namespaces })
 }
 
-/// The length of a store: the ones that document 01's readings turn on, and others.
+/// The length of a store: the ones that the bench readings turn on, and others.
 pub fn store_len(random: &mut Random) -> usize {
     match random.below(16) {
         0 => 0,

@@ -1,7 +1,8 @@
 //! What a history lends from call to call.
 
+use crate::call::to_reference;
 use std::ops::{Deref, DerefMut};
-use varpolicy::Switches;
+use varpolicy::SwitchBytes;
 
 /// Bytes that stand between two guards, so that a write outside of them is seen.
 #[derive(Clone, Debug)]
@@ -50,7 +51,7 @@ impl PartialEq for Guarded {
     }
 }
 
-/// The state of document 01: both stores, the policy record and the switches.
+/// The state of an engine (docs/RULES.md, 1.2).
 #[derive(Clone, PartialEq, Debug)]
 pub struct State {
     /// The non-volatile store.
@@ -60,7 +61,7 @@ pub struct State {
     /// The policy record.
     pub policy: Guarded,
     /// The switches.
-    pub switches: Switches,
+    pub switches: SwitchBytes,
 }
 
 impl State {
@@ -70,8 +71,13 @@ impl State {
             nv: Guarded::new(nv, 0),
             volatile: Guarded::new(volatile, 1),
             policy: Guarded::new(policy, 3),
-            switches: Switches { enabled: true, locked: true, disabling_allowed: false },
+            switches: SwitchBytes { enabled: 1, locked: 1, disabling_allowed: 0 },
         }
+    }
+
+    /// The switches, as the reference reads their bytes.
+    pub fn read_switches(&self) -> reference::Switches {
+        to_reference(self.switches).read()
     }
 
     /// Whether all guards are as they were.

@@ -65,7 +65,7 @@ impl<'a> Met<'a> {
             pair,
             attributes,
             length,
-            chosen: policy.choose(namespace, &units).filter(|_| state.switches.enabled),
+            chosen: policy.choose(namespace, &units).filter(|_| state.read_switches().enabled),
             found: pair.find(namespace, &units),
             name: units,
             bad_name,

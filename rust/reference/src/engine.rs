@@ -1,21 +1,11 @@
-//! The calls of document 01. What a call is lent stays as it was unless the call answers SUCCESS.
+//! The calls (docs/RULES.md, 10). What a call is lent stays as it was unless the call answers SUCCESS.
 
 use crate::entry::{Entry, LockRule};
 use crate::name;
 use crate::policy::Policy;
 use crate::store::{self, Kind, Pair, Variable};
+use crate::switches::Switches;
 use crate::{APPEND, BS, MAX_ENTRIES, MAX_PAYLOAD, MAX_STORE, NV, Namespace, POLICY_BYTES, RT, Status};
-
-/// The switches of an engine.
-#[derive(Clone, Copy, PartialEq, Eq, Debug)]
-pub struct Switches {
-    /// Whether entries are enforced.
-    pub enabled: bool,
-    /// Whether registration is closed.
-    pub locked: bool,
-    /// Whether the engine may be disabled.
-    pub disabling_allowed: bool,
-}
 
 /// What a refused power-on or restart hands back.
 const REFUSED: (Status, Switches) =
@@ -52,7 +42,7 @@ fn started(policy: &mut [u8], disabling_allowed: bool) -> (Status, Switches) {
 /// What decided a registration, in the order tested.
 #[derive(Clone, Copy, PartialEq, Eq, PartialOrd, Ord, Debug)]
 pub enum RegisterGround {
-    /// The policy record is not what document 01 says.
+    /// The policy record is not valid (docs/RULES.md, 7).
     BadRecord,
     /// The engine is locked.
     Locked,
@@ -200,12 +190,12 @@ impl Request<'_> {
     }
 }
 
-/// What decided a set: the ground, named after the step of document 01 that it belongs to.
+/// What decided a set: the ground, named after the step (docs/RULES.md, 10.9) that it belongs to.
 #[derive(Clone, Copy, PartialEq, Eq, PartialOrd, Ord, Debug)]
 pub enum SetGround {
     /// Before all steps: a store is unsound.
     BadStores,
-    /// Before all steps: the policy record is not what document 01 says.
+    /// Before all steps: the policy record is not valid (docs/RULES.md, 7).
     BadRecord,
     /// Step 1, the name.
     BadName,

@@ -1,9 +1,9 @@
-//! An independent implementation of the variable policy engine, written from document 01 and the
-//! white paper alone, for comparison with the proved library.
+//! An independent implementation of the variable policy engine, written from its rules and the white
+//! paper alone, for comparison with the proved library.
 //!
 //! It shares no code and no structure with the library. Every call decodes what it is lent into
 //! structs ([`Variable`], [`Entry`]), acts on those, and encodes them again; the library works on
-//! the packed bytes in place. It is written to be read beside document 01, not to be fast.
+//! the packed bytes in place. It is written to be read beside docs/RULES.md, not to be fast.
 #![forbid(unsafe_code)]
 
 mod cursor;
@@ -12,14 +12,15 @@ mod entry;
 mod name;
 mod policy;
 mod store;
+mod switches;
 
 pub use engine::{
-    Found, RegisterGround, Request, SetGround, Switches, disable, dump, lock, power_on, query, read, register, restart,
-    set,
+    Found, RegisterGround, Request, SetGround, disable, dump, lock, power_on, query, read, register, restart, set,
 };
 pub use entry::{Entry, LockRule, Trigger};
 pub use policy::Policy;
 pub use store::{Kind, Pair, Variable};
+pub use switches::{SwitchBytes, Switches, gives_leave};
 
 /// The 16 bytes of a namespace, as they stand in an entry and in a record.
 pub type Namespace = [u8; 16];

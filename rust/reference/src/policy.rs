@@ -44,8 +44,8 @@ impl Policy {
         self.entries.iter().any(|known| known.repeats(entry))
     }
 
-    /// The entry that speaks for a variable: of those that target it the one of lowest rank, among
-    /// equals the one registered first.
+    /// The entry that speaks for a variable (docs/RULES.md, 4.3): of those that target it one of lowest
+    /// rank, and of these the first.
     pub fn choose(&self, namespace: &Namespace, name: &[u16]) -> Option<&Entry> {
         let targeting = self.entries.iter().filter(|entry| entry.targets(namespace, name));
         targeting.min_by_key(|entry| entry.rank())

@@ -4,18 +4,18 @@ use crate::command::{Command, Expected, Order, Part};
 use crate::{describe, ties};
 use std::collections::BTreeMap;
 use varpolicy::calls::{self, Request, Started};
-use varpolicy::{Namespace, POLICY_BYTES, Status, Switches};
+use varpolicy::{Namespace, POLICY_BYTES, Status, SwitchBytes, Switches};
 
 /// Both stores, the policy record and the switches.
 pub struct Simulation {
     nv: Vec<u8>,
     volatile: Vec<u8>,
     policy: Vec<u8>,
-    switches: Switches,
+    switches: SwitchBytes,
 }
 
 /// The switches before the first power-on, which are those of a refused one.
-const NOT_STARTED: Switches = Switches { enabled: true, locked: true, disabling_allowed: false };
+const NOT_STARTED: SwitchBytes = SwitchBytes { enabled: 1, locked: 1, disabling_allowed: 0 };
 
 impl Default for Simulation {
     fn default() -> Simulation {
@@ -78,6 +78,7 @@ impl Simulation {
         if status == Status::Success {
             self.switches = switches;
         }
+        let switches = Switches::from(switches);
         let enabled = if switches.enabled { "enabled" } else { "disabled" };
         let locked = if switches.locked { "locked" } else { "unlocked" };
         let allowed = if switches.disabling_allowed { "allowed" } else { "not allowed" };
@@ -119,7 +120,7 @@ impl Simulation {
             Order::Reversed => (0..entries.len()).rev().collect(),
             Order::Places(places) => each_once(places, entries.len())?,
         };
-        let old = self.switches;
+        let old = Switches::from(self.switches);
         let started = calls::restart(&self.nv, &self.volatile, &mut self.policy, old.disabling_allowed);
         if started.status != Status::Success {
             return Ok(format!("restart {}", started.status));
@@ -133,7 +134,7 @@ impl Simulation {
         }
         let mut made = format!("SUCCESS restart, {} registered", entries.len());
         for (wanted, name, call) in [
-            (!old.enabled, "disable", calls::disable as fn(&mut Switches) -> Status),
+            (!old.enabled, "disable", calls::disable as fn(&mut SwitchBytes) -> Status),
             (old.locked, "lock", calls::lock),
         ] {
             if wanted {

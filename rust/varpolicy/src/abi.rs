@@ -1,13 +1,13 @@
 //! The C functions of libvarpolicy.a and the records that they pass, declared here and nowhere else
-//! in Rust. Nothing checks these declarations against the archive but the tests and the comparison;
-//! include/varpolicy.h has the same ones for C.
+//! in Rust but for a test that needs raw pointers. Nothing checks these declarations against the archive
+//! but the tests and the comparison; include/varpolicy.h has the same ones for C.
 
-use crate::Switches;
+use crate::SwitchBytes;
 
 #[repr(C)]
 pub(crate) struct Started {
     pub(crate) status: u32,
-    pub(crate) switches: Switches,
+    pub(crate) switches: SwitchBytes,
 }
 
 #[repr(C)]
@@ -39,7 +39,7 @@ unsafe extern "C" {
         volatile_len: usize,
         policy: *mut u8,
         policy_len: usize,
-        disabling_allowed: bool,
+        disabling_allowed: u8,
     ) -> Started;
 
     pub(crate) fn varpolicy_restart(
@@ -49,24 +49,24 @@ unsafe extern "C" {
         volatile_len: usize,
         policy: *mut u8,
         policy_len: usize,
-        disabling_allowed: bool,
+        disabling_allowed: u8,
     ) -> Started;
 
     pub(crate) fn varpolicy_register(
         policy: *mut u8,
         policy_len: usize,
-        switches: Switches,
+        switches: SwitchBytes,
         entry: *const u8,
         entry_len: usize,
     ) -> u32;
 
     pub(crate) fn varpolicy_dump(policy: *const u8, policy_len: usize, buffer: *mut u8, buffer_len: usize) -> Dumped;
 
-    pub(crate) fn varpolicy_lock(switches: *mut Switches) -> u32;
+    pub(crate) fn varpolicy_lock(switches: *mut SwitchBytes) -> u32;
 
-    pub(crate) fn varpolicy_disable(switches: *mut Switches) -> u32;
+    pub(crate) fn varpolicy_disable(switches: *mut SwitchBytes) -> u32;
 
-    pub(crate) fn varpolicy_query(switches: Switches) -> State;
+    pub(crate) fn varpolicy_query(switches: SwitchBytes) -> State;
 
     pub(crate) fn varpolicy_read(
         nv: *const u8,
@@ -85,7 +85,7 @@ unsafe extern "C" {
         volatile_len: usize,
         policy: *const u8,
         policy_len: usize,
-        switches: Switches,
+        switches: SwitchBytes,
         namespace: *const [u8; 16],
         name: *const u8,
         name_len: usize,
@@ -97,7 +97,7 @@ unsafe extern "C" {
 
 // The layout that the C declarations have.
 const _: () = {
-    assert!(size_of::<Switches>() == 3);
+    assert!(size_of::<SwitchBytes>() == 3);
     assert!(size_of::<Started>() == 8);
     assert!(size_of::<Dumped>() == 16);
     assert!(size_of::<State>() == 8);

@@ -1,17 +1,20 @@
 //! The calls of the library, one safe function each, on lent slices. Every answer is a value: a
 //! refusal is a [`Status`] other than [`Status::Success`], and leaves everything as it was.
+//!
+//! The switches are lent as [`SwitchBytes`], and [`Switches`](crate::Switches) serve where they are only
+//! read. Whether disabling is allowed is a byte too, or a bool: 1 and true allow it.
 
 use crate::abi;
-use crate::{Attributes, Namespace, Status, Switches};
+use crate::{Attributes, Namespace, Status, SwitchBytes};
 
 /// What power-on and restart answer.
 #[derive(Clone, Copy, PartialEq, Eq, Debug)]
 pub struct Started {
     /// SUCCESS or VOLUME_CORRUPTED.
     pub status: Status,
-    /// The switches of the engine. After a refusal: enabled, locked, no leave to disable; an engine
-    /// already running keeps its own.
-    pub switches: Switches,
+    /// The switches of the engine, each byte 0 or 1. After a refusal the strictest, enabled, locked and
+    /// disabling not allowed; a running engine goes on with those it had.
+    pub switches: SwitchBytes,
 }
 
 /// What a dump answers.
@@ -43,7 +46,7 @@ pub struct Found<'a> {
 ///
 /// * VOLUME_CORRUPTED: `nv` is unsound, `volatile` has more than 32,768 bytes, or `policy` does not
 ///   have 8,192.
-pub fn power_on(nv: &[u8], volatile: &mut [u8], policy: &mut [u8], disabling_allowed: bool) -> Started {
+pub fn power_on(nv: &[u8], volatile: &mut [u8], policy: &mut [u8], disabling_allowed: impl Into<u8>) -> Started {
     // SAFETY: each pointer and length is of one live slice, the mutable ones apart from all others.
     let answer = unsafe {
         abi::varpolicy_power_on(
@@ -53,7 +56,7 @@ pub fn power_on(nv: &[u8], volatile: &mut [u8], policy: &mut [u8], disabling_all
             volatile.len(),
             policy.as_mut_ptr(),
             policy.len(),
-            disabling_allowed,
+            disabling_allowed.into(),
         )
     };
     Started { status: Status::answered(answer.status), switches: answer.switches }
@@ -62,7 +65,7 @@ pub fn power_on(nv: &[u8], volatile: &mut [u8], policy: &mut [u8], disabling_all
 /// Restart: as power-on, but both stores must be sound and stay as they are.
 ///
 /// * VOLUME_CORRUPTED: the stores are unsound, or `policy` does not have 8,192 bytes.
-pub fn restart(nv: &[u8], volatile: &[u8], policy: &mut [u8], disabling_allowed: bool) -> Started {
+pub fn restart(nv: &[u8], volatile: &[u8], policy: &mut [u8], disabling_allowed: impl Into<u8>) -> Started {
     // SAFETY: each pointer and length is of one live slice, the mutable one apart from all others.
     let answer = unsafe {
         abi::varpolicy_restart(
@@ -72,7 +75,7 @@ pub fn restart(nv: &[u8], volatile: &[u8], policy: &mut [u8], disabling_allowed:
             volatile.len(),
             policy.as_mut_ptr(),
             policy.len(),
-            disabling_allowed,
+            disabling_allowed.into(),
         )
     };
     Started { status: Status::answered(answer.status), switches: answer.switches }
@@ -85,10 +88,11 @@ pub fn restart(nv: &[u8], volatile: &[u8], policy: &mut [u8], disabling_allowed:
 /// * INVALID_PARAMETER: the entry is malformed.
 /// * ALREADY_STARTED: an entry of the same namespace and name is registered.
 /// * OUT_OF_RESOURCES: it would be the 65th entry, or the Sizes would sum to more than 8,192.
-pub fn register(policy: &mut [u8], switches: Switches, entry: &[u8]) -> Status {
+pub fn register(policy: &mut [u8], switches: impl Into<SwitchBytes>, entry: &[u8]) -> Status {
     // SAFETY: each pointer and length is of one live slice, the mutable one apart from the other.
-    let answer =
-        unsafe { abi::varpolicy_register(policy.as_mut_ptr(), policy.len(), switches, entry.as_ptr(), entry.len()) };
+    let answer = unsafe {
+        abi::varpolicy_register(policy.as_mut_ptr(), policy.len(), switches.into(), entry.as_ptr(), entry.len())
+    };
     Status::answered(answer)
 }
 
@@ -102,27 +106,27 @@ pub fn dump(policy: &[u8], buffer: &mut [u8]) -> Dumped {
     Dumped { status: Status::answered(answer.status), length: answer.length }
 }
 
-/// Closes registration until the next power-on or restart.
+/// Closes registration until the next power-on or restart: `locked` is then 1.
 ///
 /// * WRITE_PROTECTED: locked already.
-pub fn lock(switches: &mut Switches) -> Status {
+pub fn lock(switches: &mut SwitchBytes) -> Status {
     // SAFETY: the pointer is of one live record that nothing else refers to.
     Status::answered(unsafe { abi::varpolicy_lock(switches) })
 }
 
-/// Turns enforcement off until the next power-on or restart.
+/// Turns enforcement off until the next power-on or restart: `enabled` is then 0.
 ///
 /// * ALREADY_STARTED: disabled already.
 /// * WRITE_PROTECTED: locked, or disabling is not allowed.
-pub fn disable(switches: &mut Switches) -> Status {
+pub fn disable(switches: &mut SwitchBytes) -> Status {
     // SAFETY: the pointer is of one live record that nothing else refers to.
     Status::answered(unsafe { abi::varpolicy_disable(switches) })
 }
 
 /// Tells whether entries are enforced. The status is always SUCCESS.
-pub fn query(switches: Switches) -> (Status, bool) {
+pub fn query(switches: impl Into<SwitchBytes>) -> (Status, bool) {
     // SAFETY: only values are passed.
-    let answer = unsafe { abi::varpolicy_query(switches) };
+    let answer = unsafe { abi::varpolicy_query(switches.into()) };
     (Status::answered(answer.status), answer.enabled)
 }
 
@@ -182,7 +186,13 @@ pub struct Request<'a> {
 /// * INVALID_PARAMETER: the variable exists with other attributes.
 /// * OUT_OF_RESOURCES: an append would make the payload longer than 1,024 bytes, or the records
 ///   would be longer than their store.
-pub fn set(nv: &mut [u8], volatile: &mut [u8], policy: &[u8], switches: Switches, request: Request) -> Status {
+pub fn set(
+    nv: &mut [u8],
+    volatile: &mut [u8],
+    policy: &[u8],
+    switches: impl Into<SwitchBytes>,
+    request: Request,
+) -> Status {
     // SAFETY: each pointer and length is of one live slice, the mutable ones apart from all others.
     let answer = unsafe {
         abi::varpolicy_set(
@@ -192,7 +202,7 @@ pub fn set(nv: &mut [u8], volatile: &mut [u8], policy: &[u8], switches: Switches
             volatile.len(),
             policy.as_ptr(),
             policy.len(),
-            switches,
+            switches.into(),
             request.namespace,
             request.name.as_ptr(),
             request.name.len(),

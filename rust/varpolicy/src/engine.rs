@@ -1,5 +1,5 @@
 use crate::calls::{self, Request, Started};
-use crate::{Attributes, Namespace, Status, Switches};
+use crate::{Attributes, Namespace, Status, SwitchBytes, Switches};
 
 /// An engine over three lent byte slices, with its switches. Every method but [`Engine::resume`] and
 /// [`Engine::switches`] is one call of [`calls`]; a refusal is an `Err` and leaves everything as it was.
@@ -32,7 +32,7 @@ pub struct Engine<'a> {
     nv: &'a mut [u8],
     volatile: &'a mut [u8],
     policy: &'a mut [u8],
-    switches: Switches,
+    switches: SwitchBytes,
 }
 
 /// A variable that was read.
@@ -80,8 +80,13 @@ impl<'a> Engine<'a> {
 
     /// Goes on with an engine: over the slices as its last call left them, with the switches that it had
     /// then. No call is made, and nothing is checked or changed.
-    pub fn resume(nv: &'a mut [u8], volatile: &'a mut [u8], policy: &'a mut [u8], switches: Switches) -> Engine<'a> {
-        Engine { nv, volatile, policy, switches }
+    pub fn resume(
+        nv: &'a mut [u8],
+        volatile: &'a mut [u8],
+        policy: &'a mut [u8],
+        switches: impl Into<SwitchBytes>,
+    ) -> Engine<'a> {
+        Engine { nv, volatile, policy, switches: switches.into() }
     }
 
     /// Powers this engine on again: see [`calls::power_on`]. Refused, it keeps its own switches.
@@ -105,7 +110,7 @@ impl<'a> Engine<'a> {
 
     /// The switches.
     pub fn switches(&self) -> Switches {
-        self.switches
+        self.switches.into()
     }
 
     /// Registers a packed entry: see [`calls::register`].

@@ -46,8 +46,8 @@ pub enum Lock {
     Now,
     /// Once the variable exists.
     OnCreate,
-    /// While another variable has exactly one payload byte and that equals `value`. If it is absent,
-    /// or of another size, nothing is locked.
+    /// While the payload of another variable is the one byte `value`. If that variable is absent, or its
+    /// payload of another length, nothing is locked.
     OnVarState {
         /// The namespace of the other variable.
         namespace: Namespace,

@@ -3,8 +3,8 @@
 //! The engine keeps no memory of its own. The caller lends it two stores of variables (non-volatile
 //! and volatile, 0 to 32,768 bytes each), a policy record of 8,192 bytes, and three switches. A call
 //! checks all of each store and policy record that it is lent; but of the volatile store at power-on,
-//! and of the policy record at power-on and restart, it checks the length alone. A call that is refused
-//! leaves everything as it was.
+//! and of the policy record at power-on and restart, it checks the length alone. Of the switches every
+//! byte has a meaning. A call that is refused leaves everything as it was.
 //!
 //! [`calls`] has one function for each call of the library. [`Engine`] keeps the lent slices and the
 //! switches together and answers with `Result`. [`Entry`] packs a policy entry.
@@ -35,11 +35,13 @@ pub mod calls;
 mod engine;
 mod entry;
 mod status;
+mod switches;
 
 pub use attributes::Attributes;
 pub use engine::{Engine, NotDumped, Variable};
 pub use entry::{Entry, Lock, Name, PackedEntry};
 pub use status::Status;
+pub use switches::{SwitchBytes, Switches};
 
 /// The 16 bytes of a namespace, in the order in which they stand in an entry and in a record.
 pub type Namespace = [u8; 16];
@@ -58,15 +60,3 @@ pub const MAX_STORE_BYTES: usize = 32768;
 pub const MAX_PAYLOAD_BYTES: usize = 1024;
 /// Most units of a name.
 pub const MAX_NAME_UNITS: usize = 64;
-
-/// The switches of an engine: a small record that the caller keeps and lends.
-#[derive(Clone, Copy, PartialEq, Eq, Hash, Debug)]
-#[repr(C)]
-pub struct Switches {
-    /// Whether entries are enforced.
-    pub enabled: bool,
-    /// Whether registration is closed.
-    pub locked: bool,
-    /// Whether the engine may be disabled.
-    pub disabling_allowed: bool,
-}

@@ -13,7 +13,7 @@ fn power_on_wipes_what_it_should() {
     let (nv, mut volatile, mut policy) = ([0xFF; 64], [7; 65], [9; POLICY_BYTES]);
     let started = calls::power_on(&nv, &mut volatile, &mut policy, true);
     let fresh = Switches { enabled: true, locked: false, disabling_allowed: true };
-    assert_eq!((started.status, started.switches), (Status::Success, fresh));
+    assert_eq!((started.status, started.switches), (Status::Success, fresh.into()));
     assert_eq!((volatile, policy), ([0xFF; 65], [0; POLICY_BYTES]));
 }
 
@@ -26,7 +26,7 @@ fn refused_starts_hand_back_closed_switches_and_write_nothing() {
         calls::power_on(&[], &mut volatile, &mut policy[1..], true),
         calls::restart(&[], &volatile, &mut policy, true),
     ] {
-        assert_eq!((started.status, started.switches), (Status::VolumeCorrupted, closed));
+        assert_eq!((started.status, started.switches), (Status::VolumeCorrupted, closed.into()));
     }
     assert_eq!((volatile, policy), ([7; 65], [9; POLICY_BYTES]));
 }

@@ -1,8 +1,10 @@
+-- `engine::dump` meets its contract: each return is one law of `Registered.antt`. Assumes nothing.
 use Rattle.engine.proofs.Registered.{dump-invalid, dump-needs, dump-granted}
 use Rattle.engine.proofs.Checked.{dump-short, dump-done}
-use Rattle.policy.specs.PolicyLaws.{sizesSum-flat, check-valid, check-invalid}
+use Rattle.policy.specs.PolicyLaws.{Found, sizesSum-flat, check-valid, check-invalid}
 use Rattle.policy.specs.Policy.{entriesOf}
 use Rattle.slices.specs.Chunks.{flat}
+use Rattle.slices.specs.Bytes.{Bytes}
 use lib.ListN.{length}
 use native.Mathlib.Omega.{arith}
 use Prim.Native.Nat.{_≤_, _<_}
@@ -15,6 +17,20 @@ use Rattle.engine.proofs.dump.Lts as lts
 use Rattle.policy.proofs.check.Reads as check-reads
 use Rattle.policy.proofs.dump_into.Reads as dump-into-reads
 
+-- ---- once the record is found valid
+abbrev Start : tie.After-checked → tie.Start
+Start c = c .before .before .before .before .before
+
+abbrev Policy : tie.After-checked → Bytes
+Policy c = Start c .args .policy .now
+
+abbrev Buffer : tie.After-checked → Bytes
+Buffer c = Start c .args .buffer .now
+
+valid : (c : tie.After-checked) → Found (Policy c) (c .checked .given .0 .0) (c .checked .given .0 .1 .0)
+valid c = check-valid _ _ _ (sym (c .before .before .check .ensures) ∙ c .checked .given .1)
+
+-- ---- the needs
 check-requires : tie.Need-check-requires
 check-requires c κs = search needs
 
@@ -29,22 +45,23 @@ returns c = dump-invalid _ _ (check-invalid _ (sym (c .before .before .check .en
 
 returns-2 : tie.Need-returns-2
 returns-2 c =
-    let k = check-valid _ _ _ (sym (c .before .before .before .before .check .ensures) ∙ c .before .before .checked .given .1) in
-    let m : length (c .before .before .before .before .before .before .before .args .buffer .now) < length (flat (entriesOf (c .before .before .before .before .before .before .before .args .policy .now))) = omega (arith, k .summed, sizesSum-flat (c .before .before .before .before .before .before .before .args .policy .now), c .if1 .taken) in
+    let v = c .before .before in
+    let k = valid v in
+    let m : length (Buffer v) < length (flat (entriesOf (Policy v))) = omega (arith, k .summed, sizesSum-flat (Policy v), c .if1 .taken) in
     dump-needs _ _ (k .valid) (k .summed) (dump-short _ _ m)
 
 dump-into-requires : tie.Need-dump-into-requires
-dump-into-requires c κs =
-    let k = check-valid _ _ _ (sym (c .before .before .before .before .before .check .ensures) ∙ c .before .before .before .checked .given .1) in
-    (k .summed, omega (arith, c .before .if1 .left))
+dump-into-requires c κs = let k = valid (c .before .before .before) in (k .summed, omega (arith, c .before .if1 .left))
 
 same-length : tie.Need-same-length
 same-length c = search needs
 
 returns-3 : tie.Need-returns-3
 returns-3 c =
-    let k = check-valid _ _ _ (sym (c .before .before .before .before .before .before .before .before .check .ensures) ∙ c .before .before .before .before .before .before .checked .given .1) in
-    let m : length (flat (entriesOf (c .before .before .before .before .before .before .before .before .before .before .before .args .policy .now))) ≤ length (c .before .before .before .before .before .before .before .before .before .before .before .args .buffer .now) = omega (arith, k .summed, sizesSum-flat (c .before .before .before .before .before .before .before .before .before .before .before .args .policy .now), c .before .before .before .before .if1 .left) in
+    let r = c .before .before .before .before in
+    let v = r .before .before in
+    let k = valid v in
+    let m : length (flat (entriesOf (Policy v))) ≤ length (Buffer v) = omega (arith, k .summed, sizesSum-flat (Policy v), r .if1 .left) in
     dump-granted _ _ (k .valid) (k .summed) (dump-done _ _ m) (c .before .before .dump-into .ensures)
 
 pub dump-spec : {M : Type 1} → statement M

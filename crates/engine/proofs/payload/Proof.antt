@@ -1,73 +1,52 @@
--- `engine::payload` meets its contract, by where `look_up` finds the variable (`Payloads.antt`). Assumes nothing.
-use mathlib.Core.Path.{sym, ap, _∙_}
-use mathlib.Core.Bool.{true, false}
-use Rattle.engine.specs.declared.Reading.the-variants.{Stands}
-use Rattle.engine.proofs.Payloads.{record-asks, payload-nothing, payload-found, not-nowhere}
+-- `engine::payload` meets its contract: the bytes that the reading names, as a part of the store that it names. Assumes nothing.
+use Rattle.engine.proofs.Readings.{named-from, within-nv, within-vol, part-nv, part-vol, place-in-nv, place-in-vol}
 use borrow.Author.Needs.{needs}
 use Rattle.engine.proofs.payload.Statement.{statement}
 use Rattle.engine.proofs.payload.Tie as tie
 
-slice-aggregate-look-up : tie.Need-slice-aggregate-look-up
-slice-aggregate-look-up c = search needs
+read-requires : tie.Need-read-requires
+read-requires c κs = search needs
 
-look-up-requires : tie.Need-look-up-requires
-look-up-requires c κs = search needs
+sub-result : tie.Need-sub-result
+sub-result c = named-from _ _ _ (c .before .read .ensures .0) (c .before .read .ensures .1)
 
-enum-told : tie.Need-enum-told
-enum-told c = search needs
+part-result-start : tie.Need-part-result-start
+part-result-start c = named-from _ _ _ (c .before .read .ensures .0) (c .before .read .ensures .1)
 
-slice-aggregate-result : tie.Need-slice-aggregate-result
-slice-aggregate-result c = search needs
+part-result-end : tie.Need-part-result-end
+part-result-end c = within-nv _ _ _ (c .before .read .ensures .0) (c .before .read .ensures .1) (c .if1 .taken)
 
-enum-known-reading : tie.Need-enum-known-reading
-enum-known-reading c = search needs
+sub-result-2 : tie.Need-sub-result-2
+sub-result-2 c = named-from _ _ _ (c .before .read .ensures .0) (c .before .read .ensures .1)
 
-enum-known-place : tie.Need-enum-known-place
-enum-known-place c = search needs
+part-result-start-2 : tie.Need-part-result-start-2
+part-result-start-2 c = named-from _ _ _ (c .before .read .ensures .0) (c .before .read .ensures .1)
 
-payload-of-requires : tie.Need-payload-of-requires
-payload-of-requires c κs = record-asks _ _ _ true _ _ (sym (c .before .before .before .before .before .before .look-up .ensures) ∙ c .before .before .before .before .reading .given .1 ∙ ap Stands (c .before .place .given .1))
-
-enum-known-place-2 : tie.Need-enum-known-place-2
-enum-known-place-2 c = search needs
-
-payload-of-requires-2 : tie.Need-payload-of-requires-2
-payload-of-requires-2 c κs = record-asks _ _ _ false _ _ (sym (c .before .before .before .before .before .before .look-up .ensures) ∙ c .before .before .before .before .reading .given .1 ∙ ap Stands (c .before .place2 .given .1))
-
-enum-told-2 : tie.Need-enum-told-2
-enum-told-2 c = search needs
-
-slice-aggregate-result-2 : tie.Need-slice-aggregate-result-2
-slice-aggregate-result-2 c = search needs
+part-result-end-2 : tie.Need-part-result-end-2
+part-result-end-2 c = within-vol _ _ _ (c .before .read .ensures .0) (c .before .read .ensures .1) (c .if1 .left)
 
 returns : tie.Need-returns
-returns c = payload-nothing _ _ _ _ _ _ _ (sym (c .before .before .before .look-up .ensures) ∙ c .before .enum-told .given .1)
+returns c =
+    let i = c .before in
+    let r = i .before .read .ensures in
+    (part-nv _ _ _ (r .0) (r .1) (i .if1 .taken), place-in-nv _ _ _ (r .0) (r .1) _ _ (i .if1 .taken))
 
 returns-2 : tie.Need-returns-2
-returns-2 c = payload-found _ _ _ true _ _ (sym (c .before .before .before .before .before .before .before .look-up .ensures) ∙ c .before .before .before .before .before .reading .given .1 ∙ ap Stands (c .before .before .place .given .1)) _ _ _ (c .payload-of .ensures .0) (c .payload-of .ensures .1)
-
-returns-3 : tie.Need-returns-3
-returns-3 c = payload-found _ _ _ false _ _ (sym (c .before .before .before .before .before .before .before .look-up .ensures) ∙ c .before .before .before .before .before .reading .given .1 ∙ ap Stands (c .before .before .place2 .given .1)) _ _ _ (c .payload-of2 .ensures .0) (c .payload-of2 .ensures .1)
-
-returns-4 : tie.Need-returns-4
-returns-4 c = absurd (not-nowhere _ _ _ (sym (c .before .before .before .before .before .before .look-up .ensures) ∙ c .before .before .before .before .reading .given .1 ∙ ap Stands (c .before .enum-told2 .given .1)))
+returns-2 c =
+    let i = c .before in
+    let r = i .before .read .ensures in
+    (part-vol _ _ _ (r .0) (r .1) (i .if1 .left), place-in-vol _ _ _ (r .0) (r .1) _ _ (i .if1 .left))
 
 pub payload-spec : {M : Type 1} → statement M
 payload-spec =
     tie.close
     (tie.spec
-    slice-aggregate-look-up
-    look-up-requires
-    enum-told
-    slice-aggregate-result
-    enum-known-reading
-    enum-known-place
-    payload-of-requires
-    enum-known-place-2
-    payload-of-requires-2
-    enum-told-2
-    slice-aggregate-result-2
+    read-requires
+    sub-result
+    part-result-start
+    part-result-end
+    sub-result-2
+    part-result-start-2
+    part-result-end-2
     returns
-    returns-2
-    returns-3
-    returns-4)
+    returns-2)

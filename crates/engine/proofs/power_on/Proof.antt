@@ -49,7 +49,13 @@ same-length-2 : tie.Need-same-length-2
 same-length-2 c = search needs
 
 returns-4 : tie.Need-returns-4
-returns-4 c = power-granted _ _ _ _ (power-done _ _ _ (sym (c .before .before .before .before .before .before .before .before .before .before .before .before .check-alone .ensures) ∙ not-false (c .before .before .before .before .before .before .before .before .before .before .before .before .check-alone .result) (c .before .before .before .before .before .before .before .before .before .before .before .if1 .left)) (c .before .before .before .before .before .before .before .before .before .before .if2 .left) (c .before .before .before .before .before .before .before .before .before .if3 .left)) (c .fresh-start .ensures) (filled _ (c .before .before .before .before .before .before .before .fill .ensures)) (c .before .before .before .clear .ensures)
+returns-4 c =
+    let filled-at = c .before .before .before .before .before .before .before in
+    let r = filled-at .before .before in
+    let v = r .before in
+    let s = v .before in
+    power-granted _ _ _ _ (power-done _ _ _ (sym (s .before .check-alone .ensures) ∙ not-false (s .before .check-alone .result) (s .if1 .left)) (v .if2 .left) (r .if3 .left))
+    (c .fresh-start .ensures) (filled _ (filled-at .fill .ensures)) (c .before .before .before .clear .ensures)
 
 pub power-on-spec : {M : Type 1} → statement M
 power-on-spec =

@@ -1,44 +1,127 @@
-use Rattle.engine.proofs.Readings.{stands-at, read-refused, read-stands}
-use Rattle.stores.specs.PlaceLaws.{place-within-stores}
+-- `engine::read` meets its contract: each return is the reading by the tests so far, and what holds of every reading (`read-step`) holds of
+-- it. Assumes nothing.
+use Rattle.limits.specs.Limits.{namespaceBytes}
+use Rattle.slices.specs.Bytes.{Bytes}
+use Rattle.slices.specs.Test.{_and_}
+use Rattle.slices.specs.TestLaws.{and-no}
+use Rattle.names.specs.Name.{Variable, variable, named, isName}
+use Rattle.stores.specs.Pair.{sound, endsOf}
+use Rattle.stores.specs.PairLaws.{check-sound, check-unsound}
 use Rattle.stores.specs.Place.{Within}
-use mathlib.Core.Path.{sym, subst, _∙_}
+use Rattle.stores.specs.PlaceLaws.{place-within-stores}
+use Rattle.engine.proofs.Readings.{reading-unsound, reading-unnamed, reading-absent, reading-found, reads}
+use borrow.Author.Tests.{eq-eqb, not-true, not-false}
+use lib.ListN.{length}
+use mathlib.Core.Bool.{true, false}
+use mathlib.Core.Path.{_≡_, sym, subst, _∙_}
 use borrow.Author.Needs.{needs}
 use Rattle.engine.proofs.read.Statement.{statement}
 use Rattle.engine.proofs.read.Tie as tie
-use Rattle.engine.proofs.read.Reads as reads
-use Rattle.engine.proofs.read.Lts as lts
-use Rattle.engine.proofs.look_up.Reads as look-up-reads
-use Rattle.stores.proofs.attributes_at.Reads as attributes-at-reads
 
-slice-aggregate-look-up : tie.Need-slice-aggregate-look-up
-slice-aggregate-look-up c = search needs
+-- ---- the places: once the stores are found sound
+abbrev Start : tie.After-checked → tie.Start
+Start c = c .before .before .before .before .before .before
 
-look-up-requires : tie.Need-look-up-requires
-look-up-requires c κs = search needs
+checked : (c : tie.After-checked) → (sound (Start c .args .nv .now) (Start c .args .vol .now) ≡ true) × (c .checked .given .0 .0 ≡ endsOf (Start c .args .nv .now) (Start c .args .vol .now))
+checked c = check-sound _ _ _ (sym (c .before .before .check .ensures) ∙ c .checked .given .1)
 
-enum-known-reading : tie.Need-enum-known-reading
-enum-known-reading c = search needs
+-- the name good
+abbrev Sound : tie.Else1 → tie.After-checked
+Sound c = c .before .before .before
 
-enum-known-reading-2 : tie.Need-enum-known-reading-2
-enum-known-reading-2 c = search needs
+-- the variable looked for
+abbrev Good : tie.After-locate → tie.Else1
+Good c = c .before .before
 
-attributes-at-requires : tie.Need-attributes-at-requires
-attributes-at-requires c κs = subst (Within _ _) (sym (stands-at _ _ _ _ (sym (c .before .before .before .look-up .ensures) ∙ c .before .reading2 .given .1))) (place-within-stores _ _ _)
+abbrev Asked : tie.After-locate → Variable
+Asked c = variable (Start (Sound (Good c)) .args .t3) (Start (Sound (Good c)) .args .name .now)
+
+-- its namespace has 16 bytes
+slice-aggregate-locate : tie.Need-slice-aggregate-locate
+slice-aggregate-locate c = search needs
+
+good : (c : tie.After-locate) → named (Asked c) ≡ true
+unfolding named _and_
+good c =
+    let i = Good c in
+    let l : length (Start (Sound i) .args .t3) ≡ namespaceBytes = sym (slice-aggregate-locate (c .before)) in
+    let n : isName (Start (Sound i) .args .name .now) ≡ true = sym (i .before .is-name .ensures) ∙ not-false (i .before .is-name .result) (i .if1 .left) in
+    simp (eq-eqb _ _ l, n)
+
+-- ---- the needs
+check-requires : tie.Need-check-requires
+check-requires c κs = search needs
+
+enum-known-checked : tie.Need-enum-known-checked
+enum-known-checked c = search needs
+
+enum-told : tie.Need-enum-told
+enum-told c = search needs
+
+refused-reading-requires : tie.Need-refused-reading-requires
+refused-reading-requires c κs = search needs
 
 returns : tie.Need-returns
-returns c = λ policy w. read-refused _ _ _ policy w _ (sym (c .before .before .before .look-up .ensures) ∙ c .before .reading .given .1)
+returns c =
+    let t = c .before in
+    reads _ _ _ (c .refused-reading .ensures ∙ reading-unsound _ _ _ (check-unsound _ _ (sym (t .before .before .check .ensures) ∙ t .enum-told .given .1)))
+
+is-name-requires : tie.Need-is-name-requires
+is-name-requires c κs = search needs
+
+refused-reading-requires-2 : tie.Need-refused-reading-requires-2
+refused-reading-requires-2 c κs = search needs
 
 returns-2 : tie.Need-returns-2
-returns-2 c = λ policy w. read-stands _ _ _ policy w _ (sym (c .before .before .before .before .look-up .ensures) ∙ c .before .before .reading2 .given .1) (c .attributes-at .ensures)
+unfolding named
+returns-2 c =
+    let i = c .before in
+    let s = i .before .before .before in
+    let n : isName (Start s .args .name .now) ≡ false = sym (i .before .is-name .ensures) ∙ not-true (i .before .is-name .result) (i .if1 .taken) in
+    reads _ _ _ (c .refused-reading2 .ensures ∙ reading-unnamed _ _ _ (checked s .0) (simp (n, and-no)))
+
+locate-requires : tie.Need-locate-requires
+locate-requires c κs = checked (Sound (c .before)) .1
+
+is-somewhere-requires : tie.Need-is-somewhere-requires
+is-somewhere-requires c κs = search needs
+
+refused-reading-requires-3 : tie.Need-refused-reading-requires-3
+refused-reading-requires-3 c κs = search needs
+
+returns-3 : tie.Need-returns-3
+returns-3 c =
+    let i = c .before in
+    let l = i .before .before in
+    reads _ _ _ (c .refused-reading3 .ensures ∙ reading-absent _ _ _ (checked (Sound (Good l)) .0) (good l) _ (l .locate .ensures)
+    (sym (i .before .is-somewhere .ensures) ∙ not-true (i .before .is-somewhere .result) (i .if2 .taken)))
+
+reading-at-requires : tie.Need-reading-at-requires
+reading-at-requires c κs = subst (Within _ _) (sym (c .before .before .locate .ensures)) (place-within-stores _ _ _)
+
+returns-4 : tie.Need-returns-4
+returns-4 c =
+    let i = c .before in
+    let l = i .before .before in
+    reads _ _ _ (c .reading-at .ensures ∙ reading-found _ _ _ (checked (Sound (Good l)) .0) (good l) _ (l .locate .ensures)
+    (sym (i .before .is-somewhere .ensures) ∙ not-false (i .before .is-somewhere .result) (i .if2 .left)))
 
 pub read-spec : {M : Type 1} → statement M
 read-spec =
     tie.close
     (tie.spec
-    slice-aggregate-look-up
-    look-up-requires
-    enum-known-reading
-    enum-known-reading-2
-    attributes-at-requires
+    check-requires
+    enum-known-checked
+    enum-told
+    refused-reading-requires
     returns
-    returns-2)
+    is-name-requires
+    refused-reading-requires-2
+    returns-2
+    slice-aggregate-locate
+    locate-requires
+    is-somewhere-requires
+    refused-reading-requires-3
+    returns-3
+    reading-at-requires
+    returns-4)

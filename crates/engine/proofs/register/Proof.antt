@@ -1,14 +1,21 @@
+-- `engine::register` meets its contract. Each return is one law of `Registered.antt`; the status is told by the tests so far, each of which is
+-- named here by the place where it has been made: the record valid, the engine unlocked, the entry well formed, its target new, entries
+-- and bytes within the limits. Assumes nothing.
 use Rattle.engine.proofs.Registered.{register-invalid, register-refused, register-granted}
 use Rattle.engine.proofs.Checked.{parse-formed, parse-malformed, register-locked, register-malformed, register-repeated, register-many, register-long, register-done}
 use Rattle.status.specs.declared.Status.the-variants.{WriteProtected, InvalidParameter, AlreadyStarted, OutOfResources}
-use Rattle.policy.specs.PolicyLaws.{sizesSum-flat, sizesSum-within, policyValid-length, check-valid, check-invalid}
+use Rattle.policy.specs.PolicyLaws.{Found, sizesSum-flat, sizesSum-within, policyValid-length, check-valid, check-invalid}
 use Rattle.policy.specs.Policy.{entriesOf}
 use Rattle.entry.specs.EntryLaws.{sized}
-use Rattle.slices.specs.Chunks.{flat}
+use Rattle.slices.specs.Chunks.{flat, contains}
+use Rattle.limits.specs.Limits.{maxEntries, policyBytes}
+use Rattle.slices.specs.Bytes.{Bytes}
+use Rattle.entry.specs.Entry.{wellFormed, sameTarget}
 use lib.ListN.{length}
 use native.Mathlib.Omega.{arith}
 use Prim.Native.Nat.{_+_, _≤_, _<_}
 use mathlib.Core.Path.{_≡_, refl, sym, _∙_}
+use mathlib.Core.Bool.{true, false}
 use borrow.Author.Needs.{needs}
 use Rattle.engine.proofs.register.Statement.{statement}
 use Rattle.engine.proofs.register.Tie as tie
@@ -19,6 +26,38 @@ use Rattle.policy.proofs.append.Reads as append-reads
 use Rattle.policy.proofs.check.Reads as check-reads
 use Rattle.policy.proofs.contains.Reads as contains-reads
 
+-- ---- the places: once the record is found valid
+abbrev Start : tie.After-checked → tie.Start
+Start c = c .before .before .before .before .before .before
+
+abbrev Policy : tie.After-checked → Bytes
+Policy c = Start c .args .policy .now
+
+abbrev Entry : tie.After-checked → Bytes
+Entry c = Start c .args .entry .now
+
+valid : (c : tie.After-checked) → Found (Policy c) (c .checked .given .0 .0) (c .checked .given .0 .1 .0)
+valid c = check-valid _ _ _ (sym (c .before .before .check .ensures) ∙ c .checked .given .1)
+
+-- the engine unlocked
+abbrev Valid : tie.Else1 → tie.After-checked
+Valid u = u .before .before
+
+-- the entry well formed
+abbrev Unlocked : tie.After-enum-told2 → tie.Else1
+Unlocked f = f .before .before .before
+
+formed : (f : tie.After-enum-told2) → wellFormed (Entry (Valid (Unlocked f))) ≡ true
+formed f = parse-formed _ _ (sym (f .before .before .parse .ensures) ∙ f .enum-told2 .given .1)
+
+-- its target new
+abbrev Formed : tie.Else2 → tie.After-enum-told2
+Formed n = n .before .before .before
+
+new : (n : tie.Else2) → contains (sameTarget (Entry (Valid (Unlocked (Formed n))))) (entriesOf (Policy (Valid (Unlocked (Formed n))))) ≡ false
+new n = sym (n .before .contains .ensures) ∙ n .if2 .left
+
+-- ---- the needs
 check-requires : tie.Need-check-requires
 check-requires c κs = search needs
 
@@ -38,9 +77,7 @@ same-length-2 : tie.Need-same-length-2
 same-length-2 c = search needs
 
 returns-2 : tie.Need-returns-2
-returns-2 c =
-    let k = check-valid _ _ _ (sym (c .before .before .before .before .check .ensures) ∙ c .before .before .checked .given .1) in
-    register-refused _ _ _ (k .valid) WriteProtected refl (register-locked _ _ _ (c .if1 .taken))
+returns-2 c = register-refused _ _ _ (valid (c .before .before) .valid) WriteProtected refl (register-locked _ _ _ (c .if1 .taken))
 
 parse-requires : tie.Need-parse-requires
 parse-requires c κs = search needs
@@ -56,51 +93,56 @@ same-length-3 c = search needs
 
 returns-3 : tie.Need-returns-3
 returns-3 c =
-    let k = check-valid _ _ _ (sym (c .before .before .before .before .before .before .before .check .ensures) ∙ c .before .before .before .before .before .checked .given .1) in
-    register-refused _ _ _ (k .valid) InvalidParameter refl (register-malformed _ _ _ (c .before .before .before .if1 .left) (parse-malformed _ (sym (c .before .before .parse .ensures) ∙ c .enum-told3 .given .1)))
+    let u = c .before .before .before in
+    register-refused _ _ _ (valid (Valid u) .valid) InvalidParameter refl
+    (register-malformed _ _ _ (u .if1 .left) (parse-malformed _ (sym (c .before .before .parse .ensures) ∙ c .enum-told3 .given .1)))
 
 contains-requires : tie.Need-contains-requires
-contains-requires c κs =
-    let k = check-valid _ _ _ (sym (c .before .before .before .before .before .before .before .before .check .ensures) ∙ c .before .before .before .before .before .before .checked .given .1) in
-    (k .counted, parse-formed _ _ (sym (c .before .before .before .parse .ensures) ∙ c .before .enum-told2 .given .1))
+contains-requires c κs = let f = c .before in (valid (Valid (Unlocked f)) .counted, formed f)
 
 same-length-4 : tie.Need-same-length-4
 same-length-4 c = search needs
 
 returns-4 : tie.Need-returns-4
 returns-4 c =
-    let k = check-valid _ _ _ (sym (c .before .before .before .before .before .before .before .before .before .before .check .ensures) ∙ c .before .before .before .before .before .before .before .before .checked .given .1) in
-    register-refused _ _ _ (k .valid) AlreadyStarted refl
-    (register-repeated _ _ _ (c .before .before .before .before .before .before .if1 .left) (parse-formed _ _ (sym (c .before .before .before .before .before .parse .ensures) ∙ c .before .before .before .enum-told2 .given .1)) (sym (c .before .contains .ensures) ∙ c .if2 .taken))
+    let f = c .before .before .before in
+    let u = Unlocked f in
+    register-refused _ _ _ (valid (Valid u) .valid) AlreadyStarted refl
+    (register-repeated _ _ _ (u .if1 .left) (formed f) (sym (c .before .contains .ensures) ∙ c .if2 .taken))
 
 same-length-5 : tie.Need-same-length-5
 same-length-5 c = search needs
 
 returns-5 : tie.Need-returns-5
 returns-5 c =
-    let k = check-valid _ _ _ (sym (c .before .before .before .before .before .before .before .before .before .before .before .check .ensures) ∙ c .before .before .before .before .before .before .before .before .before .checked .given .1) in
-    let m : 64 ≤ length (entriesOf (c .before .before .before .before .before .before .before .before .before .before .before .before .before .before .before .args .policy .now)) = omega (arith, k .counted, c .if3 .taken) in
-    register-refused _ _ _ (k .valid) OutOfResources refl
-    (register-many _ _ _ (c .before .before .before .before .before .before .before .if1 .left) (parse-formed _ _ (sym (c .before .before .before .before .before .before .parse .ensures) ∙ c .before .before .before .before .enum-told2 .given .1)) (sym (c .before .before .contains .ensures) ∙ c .before .if2 .left) m)
+    let n = c .before in
+    let u = Unlocked (Formed n) in
+    let k = valid (Valid u) in
+    let m : maxEntries ≤ length (entriesOf (Policy (Valid u))) = omega (arith, k .counted, c .if3 .taken) in
+    register-refused _ _ _ (k .valid) OutOfResources refl (register-many _ _ _ (u .if1 .left) (formed (Formed n)) (new n) m)
 
 add-if4 : tie.Need-add-if4
 add-if4 c =
-    let k = check-valid _ _ _ (sym (c .before .before .before .before .before .before .before .before .before .before .before .check .ensures) ∙ c .before .before .before .before .before .before .before .before .before .checked .given .1) in
-    omega (arith, k .summed, sizesSum-within (c .before .before .before .before .before .before .before .before .before .before .before .before .before .before .before .args .policy .now), policyValid-length (c .before .before .before .before .before .before .before .before .before .before .before .before .before .before .before .args .policy .now) (k .valid), sized (c .before .before .before .before .before .before .before .before .before .before .before .before .before .before .before .args .entry .now) (parse-formed _ _ (sym (c .before .before .before .before .before .before .parse .ensures) ∙ c .before .before .before .before .enum-told2 .given .1)) .most)
+    let f = Formed (c .before) in
+    let v = Valid (Unlocked f) in
+    let k = valid v in
+    omega (arith, k .summed, sizesSum-within (Policy v), policyValid-length (Policy v) (k .valid), sized (Entry v) (formed f) .most)
 
 same-length-6 : tie.Need-same-length-6
 same-length-6 c = search needs
 
 returns-6 : tie.Need-returns-6
 returns-6 c =
-    let k = check-valid _ _ _ (sym (c .before .before .before .before .before .before .before .before .before .before .before .before .check .ensures) ∙ c .before .before .before .before .before .before .before .before .before .before .checked .given .1) in
-    let m : 8192 < length (flat (entriesOf (c .before .before .before .before .before .before .before .before .before .before .before .before .before .before .before .before .args .policy .now))) + length (c .before .before .before .before .before .before .before .before .before .before .before .before .before .before .before .before .args .entry .now) = omega (arith, k .summed, sizesSum-flat (c .before .before .before .before .before .before .before .before .before .before .before .before .before .before .before .before .args .policy .now), c .if4 .taken) in
-    register-refused _ _ _ (k .valid) OutOfResources refl
-    (register-long _ _ _ (c .before .before .before .before .before .before .before .before .if1 .left) (parse-formed _ _ (sym (c .before .before .before .before .before .before .before .parse .ensures) ∙ c .before .before .before .before .before .enum-told2 .given .1)) (sym (c .before .before .before .contains .ensures) ∙ c .before .before .if2 .left) m)
+    let n = c .before .before in
+    let u = Unlocked (Formed n) in
+    let v = Valid u in
+    let k = valid v in
+    let m : policyBytes < length (flat (entriesOf (Policy v))) + length (Entry v) = omega (arith, k .summed, sizesSum-flat (Policy v), c .if4 .taken) in
+    register-refused _ _ _ (k .valid) OutOfResources refl (register-long _ _ _ (u .if1 .left) (formed (Formed n)) (new n) m)
 
 append-requires : tie.Need-append-requires
 append-requires c κs =
-    let k = check-valid _ _ _ (sym (c .before .before .before .before .before .before .before .before .before .before .before .before .before .check .ensures) ∙ c .before .before .before .before .before .before .before .before .before .before .before .checked .given .1) in
+    let k = valid (Valid (Unlocked (Formed (c .before .before .before)))) in
     (k .valid, k .summed, omega (arith, c .before .if4 .left))
 
 same-length-7 : tie.Need-same-length-7
@@ -108,11 +150,14 @@ same-length-7 c = search needs
 
 returns-7 : tie.Need-returns-7
 returns-7 c =
-    let k = check-valid _ _ _ (sym (c .before .before .before .before .before .before .before .before .before .before .before .before .before .before .before .before .check .ensures) ∙ c .before .before .before .before .before .before .before .before .before .before .before .before .before .before .checked .given .1) in
-    let m : length (entriesOf (c .before .before .before .before .before .before .before .before .before .before .before .before .before .before .before .before .before .before .before .before .args .policy .now)) < 64 = omega (arith, k .counted, c .before .before .before .before .before .if3 .left) in
-    let n : length (flat (entriesOf (c .before .before .before .before .before .before .before .before .before .before .before .before .before .before .before .before .before .before .before .before .args .policy .now))) + length (c .before .before .before .before .before .before .before .before .before .before .before .before .before .before .before .before .before .before .before .before .args .entry .now) ≤ 8192 = omega (arith, k .summed, sizesSum-flat (c .before .before .before .before .before .before .before .before .before .before .before .before .before .before .before .before .before .before .before .before .args .policy .now), c .before .before .before .before .if4 .left) in
-    register-granted _ _ _ (k .valid)
-    (register-done _ _ _ (c .before .before .before .before .before .before .before .before .before .before .before .before .if1 .left) (parse-formed _ _ (sym (c .before .before .before .before .before .before .before .before .before .before .before .parse .ensures) ∙ c .before .before .before .before .before .before .before .before .before .enum-told2 .given .1)) (sym (c .before .before .before .before .before .before .before .contains .ensures) ∙ c .before .before .before .before .before .before .if2 .left) m n) (c .before .before .append .ensures)
+    let r = c .before .before .before .before in
+    let n = r .before .before in
+    let u = Unlocked (Formed n) in
+    let v = Valid u in
+    let k = valid v in
+    let m : length (entriesOf (Policy v)) < maxEntries = omega (arith, k .counted, r .before .if3 .left) in
+    let l : length (flat (entriesOf (Policy v))) + length (Entry v) ≤ policyBytes = omega (arith, k .summed, sizesSum-flat (Policy v), r .if4 .left) in
+    register-granted _ _ _ (k .valid) (register-done _ _ _ (u .if1 .left) (formed (Formed n)) (new n) m l) (c .before .before .append .ensures)
 
 pub register-spec : {M : Type 1} → statement M
 register-spec =

@@ -1,4 +1,5 @@
-use Rattle.engine.proofs.Started.{pair-sound, pair-unsound, restart-unsound, restart-record, restart-done, restart-refused, restart-granted}
+use Rattle.stores.specs.PairLaws.{check-sound, check-unsound}
+use Rattle.engine.proofs.Started.{restart-unsound, restart-record, restart-done, restart-refused, restart-granted}
 use mathlib.Core.Path.{sym, _∙_}
 use borrow.Author.Needs.{needs}
 use Rattle.engine.proofs.restart.Statement.{statement}
@@ -23,7 +24,7 @@ refused-start-requires : tie.Need-refused-start-requires
 refused-start-requires c κs = search needs
 
 returns : tie.Need-returns
-returns c = restart-refused _ _ _ _ (restart-unsound _ _ _ (pair-unsound _ _ (sym (c .before .before .before .check .ensures) ∙ c .before .enum-told2 .given .1))) (c .refused-start .ensures)
+returns c = restart-refused _ _ _ _ (restart-unsound _ _ _ (check-unsound _ _ (sym (c .before .before .before .check .ensures) ∙ c .before .enum-told2 .given .1))) (c .refused-start .ensures)
 
 refused-start-requires-2 : tie.Need-refused-start-requires-2
 refused-start-requires-2 c κs = search needs
@@ -41,7 +42,11 @@ same-length : tie.Need-same-length
 same-length c = search needs
 
 returns-3 : tie.Need-returns-3
-returns-3 c = restart-granted _ _ _ _ (restart-done _ _ _ (pair-sound _ _ _ _ (sym (c .before .before .before .before .before .before .before .before .check .ensures) ∙ c .before .before .before .before .before .before .enum-told .given .1) .isSound) (c .before .before .before .before .before .if1 .left)) (c .fresh-start .ensures) (c .before .before .before .clear .ensures)
+returns-3 c =
+    let r = c .before .before .before .before .before in
+    let s = r .before in
+    restart-granted _ _ _ _ (restart-done _ _ _ (check-sound _ _ _ (sym (s .before .before .check .ensures) ∙ s .enum-told .given .1) .0) (r .if1 .left))
+    (c .fresh-start .ensures) (c .before .before .before .clear .ensures)
 
 pub restart-spec : {M : Type 1} → statement M
 restart-spec =

@@ -27,14 +27,14 @@ name-bytes-requires c κs = search needs
 name-bytes-requires-2 : tie.Need-name-bytes-requires-2
 name-bytes-requires-2 c κs = search needs
 
-equal-requires : tie.Need-equal-requires
-equal-requires c κs = search needs
+same-name-requires : tie.Need-same-name-requires
+same-name-requires c κs = search needs
 
 returns : tie.Need-returns
 returns c =
     let e = c .before in
     let x = e .before .before .before .before .before .args in
-    names-differ (x .e .now) (x .f .now) (e .before .before .name-bytes .ensures) (e .before .name-bytes2 .ensures) (e .equal .ensures) (not-true (e .equal .result) (c .if1 .taken))
+    names-differ (x .e .now) (x .f .now) (e .before .before .name-bytes .ensures) (e .before .name-bytes2 .ensures) (e .same-name .ensures) (not-true (e .same-name .result) (c .if1 .taken))
 
 sub-same-namespace : tie.Need-sub-same-namespace
 sub-same-namespace c = search needs
@@ -65,7 +65,7 @@ returns-2 : tie.Need-returns-2
 returns-2 c =
     let e = c .before .before .before .before in
     let x = e .before .before .before .before .before .args in
-    names-same (x .e .now) (x .f .now) (e .before .before .name-bytes .ensures) (e .before .name-bytes2 .ensures) (e .equal .ensures) (not-false (e .equal .result) (c .before .before .before .if1 .left)) (c .same-namespace .ensures)
+    names-same (x .e .now) (x .f .now) (e .before .before .name-bytes .ensures) (e .before .name-bytes2 .ensures) (e .same-name .ensures) (not-false (e .same-name .result) (c .before .before .before .if1 .left)) (c .same-namespace .ensures)
 
 pub same-target-spec : {M : Type 1} → statement M
 same-target-spec =
@@ -73,7 +73,7 @@ same-target-spec =
     (tie.spec
     name-bytes-requires
     name-bytes-requires-2
-    equal-requires
+    same-name-requires
     returns
     sub-same-namespace
     part-same-namespace-start

@@ -1,5 +1,4 @@
 -- `names::four_match` meets its contract. Assumes nothing.
-use mathlib.Core.Path.{_≡_, _∙_}
 use native.Mathlib.Omega.{arith}
 use Rattle.slices.specs.Test.{_and_}
 use Rattle.names.specs.NameLaws.{units-length, matches-eight}

@@ -1,11 +1,12 @@
 -- `policy::is_among` meets its contract. The invariant: the walk has come to an entry, and whether one of the first count entries has the target
--- is whether one of those from there on has. The measure is the number of entries left. Assumes nothing.
+-- is whether one of those from there on has. The measure is the number of entries left. A turn finds the target
+-- (`among-hit`) or goes on behind the entry (`among-miss`). Assumes nothing.
 use Prim.Native.Nat.{_+_, _-_, _≤_, _<_}
 use mathlib.Core.Path.{_≡_, sym, ap, _∙_}
 use native.Mathlib.Omega.{arith}
 use native.Mathlib.Nat.{sub-zero}
-use borrow.Author.Needs.{needs}
 use lib.ListN.{length, take, drop}
+use Rattle.limits.specs.Limits.{sizeAt, entryHeader}
 use Rattle.slices.specs.Bytes.{Bytes, le16}
 use Rattle.slices.specs.PartLaws.{part-of}
 use Rattle.slices.specs.Chunks.{contains}
@@ -31,10 +32,10 @@ P c = c .before .before .before .before .args .policy .now
 left : (c : tie.In-loop Inv-loop μ-loop) → c .before .loop .index < length (entriesOf (P c))
 left c = omega (arith, c .before .before .before .before .pre .0, c .loop-test .taken)
 
-fits : (c : tie.In-loop Inv-loop μ-loop) → c .before .loop .at + le16 (P c) (c .before .loop .at + 4) ≤ length (P c)
+fits : (c : tie.In-loop Inv-loop μ-loop) → c .before .loop .at + le16 (P c) (c .before .loop .at + sizeAt) ≤ length (P c)
 fits c = stated-fits (P c) (c .before .loop .index) (c .before .loop .at) (c .before .loop .inv .1) (left c)
 
-least : (c : tie.In-loop Inv-loop μ-loop) → 44 ≤ le16 (P c) (c .before .loop .at + 4)
+least : (c : tie.In-loop Inv-loop μ-loop) → entryHeader ≤ le16 (P c) (c .before .loop .at + sizeAt)
 least c = stated-least (P c) (c .before .loop .index) (c .before .loop .at) (c .before .loop .inv .1) (left c)
 
 -- the entry at hand

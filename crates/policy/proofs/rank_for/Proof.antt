@@ -5,6 +5,7 @@ use mathlib.Core.Bool.{Bool, true, false, _||_, cond}
 use lib.ListN.{length}
 use lib.Dec.{eqb}
 use borrow.Author.Tests.{eq-eqb, ne-eqb}
+use Rattle.limits.specs.Limits.{wholeNamespaceRank, noRank}
 use Rattle.slices.specs.Bytes.{Bytes}
 use Rattle.names.specs.Name.{units, matches, wildcards}
 use Rattle.entry.specs.Entry.{wellFormed, nameIsEmpty, nameOf, rank}
@@ -17,12 +18,12 @@ use Rattle.policy.proofs.rank_for.Tie as tie
 module _ {m : Bytes} (e v : Bytes) (w : wellFormed e ≡ true) (a : m ≡ nameOf e) where
   -- what is asked for
   abbrev Rank : ℕ → Type 0
-  Rank n = n ≡ cond (nameIsEmpty e || matches (units (nameOf e)) (units v)) (rank e) 66
+  Rank n = n ≡ cond (nameIsEmpty e || matches (units (nameOf e)) (units v)) (rank e) noRank
 
   is-empty : (b : Bool) → eqb (length m) 0 ≡ b → nameIsEmpty e ≡ b
   is-empty b q = nameOf-none e w ∙ ap (λ (l : Bytes). eqb (length l) 0) (sym a) ∙ q
 
-  empty : length m ≡ 0 → Rank 65
+  empty : length m ≡ 0 → Rank wholeNamespaceRank
   unfolding rank
   empty z = rw (is-empty true (eq-eqb (length m) 0 z))
 
@@ -31,7 +32,7 @@ module _ {m : Bytes} (e v : Bytes) (w : wellFormed e ≡ true) (a : m ≡ nameOf
     unfolding rank
     matching y k = k ∙ rw (is-empty false (ne-eqb (length m) 0 z), ← a, ← t, y)
 
-    not-matching : r ≡ false → Rank 66
+    not-matching : r ≡ false → Rank noRank
     unfolding rank
     not-matching y = rw (is-empty false (ne-eqb (length m) 0 z), ← a, ← t, y)
 

@@ -1,5 +1,7 @@
 -- `policy::scan` meets its contract. The invariant: the walk has come to an entry of `next` bytes, or to the end of the entries where that is 0; those
--- before it are distinct, at most 64, and in the filter. The measure is how many entries more there may be. Assumes nothing.
+-- before it are distinct, at most `maxEntries`, and in the filter. The measure is how many entries more there may be. A turn ends
+-- the walk where the entry is one too many (`too-many`) or was met before (`met-before`), and else goes on behind it (`checked-more`); behind the last one
+-- zeros decide (`checked-end`). Assumes nothing.
 use Prim.Native.Nat.{_+_, _-_, _≤_}
 use mathlib.Core.Path.{_≡_, sym, ap, _∙_}
 use mathlib.Core.Bool.{cond}
@@ -26,6 +28,10 @@ abbrev μ-loop : tie.MeasureT-loop
 -- the record
 abbrev P : tie.At-loop Inv-loop μ-loop → Bytes
 P c = c .before .before .before .args .policy .now
+
+-- the turn that looked for the entry at hand, once it knows the answer
+abbrev Turn : tie.After-is-repeated Inv-loop μ-loop → tie.At-loop Inv-loop μ-loop
+Turn r = r .before .before .before .before .before
 
 -- the entry at hand
 within : (c : tie.In-loop Inv-loop μ-loop) → c .before .loop .used + c .before .loop .next ≤ length (P (c .before))
@@ -74,12 +80,13 @@ is-repeated-requires c κs =
 
 returns-2 : tie.Need-returns-2 Inv-loop μ-loop
 returns-2 c =
-    let g = c .before .before .before .before .before .before in
+    let r = c .before in
+    let g = Turn r in
     let l = g .loop in
-    met-before (P g) (l .marks) (l .count) (l .used) (l .next) (l .inv .0) (l .inv .1) (c .before .is-repeated .ensures .0) (c .before .before .before .before .before .loop-test .taken) (c .if2 .taken)
+    met-before (P g) (l .marks) (l .count) (l .used) (l .next) (l .inv .0) (l .inv .1) (r .is-repeated .ensures .0) (r .before .before .before .before .loop-test .taken) (c .if2 .taken)
 
 add-count : tie.Need-add-count Inv-loop μ-loop
-add-count c = omega (arith, c .before .before .before .before .before .before .loop .inv .0 .few)
+add-count c = omega (arith, Turn (c .before) .loop .inv .0 .few)
 
 sub-entry-length : tie.Need-sub-entry-length Inv-loop μ-loop
 sub-entry-length c = omega (arith, within (c .before .before .before .before .before))
@@ -94,14 +101,17 @@ entry-length-requires-2 : tie.Need-entry-length-requires-2 Inv-loop μ-loop
 entry-length-requires-2 c κs = search needs
 
 loop-less : tie.Need-loop-less Inv-loop μ-loop
-loop-less c = omega (arith, c .before .before .before .before .before .before .before .before .loop .inv .0 .few, c .before .before .before .before .before .before .if1 .left)
+loop-less c =
+    let r = c .before .before .before in
+    omega (arith, Turn r .loop .inv .0 .few, r .before .before .before .if1 .left)
 
 loop-again : tie.Need-loop-again Inv-loop μ-loop
 loop-again c =
-    let g = c .before .before .before .before .before .before .before .before in
+    let r = c .before .before .before in
+    let g = Turn r in
     let l = g .loop in
-    let r = c .before .before .before .is-repeated .ensures in (
-      checked-more (P g) (l .marks) (l .count) (l .used) (l .next) (l .inv .0) (l .inv .1) (r .0) (c .before .before .before .before .before .before .before .loop-test .taken) (c .before .before .before .before .before .before .if1 .left) (c .before .before .if2 .left) (r .1 .0) (r .1 .1),
+    let found = r .is-repeated .ensures in (
+      checked-more (P g) (l .marks) (l .count) (l .used) (l .next) (l .inv .0) (l .inv .1) (found .0) (r .before .before .before .before .loop-test .taken) (r .before .before .before .if1 .left) (c .before .before .if2 .left) (found .1 .0) (found .1 .1),
       sym (c .entry-length2 .ensures ∙ ap entryLength (part-rest (l .used + l .next) (length (P g)) (P g) (le-refl (length (P g))))),
     )
 

@@ -1,7 +1,7 @@
 -- `slices::hash` meets its contract. The invariant: the hash is that of h and the bytes from i on. The measure is what is left of the bytes.
 -- Assumes nothing.
 use mathlib.Core.Path.{_≡_, refl, sym, ap, _∙_}
-use Prim.Native.Nat.{ℕ, _≤_, _<_, _-_, _+_}
+use Prim.Native.Nat.{ℕ, _≤_, _-_, _+_}
 use native.Mathlib.Omega.{arith}
 use lib.ListN.{length, drop}
 use Rattle.slices.specs.Hash.{mixed, hashFrom}

@@ -1,3 +1,6 @@
+-- `store::append` meets its contract: the store is left with the record of the joined payload. What the variable's record holds and the payload are copied
+-- end to end into a buffer, which has room for both since they are storable; the first bytes of the buffer are then the joined payload, and all that
+-- `write` asks is what was asked here. No cases: what was found is handed on. Assumes nothing.
 use Rattle.store.proofs.Edits.{payload-is}
 use Rattle.store.specs.Store.{recordsOf, hasRoom}
 use Rattle.store.specs.Parts.{variable, payloadIn, Storable}

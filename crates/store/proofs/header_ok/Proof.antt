@@ -24,6 +24,9 @@ shared-slice-read-result-4 c = search needs
 get32-requires-3 : tie.Need-get32-requires-3
 get32-requires-3 c κs = search needs
 
+cast-attributes-ok : tie.Need-cast-attributes-ok
+cast-attributes-ok c = search needs
+
 attributes-ok-requires : tie.Need-attributes-ok-requires
 attributes-ok-requires c κs = search needs
 
@@ -43,5 +46,6 @@ header-ok-spec =
     shared-slice-read-result-3
     shared-slice-read-result-4
     get32-requires-3
+    cast-attributes-ok
     attributes-ok-requires
     returns)

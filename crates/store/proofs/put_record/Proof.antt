@@ -5,14 +5,14 @@ use borrow.Author.Needs.{needs}
 use Rattle.store.proofs.put_record.Statement.{statement}
 use Rattle.store.proofs.put_record.Tie as tie
 
+add-n : tie.Need-add-n
+add-n c = search needs
+
+add-from : tie.Need-add-from
+add-from c = search needs
+
 add-end : tie.Need-add-end
 add-end c = search needs
-
-add-end-2 : tie.Need-add-end-2
-add-end-2 c = search needs
-
-add-header : tie.Need-add-header
-add-header c = search needs
 
 header-requires : tie.Need-header-requires
 header-requires c κs = search needs
@@ -38,8 +38,8 @@ copy-in-requires-3 c κs = search needs
 add-fill : tie.Need-add-fill
 add-fill c = search needs
 
-add-fill-2 : tie.Need-add-fill-2
-add-fill-2 c = search needs
+sub-fill : tie.Need-sub-fill
+sub-fill c = search needs
 
 fill-requires : tie.Need-fill-requires
 fill-requires c κs = search needs
@@ -47,23 +47,17 @@ fill-requires c κs = search needs
 add-copy-in-3 : tie.Need-add-copy-in-3
 add-copy-in-3 c = search needs
 
-add-copy-in-4 : tie.Need-add-copy-in-4
-add-copy-in-4 c = search needs
-
 copy-in-requires-4 : tie.Need-copy-in-requires-4
 copy-in-requires-4 c κs = search needs
 
-add-fill-3 : tie.Need-add-fill-3
-add-fill-3 c = search needs
-
-add-record-size : tie.Need-add-record-size
-add-record-size c = search needs
+add-fill-2 : tie.Need-add-fill-2
+add-fill-2 c = search needs
 
 record-size-requires : tie.Need-record-size-requires
 record-size-requires c κs = search needs
 
-sub-fill : tie.Need-sub-fill
-sub-fill c = search needs
+sub-fill-2 : tie.Need-sub-fill-2
+sub-fill-2 c = search needs
 
 fill-requires-2 : tie.Need-fill-requires-2
 fill-requires-2 c κs = search needs
@@ -90,9 +84,9 @@ pub put-record-spec : {M : Type 1} → statement M
 put-record-spec =
     tie.close
     (tie.spec
+    add-n
+    add-from
     add-end
-    add-end-2
-    add-header
     header-requires
     slice-aggregate-copy-in
     copy-in-requires
@@ -101,15 +95,13 @@ put-record-spec =
     add-copy-in-2
     copy-in-requires-3
     add-fill
-    add-fill-2
+    sub-fill
     fill-requires
     add-copy-in-3
-    add-copy-in-4
     copy-in-requires-4
-    add-fill-3
-    add-record-size
+    add-fill-2
     record-size-requires
-    sub-fill
+    sub-fill-2
     fill-requires-2
     same-length
     returns)

@@ -37,20 +37,26 @@ move-up-requires c κs = search needs
 same-length : tie.Need-same-length
 same-length c = search needs
 
+-- the tail has moved down
+abbrev Go : tie.After-move-down → tie.Start
+Go c = c .before .before .before .before .before
+
 returns-2 : tie.Need-returns-2
 returns-2 c =
-    let g = c .before .before .before .before .before .before .before .before .before .before .before in
-    let a = g .args in
-    cc (resized-down (a .s .now) (a .at) (a .old) (a .new) (a .end) (g .pre .0) (g .pre .1) (g .pre .2) (g .pre .3) (omega arith))
+    let m = c .before .before .before .before .before .before in
+    let a = Go m .args in
+    let p = Go m .pre in
+    resized-down (a .s .now) (a .at) (a .old) (a .new) (a .end) (p .0) (p .1) (p .2) (p .3) (m .move-down .ensures) (omega arith) (c .before .before .fill .ensures)
 
 same-length-2 : tie.Need-same-length-2
 same-length-2 c = search needs
 
 returns-3 : tie.Need-returns-3
 returns-3 c =
-    let g = c .before .before .before .before .before .before .before in
+    let m = c .before .before in
+    let g = m .before .before .before .before .before in
     let a = g .args in
-    cc (resized-up (a .s .now) (a .at) (a .old) (a .new) (a .end) (g .pre .0) (g .pre .1) (g .pre .2) (g .pre .3) (omega arith))
+    resized-up (a .s .now) (a .at) (a .old) (a .new) (a .end) (g .pre .0) (g .pre .1) (g .pre .2) (g .pre .3) (m .move-up .ensures) (omega arith)
 
 pub resize-record-spec : {M : Type 1} → statement M
 resize-record-spec =

@@ -1,3 +1,6 @@
+-- `store::write` meets its contract: the store is left with the variable's record. By what was found: of a record, the room is made as long as the new one,
+-- with what stands behind it moved, and the new one is written there; of none, it is written behind the last. Each is one law of the list of records
+-- (`rewritten`, `created`). Assumes nothing.
 use Rattle.store.proofs.Edits.{end-within, end-free, fits-at-place, fits-behind, rewritten, created}
 use Rattle.store.specs.declared.Found.the-variants.{At, Absent}
 use Rattle.store.specs.PlaceLaws.{place-within}

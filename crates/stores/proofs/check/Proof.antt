@@ -1,4 +1,7 @@
-use Rattle.stores.proofs.Both.{Ends, ends-at, repeated-in, long-first, long-second, repeated-first, repeated-second, check-sound, check-unsound}
+-- `stores::check` meets its contract: what it answers is `pairCheck`. The scans tell that no variable stands twice, in the non-volatile store and then in
+-- both, and where the records end; what is left is that each store is small enough and holds only 0xFF behind its records. By the returns: a store too
+-- long, a variable that stands twice in the first store or in both, and the two tests behind the records. Assumes nothing.
+use Rattle.stores.proofs.Both.{Ended, ends-at, repeated-in, long-first, long-second, repeated-first, repeated-second, check-sound, check-unsound}
 use Rattle.store.specs.Store.{recordsOf}
 use Rattle.slices.specs.ChunksLaws.{nil}
 use Rattle.slices.specs.Chunks.{flat, chunks, chunksFrom, used, distinct}
@@ -21,18 +24,21 @@ empty-requires c κs = search needs
 slice-aggregate-scan : tie.Need-slice-aggregate-scan
 slice-aggregate-scan c = search needs
 
--- what the scans answered
-abbrev Go : tie.After-nv-end → tie.Start
-Go c = c .before .before .before .before .before .before .before .before .before .before
+-- the stores are small enough, and what the scans answered
+abbrev Small : tie.After-nv-end → tie.Else2
+Small c = c .before .before .before .before .before .before
 
-first : (c : tie.After-nv-end) → Ends true (Go c .args .nv .now) [] (c .nv-end .given .0 .0)
+abbrev Go : tie.After-nv-end → tie.Start
+Go c = Small c .before .before .before .before
+
+first : (c : tie.After-nv-end) → Ended true (Go c .args .nv .now) [] (c .nv-end .given .0 .0)
 unfolding chunks chunksFrom
 first c = ends-at true _ _ _ (sym (c .before .before .scan .ensures .0) ∙ c .nv-end .given .1)
 
 abbrev Nv : tie.After-vol-end → tie.After-nv-end
 Nv c = c .before .before .before .before .before
 
-second : (c : tie.After-vol-end) → Ends false (Go (Nv c) .args .vol .now) (recordsOf true (Go (Nv c) .args .nv .now)) (c .vol-end .given .0 .0)
+second : (c : tie.After-vol-end) → Ended false (Go (Nv c) .args .vol .now) (recordsOf true (Go (Nv c) .args .nv .now)) (c .vol-end .given .0 .0)
 second c = ends-at false _ _ _ (sym (c .before .before .scan2 .ensures .0) ∙ c .vol-end .given .1)
 
 scan-requires : tie.Need-scan-requires
@@ -91,13 +97,13 @@ all-are-requires-2 c κs = search needs
 returns-5 : tie.Need-returns-5
 returns-5 c =
     let v = c .before .before .before .before .before .before in
-    let g = Nv v .before .before .before .before .before .before in
+    let g = Small (Nv v) in
     check-sound _ _ (g .before .if1 .left) (g .if2 .left) (first (Nv v) .is) (second v) (c .before .before .before .all-are .ensures) (c .before .all-are2 .ensures) (c .if3 .taken)
 
 returns-6 : tie.Need-returns-6
 returns-6 c =
     let v = c .before .before .before .before .before .before in
-    let g = Nv v .before .before .before .before .before .before in
+    let g = Small (Nv v) in
     check-unsound _ _ (g .before .if1 .left) (g .if2 .left) (first (Nv v) .is) (second v) (c .before .before .before .all-are .ensures) (c .before .all-are2 .ensures) (c .if3 .left)
 
 pub check-spec : {M : Type 1} → statement M

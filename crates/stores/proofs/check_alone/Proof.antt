@@ -1,4 +1,4 @@
-use Rattle.stores.proofs.Both.{Ends, ends-at, repeated-in, long-alone, repeated-alone, check-alone}
+use Rattle.stores.proofs.Both.{Ended, ends-at, repeated-in, long-alone, repeated-alone, check-alone}
 use Rattle.slices.specs.ChunksLaws.{nil}
 use Rattle.slices.specs.Chunks.{flat, chunks, chunksFrom, used, distinct}
 use mathlib.Core.Bool.{true}
@@ -17,11 +17,14 @@ empty-requires c κs = search needs
 slice-aggregate-scan : tie.Need-slice-aggregate-scan
 slice-aggregate-scan c = search needs
 
--- what the scan answered
-abbrev Go : tie.After-end → tie.Start
-Go c = c .before .before .before .before .before .before .before .before
+-- the store is small enough, and what the scan answered
+abbrev Small : tie.After-end → tie.Else1
+Small c = c .before .before .before .before .before .before
 
-first : (c : tie.After-end) → Ends true (Go c .args .nv .now) [] (c .end .given .0 .0)
+abbrev Go : tie.After-end → tie.Start
+Go c = Small c .before .before
+
+first : (c : tie.After-end) → Ended true (Go c .args .nv .now) [] (c .end .given .0 .0)
 unfolding chunks chunksFrom
 first c = ends-at true _ _ _ (sym (c .before .before .scan .ensures .0) ∙ c .end .given .1)
 
@@ -54,7 +57,7 @@ all-are-requires c κs = search needs
 returns-3 : tie.Need-returns-3
 returns-3 c =
     let e = c .before .before .before in
-    check-alone _ (e .before .before .before .before .before .before .if1 .left) (first e) (c .all-are .ensures)
+    check-alone _ (Small e .if1 .left) (first e) (c .all-are .ensures)
 
 pub check-alone-spec : {M : Type 1} → statement M
 check-alone-spec =

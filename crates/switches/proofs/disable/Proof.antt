@@ -1,6 +1,6 @@
 -- `switches::disable` meets its contract: each `return` is a law of `disableAnswer` at the tests that led there. Assumes nothing.
 use mathlib.Core.Path.{_≡_, refl}
-use mathlib.Core.Bool.{Bool, true, false, not}
+use mathlib.Core.Bool.{true, false, not}
 use borrow.Author.Tests.{not-true, not-false}
 use Rattle.status.specs.declared.Status.the-variants.{Success, WriteProtected, AlreadyStarted}
 use Rattle.switches.specs.declared.Switches.{Switches}

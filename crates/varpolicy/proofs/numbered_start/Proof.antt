@@ -6,8 +6,11 @@ use Rattle.varpolicy.proofs.numbered_start.Tie as tie
 number-requires : tie.Need-number-requires
 number-requires c κs = search needs
 
+bytes-of-requires : tie.Need-bytes-of-requires
+bytes-of-requires c κs = search needs
+
 returns : tie.Need-returns
-returns c = rw (c .number .ensures)
+returns c = simp (c .before .number .ensures, c .bytes-of .ensures)
 
 pub numbered-start-spec : {M : Type 1} → statement M
-numbered-start-spec = tie.close (tie.spec number-requires returns)
+numbered-start-spec = tie.close (tie.spec number-requires bytes-of-requires returns)

@@ -1,12 +1,14 @@
--- `varpolicy::varpolicy_lock` meets its contract: it numbers the status of `switches::lock_lent`. Assumes nothing.
+-- `varpolicy::varpolicy_lock` meets its contract: it is the call of the crate switches' `Granted.antt`, over `lock_bytes`. Assumes nothing.
 use mathlib.Core.Path.{refl}
 use Rattle.switches.specs.Switches.{lockAnswer}
-use Rattle.switches.proofs.Numbered.{numbered-met}
-use Rattle.switches.proofs.lock_lent.Symbol as callee
-use Rattle.switches.proofs.lock_lent.Met as callee-met
+use Rattle.switches.specs.SwitchBytes.{lockedBytes, lockBytes}
+use Rattle.switches.specs.SwitchBytesLaws.{lock-left}
+use Rattle.switches.proofs.Granted.{granted-met}
 use Rattle.rules.specs.Engine.Call.{lock}
 use Rattle.engine.proofs.Registered.{lock-step}
-use Rattle.varpolicy.proofs.Lent.{stepped}
+use Rattle.varpolicy.proofs.Lent.{Does, does}
+use Rattle.varpolicy.proofs.lock_bytes.Symbol as callee
+use Rattle.varpolicy.proofs.lock_bytes.Met as callee-met
 use Rattle.varpolicy.proofs.varpolicy_lock.Key.{name}
 use Rattle.varpolicy.proofs.varpolicy_lock.Statement.{statement}
 use Rattle.varpolicy.proofs.varpolicy_lock.Code as code
@@ -14,6 +16,5 @@ use Rattle.varpolicy.proofs.varpolicy_lock.Code as code
 pub varpolicy-lock-spec : {M : Type 1} → statement M
 unfolding code.routine
 varpolicy-lock-spec 𝓤 H 𝓜 𝓖 𝓡 =
-    stepped lockAnswer lock (λ w. lock-step w refl) 𝓤 H 𝓜 𝓖 𝓡 (code.env name)
-    (numbered-met 𝓤 H 𝓜 𝓖 𝓡 lockAnswer code.env name callee.name (code.unfolded 𝓤 H 𝓜 𝓡)
-    callee.routine code.calls-switches·lock-lent (callee-met.met 𝓤 H 𝓜 𝓖 𝓡) code.calls-status·number)
+    granted-met 𝓤 H 𝓜 𝓖 𝓡 lockBytes (Does lock lockedBytes) (does lock lockAnswer lockedBytes (λ w. lock-step w refl) lock-left) code.env name callee.name
+    (code.unfolded 𝓤 H 𝓜 𝓡) callee.routine code.calls-varpolicy·lock-bytes (callee-met.met 𝓤 H 𝓜 𝓖 𝓡)

@@ -1,8 +1,11 @@
 -- `varpolicy::varpolicy_register` meets its contract, by `engine::register`. Assumes nothing.
 use borrow.Author.Needs.{needs}
-use Rattle.varpolicy.proofs.Answers.{status-numbered}
+use Rattle.varpolicy.proofs.Answers.{status-at}
 use Rattle.varpolicy.proofs.varpolicy_register.Statement.{statement}
 use Rattle.varpolicy.proofs.varpolicy_register.Tie as tie
+
+switches-of-requires : tie.Need-switches-of-requires
+switches-of-requires c κs = search needs
 
 register-requires : tie.Need-register-requires
 register-requires c κs = search needs
@@ -14,8 +17,11 @@ same-length : tie.Need-same-length
 same-length c = search needs
 
 returns : tie.Need-returns
-returns c = λ nv vol. status-numbered _ (c .before .before .before .register .ensures nv vol) (c .number .ensures)
+returns c =
+    λ nv vol. status-at (c .before .before .before .before .switches-of .ensures) _ _ _ _ _ _ _ _
+    (c .before .before .before .register .ensures nv vol) (c .number .ensures)
 
 pub varpolicy-register-spec : {M : Type 1} → statement M
 varpolicy-register-spec =
-    tie.close (tie.spec register-requires number-requires same-length returns)
+    tie.close
+    (tie.spec switches-of-requires register-requires number-requires same-length returns)

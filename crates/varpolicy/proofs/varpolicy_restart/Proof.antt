@@ -1,8 +1,12 @@
 -- `varpolicy::varpolicy_restart` meets its contract, by `engine::restart`. Assumes nothing.
 use borrow.Author.Needs.{needs}
+use Rattle.rules.specs.Engine.Call.{restart}
 use Rattle.varpolicy.proofs.Answers.{start-numbered}
 use Rattle.varpolicy.proofs.varpolicy_restart.Statement.{statement}
 use Rattle.varpolicy.proofs.varpolicy_restart.Tie as tie
+
+gives-leave-requires : tie.Need-gives-leave-requires
+gives-leave-requires c κs = search needs
 
 restart-requires : tie.Need-restart-requires
 restart-requires c κs = search needs
@@ -14,8 +18,11 @@ same-length : tie.Need-same-length
 same-length c = search needs
 
 returns : tie.Need-returns
-returns c = λ w. start-numbered _ _ _ w _ (c .before .before .before .restart .ensures w) (c .numbered-start .ensures)
+returns c =
+    λ w. start-numbered _ _ _ w _ restart _ (c .before .before .before .before .gives-leave .ensures)
+    (c .before .before .before .restart .ensures w) (c .numbered-start .ensures)
 
 pub varpolicy-restart-spec : {M : Type 1} → statement M
 varpolicy-restart-spec =
-    tie.close (tie.spec restart-requires numbered-start-requires same-length returns)
+    tie.close
+    (tie.spec gives-leave-requires restart-requires numbered-start-requires same-length returns)

@@ -1,8 +1,11 @@
 -- `varpolicy::varpolicy_set` meets its contract, by `engine::set`. Assumes nothing.
 use borrow.Author.Needs.{needs}
-use Rattle.varpolicy.proofs.Answers.{status-numbered}
+use Rattle.varpolicy.proofs.Answers.{status-at}
 use Rattle.varpolicy.proofs.varpolicy_set.Statement.{statement}
 use Rattle.varpolicy.proofs.varpolicy_set.Tie as tie
+
+switches-of-requires : tie.Need-switches-of-requires
+switches-of-requires c κs = search needs
 
 set-requires : tie.Need-set-requires
 set-requires c κs = search needs
@@ -17,8 +20,11 @@ same-length-2 : tie.Need-same-length-2
 same-length-2 c = search needs
 
 returns : tie.Need-returns
-returns c = status-numbered _ (c .before .before .before .before .before .set .ensures) (c .number .ensures)
+returns c =
+    status-at (c .before .before .before .before .before .before .before .switches-of .ensures) _ _ _ _ _ _ _ _
+    (c .before .before .before .before .before .set .ensures) (c .number .ensures)
 
 pub varpolicy-set-spec : {M : Type 1} → statement M
 varpolicy-set-spec =
-    tie.close (tie.spec set-requires number-requires same-length same-length-2 returns)
+    tie.close
+    (tie.spec switches-of-requires set-requires number-requires same-length same-length-2 returns)

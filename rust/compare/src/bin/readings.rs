@@ -1,5 +1,5 @@
-//! The bench readings of document 01, each run by the library and by the reference. The starred ones
-//! are proved as well; the last three are not, and this program is what checks them.
+//! The bench readings (docs/RULES.md, 13), each run by the library and by the reference. The last three are
+//! not proved, and this program is what checks them.
 
 use compare::call::{Answer, Call, Values, by_library, by_reference};
 use compare::make::{EntryFields, G, entry_of_size, unit_bytes, units};
@@ -14,23 +14,23 @@ type Implementation = fn(&mut State, &Call) -> Answer;
 type Reading = (&'static str, fn(Implementation) -> Vec<u32>, &'static [u32]);
 
 const READINGS: [Reading; 13] = [
-    ("*43 bytes: 2. A sound 44-byte entry: 0.", least_entry, &[2, 0]),
-    ("*Type 0, Size 46, name only a zero unit: 2.", zero_unit_name, &[2]),
-    ("*Type 3 with OffsetToName 64: 2; with 66 and one unit: 0.", trigger_name, &[2, 0]),
-    ("*\"Boot####\" targets \"Boot00fF\" and \"Boot####\", not \"Boot000G\".", wildcards, &[8, 8, 0]),
+    ("an entry of 43 bytes, one of 44", least_entry, &[2, 0]),
+    ("a name of no units, closed", zero_unit_name, &[2]),
+    ("a trigger's name of no units, of one", trigger_name, &[2, 0]),
+    ("'#' over hex digits, over itself, over another letter", wildcards, &[8, 8, 0]),
     (
-        "*\"Boot00##\" then \"Boot##01\": \"Boot0001\" gets the first. Whole namespace first, then \"Boot####\": the second.",
+        "one rank: the first registered, locking or not; a whole namespace speaks last, locking or not",
         ranks,
         &[8, 0, 0, 8],
     ),
-    ("*Value 0: trigger absent, write allowed; trigger 00, 8; trigger 00 00, allowed.", triggers, &[0, 8, 0]),
-    ("*Type 2: create 0, rewrite 8, delete 8.", lock_on_create, &[0, 8, 8]),
-    ("*MinSize 2: one byte 2, two bytes 0, then delete 0.", min_size, &[2, 0, 0]),
-    ("*Attributes 4: 2. Attributes 8: 3.", attributes, &[2, 3]),
-    ("*Disable, lock: 0, 0. Lock, disable: 0, 8. Disable twice: 0, 20.", switches, &[0, 0, 0, 8, 0, 20]),
-    ("A 40-byte store: name \"A\" with 4 bytes 0; with 5 bytes 9.", forty_bytes, &[0, 9]),
-    ("Twenty-five entries of 322 and one of 142 make 8,192: all 0; another 9.", full_record, &[0, 8192, 9]),
-    ("The whole dump of two entries, 94 bytes.", whole_dump, &[0, 94, 1]),
+    ("a trigger with Value 0: absent, one byte 0, two bytes 0", triggers, &[0, 8, 0]),
+    ("lock on create: create, rewrite, delete", lock_on_create, &[0, 8, 8]),
+    ("MinSize 2: one byte, two, a deletion", min_size, &[2, 0, 0]),
+    ("RT without BS; an unknown bit", attributes, &[2, 3]),
+    ("disable and lock, lock and disable, disable twice", switches, &[0, 0, 0, 8, 0, 20]),
+    ("an empty store of 40 bytes: a record of 40, one of 44", forty_bytes, &[0, 9]),
+    ("26 entries that sum to 8,192, and one more", full_record, &[0, 8192, 9]),
+    ("the dump of two entries, 94 bytes", whole_dump, &[0, 94, 1]),
 ];
 
 fn main() -> ExitCode {
@@ -58,7 +58,7 @@ impl Bench {
         let store = vec![0xFF; store_len];
         let state = State::new(&store, &store, &[0; POLICY_BYTES]);
         let mut bench = Bench { state, implementation };
-        assert_eq!(bench.call(&Call::PowerOn { disabling_allowed: true }), 0);
+        assert_eq!(bench.call(&Call::PowerOn { disabling_allowed: 1 }), 0);
         bench
     }
 
@@ -183,7 +183,7 @@ fn full_record(implementation: Implementation) -> Vec<u32> {
     vec![highest, sum as u32, bench.call(&Call::Register { entry: entry_of_size(44, 26) })]
 }
 
-/// The status, the length, and 1 if the bytes are document 01's, later bytes untouched.
+/// The status, the length, and 1 if the bytes are the expected ones, later bytes untouched.
 fn whole_dump(implementation: Implementation) -> Vec<u32> {
     const DUMP: &str = "00 00 01 00 2C 00 2C 00 G 00 00 00 00 FF FF FF FF 00 00 00 00 00 00 00 00 01 00 00 00 \
                         00 00 01 00 32 00 2C 00 G 00 00 00 00 FF FF FF FF 00 00 00 00 00 00 00 00 00 00 00 00 \

@@ -201,6 +201,14 @@ pub fn switch_labels() -> Vec<String> {
     CALLS.iter().flat_map(|call| (0..8).map(move |bits| format!("{call} {bits:03b}"))).collect()
 }
 
+pub(super) const CALLS_ON_BYTES: [&str; 5] = ["register", "lock", "disable", "query", "set"];
+
+/// Every byte that says a switch, for every call that is given it.
+pub fn switch_byte_labels() -> Vec<String> {
+    let starts = ["power-on, disabling allowed", "restart, disabling allowed"].map(str::to_string);
+    [starts.to_vec(), crossed(&CALLS_ON_BYTES, &["enabled", "locked", "disabling allowed"])].concat()
+}
+
 /// Every type of lock, with where the variable is, for deletions and others.
 pub fn lock_labels() -> Vec<String> {
     let types = ["no lock", "lock now", "lock on create", "lock on state"];

@@ -8,13 +8,14 @@ use crate::call::Call;
 use crate::coverage::{Coverage, Input};
 use crate::state::State;
 use crate::steps;
-use labels::{CALLS, DATA_SIZES, NAME_SIZES, START};
-use reference::{Entry, MAX_ENTRIES, Pair, Policy};
-use varpolicy::{MAX_STORE_BYTES, POLICY_BYTES, Switches};
+use labels::{CALLS, CALLS_ON_BYTES, DATA_SIZES, NAME_SIZES, START};
+use reference::{Entry, MAX_ENTRIES, Pair, Policy, Switches};
+use varpolicy::{MAX_STORE_BYTES, POLICY_BYTES};
 
 /// Counts what a call is given.
 pub fn count(coverage: &mut Coverage, state: &State, call: &Call) {
-    count_switches(coverage, state.switches, call.name());
+    count_switches(coverage, state.read_switches(), call.name());
+    count_switch_bytes(coverage, state, call);
     match call {
         Call::PowerOn { .. } => count_start(coverage, state, 0),
         Call::Restart { .. } => count_start(coverage, state, START.len() / 2),
@@ -59,6 +60,26 @@ fn count_switches(coverage: &mut Coverage, switches: Switches, call: &str) {
     }
 }
 
+/// Counts the bytes that are neither 0 nor 1, of the calls that are given them.
+fn count_switch_bytes(coverage: &mut Coverage, state: &State, call: &Call) {
+    let other = |byte: u8| byte > 1;
+    match call {
+        Call::PowerOn { disabling_allowed } => {
+            count_if(coverage, Input::SwitchBytes, &[other(*disabling_allowed)], 0);
+        }
+        Call::Restart { disabling_allowed } => {
+            count_if(coverage, Input::SwitchBytes, &[other(*disabling_allowed)], 1);
+        }
+        _ => {
+            let bytes = state.switches;
+            let others = [bytes.enabled, bytes.locked, bytes.disabling_allowed].map(other);
+            if let Some(place) = CALLS_ON_BYTES.iter().position(|known| *known == call.name()) {
+                count_if(coverage, Input::SwitchBytes, &others, 2 + 3 * place);
+            }
+        }
+    }
+}
+
 fn count_start(coverage: &mut Coverage, state: &State, first_label: usize) {
     let alone = |nv: &[u8], volatile: &[u8]| Pair::decode(nv, volatile).is_some();
     let (nv, volatile) = (&state.nv[..], &state.volatile[..]);
@@ -86,7 +107,7 @@ fn count_start(coverage: &mut Coverage, state: &State, first_label: usize) {
 fn count_registration(coverage: &mut Coverage, state: &State, entry: &[u8]) {
     count_packed_names(coverage, entry);
     let decoded = Entry::decode(entry);
-    let locked = state.switches.locked;
+    let locked = state.read_switches().locked;
     let Some(policy) = Policy::decode(&state.policy) else {
         return;
     };

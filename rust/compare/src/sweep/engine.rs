@@ -6,7 +6,7 @@ use crate::call::Call;
 use crate::make::{EntryFields, G, entry_of_size, packed, record, units};
 use crate::state::State;
 use std::slice::from_ref;
-use varpolicy::{MAX_STORE_BYTES, POLICY_BYTES, Switches};
+use varpolicy::{MAX_STORE_BYTES, POLICY_BYTES, SwitchBytes};
 
 pub(super) fn run(sweep: &mut Sweep) -> Outcome {
     switches(sweep)?;
@@ -14,9 +14,9 @@ pub(super) fn run(sweep: &mut Sweep) -> Outcome {
     dumps(sweep)
 }
 
-/// Every setting of the switches.
-fn settings() -> impl Iterator<Item = Switches> {
-    (0..8).map(|bits| Switches { enabled: bits & 4 != 0, locked: bits & 2 != 0, disabling_allowed: bits & 1 != 0 })
+/// Every setting of the switches by 0 and 1.
+pub(super) fn settings() -> impl Iterator<Item = SwitchBytes> {
+    (0..8).map(|bits| SwitchBytes { enabled: bits >> 2 & 1, locked: bits >> 1 & 1, disabling_allowed: bits & 1 })
 }
 
 /// Every call under every setting of the switches.
@@ -26,10 +26,10 @@ fn switches(sweep: &mut Sweep) -> Outcome {
         let entries = [locking(G, &units("A"))];
         let state = State { switches, ..super::state(&nv, ERASED, &entries) };
         let calls = [
-            Call::PowerOn { disabling_allowed: true },
-            Call::PowerOn { disabling_allowed: false },
-            Call::Restart { disabling_allowed: true },
-            Call::Restart { disabling_allowed: false },
+            Call::PowerOn { disabling_allowed: 1 },
+            Call::PowerOn { disabling_allowed: 0 },
+            Call::Restart { disabling_allowed: 1 },
+            Call::Restart { disabling_allowed: 0 },
             register(entry("B").pack()),
             register(entry("A").pack()),
             register(vec![0; 44]),
@@ -83,7 +83,7 @@ fn starts(sweep: &mut Sweep) -> Outcome {
         for volatile in &volatile {
             let heavy = nv.len() + volatile.len() > MAX_STORE_BYTES;
             for policy in policies.iter().take(if heavy { 2 } else { policies.len() }) {
-                for disabling_allowed in [false, true] {
+                for disabling_allowed in [0, 1] {
                     let start = [Call::PowerOn { disabling_allowed }, Call::Restart { disabling_allowed }];
                     sweep.each(&State::new(nv, volatile, policy), start)?;
                 }

@@ -6,7 +6,7 @@ use crate::call::Call;
 use crate::make::{EntryFields, G, entry_of_size, packed, units};
 use crate::state::{Guarded, State};
 use std::slice::from_ref;
-use varpolicy::{MAX_ENTRIES, POLICY_BYTES, Switches};
+use varpolicy::{MAX_ENTRIES, POLICY_BYTES, SwitchBytes};
 
 pub(super) fn run(sweep: &mut Sweep) -> Outcome {
     bits(sweep)?;
@@ -135,7 +135,7 @@ fn limits(sweep: &mut Sweep) -> Outcome {
     for entries in records {
         let mut state = engine(&entries);
         for locked in [false, true] {
-            state.switches.locked = locked;
+            state.switches.locked = locked.into();
             let fresh = [44, 48, 50, 52, 98, 126, 128, 130, 138, 140, 142, 144, 146, 322];
             let fresh = fresh.map(|size| entry_of_size(size, MAX_ENTRIES));
             let malformed = entries.iter().chain(&fresh).map(|entry| malformed(entry));
@@ -169,9 +169,9 @@ fn lent_record() -> [Call; 6] {
 fn over_record(sweep: &mut Sweep, record: &[u8]) -> Outcome {
     let state = State { policy: Guarded::new(record, 3), ..engine(&[]) };
     sweep.each(&state, lent_record())?;
-    let locked = State { switches: Switches { locked: true, ..state.switches }, ..state.clone() };
+    let locked = State { switches: SwitchBytes { locked: 1, ..state.switches }, ..state.clone() };
     sweep.each(&locked, [register(entry_of_size(44, 99))])?;
-    let disabled = State { switches: Switches { enabled: false, ..state.switches }, ..state };
+    let disabled = State { switches: SwitchBytes { enabled: 0, ..state.switches }, ..state };
     sweep.each(&disabled, [delete(&units("AB")), register(entry_of_size(44, 99))])
 }
 

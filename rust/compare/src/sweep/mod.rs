@@ -1,5 +1,5 @@
 //! The part of every comparison that leaves nothing to chance: each bit, unit, length, limit and order of
-//! document 01, tried one by one. It is the same in every run.
+//! the rules, and each byte of the switches, tried one by one. It is the same in every run.
 
 mod choices;
 mod engine;
@@ -7,12 +7,13 @@ mod entries;
 mod names;
 mod sets;
 mod stores;
+mod switches;
 
 use crate::call::Call;
 use crate::comparison::{Comparison, Sides};
 use crate::make::{EntryFields, G, closed, packed, unit_bytes, units};
 use crate::state::State;
-use varpolicy::{Namespace, Switches};
+use varpolicy::{Namespace, SwitchBytes};
 
 /// Makes all calls of the sweep, or tells the first difference in words.
 pub fn run(comparison: &mut Comparison) -> Result<(), String> {
@@ -24,13 +25,14 @@ type Outcome = Result<(), String>;
 
 type Part = (&'static str, fn(&mut Sweep) -> Outcome);
 
-const PARTS: [Part; 6] = [
+const PARTS: [Part; 7] = [
     ("entries", entries::run),
     ("engine", engine::run),
     ("choices", choices::run),
     ("sets", sets::run),
     ("stores", stores::run),
     ("names", names::run),
+    ("switches", switches::run),
 ];
 
 struct Sweep<'a> {
@@ -60,7 +62,7 @@ impl Sweep<'_> {
 const ERASED: &[u8] = &[0xFF; 128];
 
 /// The switches of an engine that is enabled, unlocked and may be disabled.
-const OPEN: Switches = Switches { enabled: true, locked: false, disabling_allowed: true };
+const OPEN: SwitchBytes = SwitchBytes { enabled: 1, locked: 0, disabling_allowed: 1 };
 
 /// An open engine over these stores, with these entries.
 fn state(nv: &[u8], volatile: &[u8], entries: &[Vec<u8>]) -> State {

@@ -207,7 +207,7 @@ fn steps_at_once(sweep: &mut Sweep) -> Outcome {
             let mut state = state(&nv, &volatile, &[fields.pack()]);
             sweep.each(&state, requests())?;
             if fields.lock_type == 1 && fields.min_size == 2 {
-                state.switches.enabled = false;
+                state.switches.enabled = 0;
                 sweep.each(&state, requests())?;
             }
         }

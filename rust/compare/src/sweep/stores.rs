@@ -24,8 +24,8 @@ pub(super) fn run(sweep: &mut Sweep) -> Outcome {
 fn lent_stores() -> [Call; 8] {
     let name = units("AB");
     [
-        Call::PowerOn { disabling_allowed: true },
-        Call::Restart { disabling_allowed: true },
+        Call::PowerOn { disabling_allowed: 1 },
+        Call::Restart { disabling_allowed: 1 },
         read(&name),
         read(&[]),
         read(&units("?")),
@@ -153,7 +153,7 @@ fn long_ends(sweep: &mut Sweep) -> Outcome {
         for place in [record.len(), 256, 4095, 20_000, len - 2, len - 1] {
             let mut bytes = bytes.clone();
             bytes[place] = 0xFE;
-            sweep.each(&state(&bytes, ERASED, &[]), [Call::Restart { disabling_allowed: true }])?;
+            sweep.each(&state(&bytes, ERASED, &[]), [Call::Restart { disabling_allowed: 1 }])?;
         }
     }
     Ok(())

@@ -1,4 +1,5 @@
-//! The wrong programs: edits of the reference, each of which breaks one rule of document 01.
+//! The wrong programs: edits of the reference, each of which breaks one of the rules (docs/RULES.md) or of the
+//! switches' bytes.
 //!
 //! No edit makes an equivalent program. The obvious ones that would, and are missing for that reason: step 1's
 //! name after its payload, step 4's size after its attributes, and step 8 after step 9 (one status each, and
@@ -13,6 +14,7 @@ mod name;
 mod policy;
 mod set;
 mod store;
+mod switches;
 
 /// An edit of one file of the reference.
 pub struct Edit {
@@ -41,7 +43,7 @@ impl Edit {
 }
 
 /// The edits of each file in `reference/src`.
-const FILES: [(&str, &[Edit]); 8] = [
+const FILES: [(&str, &[Edit]); 9] = [
     ("lib.rs", limits::EDITS),
     ("cursor.rs", limits::CURSOR_EDITS),
     ("name.rs", name::EDITS),
@@ -50,6 +52,7 @@ const FILES: [(&str, &[Edit]); 8] = [
     ("store.rs", store::EDITS),
     ("engine.rs", calls::EDITS),
     ("engine.rs", set::EDITS),
+    ("switches.rs", switches::EDITS),
 ];
 
 /// All edits, each with its file.

@@ -1,0 +1,218 @@
+-- What is decided of a set, step by step, and what each decision says of its request. Assumes nothing.
+use Prim.Native.Nat.{ℕ, _≤_}
+use mathlib.Core.Path.{_≡_, refl, sym, subst, _∙_}
+use mathlib.Core.List.{[], _∷_}
+use mathlib.Core.Bool.{Bool, true, false, not, _||_, cond, true≢false, false≢true}
+use mathlib.Core.Option.{Option}
+use native.Mathlib.Omega.{arith}
+use lib.ListN.{length}
+use lib.Dec.{ltb}
+use borrow.Author.Tests.{ltb-false}
+use Rattle.limits.specs.Limits.{maxPayload}
+use Rattle.slices.specs.Test.{_and_}
+use Rattle.slices.specs.Bytes.{Bytes}
+use Rattle.names.specs.Name.{named}
+use Rattle.store.specs.Record.{hasNV, hasBS, hasRT, hasAppend}
+use Rattle.store.specs.Store.{hasRoom}
+use Rattle.stores.specs.Pair.{lookup}
+use Rattle.status.specs.declared.Status.{Status}
+use Rattle.status.specs.declared.Status.the-variants.{Success, InvalidParameter, Unsupported, OutOfResources, NotFound}
+use Rattle.status.specs.Status.{isSuccess}
+use Rattle.rules.specs.declared.Ground.{Ground}
+use Rattle.rules.specs.declared.Ground.the-variants.{NoGround, SizeGround, AttributeGround, LockGround}
+use Rattle.rules.specs.declared.Decision.{Decision}
+use Rattle.rules.specs.declared.Decision.the-variants.{Refuse, Block, Delete, Keep, Store}
+use Rattle.rules.specs.Set.{Request, exists, isEmpty, badRequest, unsupportedBit, needsBS, requestStatus, groundStatus, groundBy, isDeletion, otherAttributes, isEmptyAppend, payloadAfter, recordAfter, storeOf, writeDecision, refuseOr, blockOr, decision, decisionStatus}
+
+-- ---- the decision, by where its steps end
+
+module _ (speaking : Option Bytes) (nv vol : Bytes) (r : Request) where
+  -- at steps 1 to 3
+  pub decision-refused : (n : Status) → requestStatus r ≡ n → isSuccess n ≡ false → decision speaking nv vol r ≡ Refuse n
+  unfolding decision
+  decision-refused n e h = rw (e, h)
+
+  -- at step 4
+  pub decision-blocked : (g : Ground) → isSuccess (requestStatus r) ≡ true → groundBy speaking (lookup nv vol) r ≡ g → isSuccess (groundStatus g) ≡ false
+      → decision speaking nv vol r ≡ Block g
+  unfolding decision
+  decision-blocked g h e b = rw (h, e) (go g b)
+    where
+      go : (g : Ground) → isSuccess (groundStatus g) ≡ false → blockOr g (writeDecision nv vol (lookup nv vol (r .variable)) r) ≡ Block g
+      go NoGround b = absurd (true≢false b)
+      go SizeGround b = refl
+      go AttributeGround b = refl
+      go LockGround b = refl
+
+  -- at steps 5 to 9
+  pub decision-written : isSuccess (requestStatus r) ≡ true → groundBy speaking (lookup nv vol) r ≡ NoGround
+      → decision speaking nv vol r ≡ writeDecision nv vol (lookup nv vol (r .variable)) r
+  unfolding decision
+  decision-written h e = rw (h, e)
+
+-- ---- which step ends it, and what the steps before it found
+
+-- steps 1 to 3
+data Asked (r : Request) : Status → Type 0 where
+  badName : named (r .variable) ≡ false → Asked r InvalidParameter
+  tooLong : named (r .variable) ≡ true → ltb maxPayload (length (r .payload)) ≡ true → Asked r InvalidParameter
+  unsupported : named (r .variable) ≡ true → ltb maxPayload (length (r .payload)) ≡ false → unsupportedBit (r .attributes) ≡ true → Asked r Unsupported
+  withoutBS : named (r .variable) ≡ true → ltb maxPayload (length (r .payload)) ≡ false → unsupportedBit (r .attributes) ≡ false
+      → needsBS (r .attributes) ≡ true → Asked r InvalidParameter
+  taken : named (r .variable) ≡ true → ltb maxPayload (length (r .payload)) ≡ false → unsupportedBit (r .attributes) ≡ false
+      → needsBS (r .attributes) ≡ false → Asked r Success
+
+asked : (r : Request) → Asked r (requestStatus r)
+unfolding requestStatus badRequest
+asked r = go _ _ _ _ refl refl refl refl
+  where
+    go : (n l u b : Bool) → named (r .variable) ≡ n → ltb maxPayload (length (r .payload)) ≡ l → unsupportedBit (r .attributes) ≡ u → needsBS (r .attributes) ≡ b
+        → Asked r (cond (not n || l) InvalidParameter (cond u Unsupported (cond b InvalidParameter Success)))
+    go false l u b e f g h = badName e
+    go true true u b e f g h = tooLong e f
+    go true false true b e f g h = unsupported e f g
+    go true false false true e f g h = withoutBS e f g h
+    go true false false false e f g h = taken e f g h
+
+-- steps 5 to 9; `found` is what was found of the request's variable
+data Written (nv vol : Bytes) (found : Option Bytes) (r : Request) : Decision → Type 0 where
+  absent : isDeletion (r .attributes) (r .payload) ≡ true → exists found ≡ false → Written nv vol found r (Refuse NotFound)
+  deleted : isDeletion (r .attributes) (r .payload) ≡ true → exists found ≡ true → Written nv vol found r Delete
+  other : isDeletion (r .attributes) (r .payload) ≡ false → otherAttributes found (r .attributes) ≡ true → Written nv vol found r (Refuse InvalidParameter)
+  kept : isDeletion (r .attributes) (r .payload) ≡ false → otherAttributes found (r .attributes) ≡ false
+      → isEmptyAppend (r .attributes) (r .payload) ≡ true → Written nv vol found r Keep
+  joinedTooLong : isDeletion (r .attributes) (r .payload) ≡ false → otherAttributes found (r .attributes) ≡ false
+      → isEmptyAppend (r .attributes) (r .payload) ≡ false → ltb maxPayload (length (payloadAfter found (r .attributes) (r .payload))) ≡ true
+      → Written nv vol found r (Refuse OutOfResources)
+  noRoom : isDeletion (r .attributes) (r .payload) ≡ false → otherAttributes found (r .attributes) ≡ false
+      → isEmptyAppend (r .attributes) (r .payload) ≡ false → ltb maxPayload (length (payloadAfter found (r .attributes) (r .payload))) ≡ false
+      → hasRoom (hasNV (r .attributes)) (storeOf (r .attributes) nv vol) (r .variable) (recordAfter found r) ≡ false
+      → Written nv vol found r (Refuse OutOfResources)
+  stored : isDeletion (r .attributes) (r .payload) ≡ false → otherAttributes found (r .attributes) ≡ false
+      → isEmptyAppend (r .attributes) (r .payload) ≡ false → ltb maxPayload (length (payloadAfter found (r .attributes) (r .payload))) ≡ false
+      → hasRoom (hasNV (r .attributes)) (storeOf (r .attributes) nv vol) (r .variable) (recordAfter found r) ≡ true
+      → Written nv vol found r Store
+
+written : (nv vol : Bytes) (found : Option Bytes) (r : Request) → Written nv vol found r (writeDecision nv vol found r)
+unfolding writeDecision
+written nv vol found r = go _ _ _ _ _ _ refl refl refl refl refl refl
+  where
+    go : (d x o e b m : Bool) → isDeletion (r .attributes) (r .payload) ≡ d → exists found ≡ x → otherAttributes found (r .attributes) ≡ o
+        → isEmptyAppend (r .attributes) (r .payload) ≡ e → ltb maxPayload (length (payloadAfter found (r .attributes) (r .payload))) ≡ b
+        → hasRoom (hasNV (r .attributes)) (storeOf (r .attributes) nv vol) (r .variable) (recordAfter found r) ≡ m
+        → Written nv vol found r (cond d (cond x Delete (Refuse NotFound)) (cond o (Refuse InvalidParameter) (cond e Keep (cond b (Refuse OutOfResources) (cond m Store (Refuse OutOfResources))))))
+    go true true o e b m dd xx oo ee bb mm = deleted dd xx
+    go true false o e b m dd xx oo ee bb mm = absent dd xx
+    go false x true e b m dd xx oo ee bb mm = other dd oo
+    go false x false true b m dd xx oo ee bb mm = kept dd oo ee
+    go false x false false true m dd xx oo ee bb mm = joinedTooLong dd oo ee bb
+    go false x false false false true dd xx oo ee bb mm = stored dd oo ee bb mm
+    go false x false false false false dd xx oo ee bb mm = noRoom dd oo ee bb mm
+
+-- ---- what follows for a set that stores
+
+-- no deletion and no empty append: there is something to store
+payload-some : (a : ℕ) (payload : Bytes) → isDeletion a payload ≡ false → isEmptyAppend a payload ≡ false → 1 ≤ length payload
+unfolding isDeletion isEmptyAppend isEmpty _and_
+payload-some a (b ∷ l) d e = omega arith
+payload-some a [] d e = go (hasAppend a) d e
+  where
+    go : (p : Bool) → (not p and true) ≡ false → (p and true) ≡ false → _≤_ 1 0
+    go true d e = absurd (true≢false e)
+    go false d e = absurd (true≢false d)
+
+-- a set that is no deletion and passed step 3 has BS
+has-bs : (a : ℕ) (payload : Bytes) → isDeletion a payload ≡ false → needsBS a ≡ false → hasBS a ≡ true
+unfolding isDeletion needsBS _and_
+has-bs a payload d n = go (hasAppend a) (isEmpty payload) (hasBS a) (hasRT a) d n
+  where
+    go : (p e b t : Bool) → (not p and (e || not (b || t))) ≡ false → ((t || p) and not b) ≡ false → b ≡ true
+    go p e true t d n = refl
+    go true e false true d n = absurd (true≢false n)
+    go true e false false d n = absurd (true≢false n)
+    go false e false true d n = absurd (true≢false n)
+    go false true false false d n = absurd (true≢false d)
+    go false false false false d n = absurd (true≢false d)
+
+-- ---- what each decision says
+
+-- a set that stores
+pub record Stored (nv vol : Bytes) (found : Option Bytes) (r : Request) : Type 0 where
+  pub writes : isDeletion (r .attributes) (r .payload) ≡ false
+  pub joins : isEmptyAppend (r .attributes) (r .payload) ≡ false
+  pub called : named (r .variable) ≡ true
+  pub bs : hasBS (r .attributes) ≡ true
+  pub some : 1 ≤ length (r .payload)
+  pub most : length (r .payload) ≤ maxPayload
+  pub alike : otherAttributes found (r .attributes) ≡ false
+  pub within : length (payloadAfter found (r .attributes) (r .payload)) ≤ maxPayload
+  pub room : hasRoom (hasNV (r .attributes)) (storeOf (r .attributes) nv vol) (r .variable) (recordAfter found r) ≡ true
+
+module _ (nv vol : Bytes) (found : Option Bytes) (r : Request) where
+  abbrev pub Facts : Decision → Type 0
+  Facts (Refuse n) = isSuccess n ≡ false
+  Facts (Block g) = isSuccess (groundStatus g) ≡ false
+  Facts Delete = isDeletion (r .attributes) (r .payload) ≡ true
+  Facts Keep = (isDeletion (r .attributes) (r .payload) ≡ false) × (isEmptyAppend (r .attributes) (r .payload) ≡ true)
+  Facts Store = Stored nv vol found r
+
+  write-facts : {n : Status} {d : Decision} → Asked r n → isSuccess n ≡ true → Written nv vol found r d → Facts d
+  write-facts q h (deleted d x) = d
+  write-facts q h (absent d x) = refl
+  write-facts q h (other d o) = refl
+  write-facts q h (kept d o e) = (d, e)
+  write-facts q h (joinedTooLong d o e b) = refl
+  write-facts q h (noRoom d o e b m) = refl
+  write-facts (badName k) h (stored d o e b m) = absurd (false≢true h)
+  write-facts (tooLong k l) h (stored d o e b m) = absurd (false≢true h)
+  write-facts (unsupported k l u) h (stored d o e b m) = absurd (false≢true h)
+  write-facts (withoutBS k l u n) h (stored d o e b m) = absurd (false≢true h)
+  write-facts (taken k l u n) h (stored d o e b m) =
+      record {
+        writes = d;
+        joins = e;
+        called = k;
+        bs = has-bs (r .attributes) (r .payload) d n;
+        some = payload-some (r .attributes) (r .payload) d e;
+        most = ltb-false _ _ l;
+        alike = o;
+        within = ltb-false _ _ b;
+        room = m;
+      }
+
+  block-facts : (g : Ground) (d : Decision) → Facts d → Facts (blockOr g d)
+  block-facts NoGround d f = f
+  block-facts SizeGround d f = refl
+  block-facts AttributeGround d f = refl
+  block-facts LockGround d f = refl
+
+  refuse-facts : (n : Status) (d : Decision) → (isSuccess n ≡ true → Facts d) → Facts (refuseOr n d)
+  refuse-facts n d f = go (isSuccess n) refl
+    where
+      go : (b : Bool) → isSuccess n ≡ b → Facts (cond b d (Refuse n))
+      go true h = f h
+      go false h = h
+
+pub facts : (speaking : Option Bytes) (nv vol : Bytes) (r : Request) → Facts nv vol (lookup nv vol (r .variable)) r (decision speaking nv vol r)
+unfolding decision
+facts speaking nv vol r =
+    let found = lookup nv vol (r .variable) in
+    refuse-facts nv vol found r (requestStatus r) _ (λ h.
+    block-facts nv vol found r (groundBy speaking (lookup nv vol) r) (writeDecision nv vol found r) (write-facts nv vol found r (asked r) h (written nv vol found r)))
+
+-- a set is stored only where all this holds
+pub stored-facts : (speaking : Option Bytes) (nv vol : Bytes) (r : Request) → decision speaking nv vol r ≡ Store → Stored nv vol (lookup nv vol (r .variable)) r
+stored-facts speaking nv vol r e = subst (Facts nv vol (lookup nv vol (r .variable)) r) e (facts speaking nv vol r)
+
+-- a decision with status 0 is told by the request alone
+pub granted-decision : (speaking : Option Bytes) (nv vol : Bytes) (r : Request) → isSuccess (decisionStatus (decision speaking nv vol r)) ≡ true
+    → decision speaking nv vol r ≡ cond (isDeletion (r .attributes) (r .payload)) Delete (cond (isEmptyAppend (r .attributes) (r .payload)) Keep Store)
+granted-decision speaking nv vol r h = go (decision speaking nv vol r) (facts speaking nv vol r) h
+  where
+    go : (d : Decision) → Facts nv vol (lookup nv vol (r .variable)) r d → isSuccess (decisionStatus d) ≡ true
+        → d ≡ cond (isDeletion (r .attributes) (r .payload)) Delete (cond (isEmptyAppend (r .attributes) (r .payload)) Keep Store)
+    go (Refuse n) f h = absurd (false≢true (sym f ∙ h))
+    go (Block g) f h = absurd (false≢true (sym f ∙ h))
+    go Delete f h = rw f
+    go Keep f h = rw (f .0, f .1)
+    go Store f h = rw (f .writes, f .joins)

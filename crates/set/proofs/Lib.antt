@@ -1,0 +1,6 @@
+pub mod Requests
+pub mod LockRules
+pub mod Grounds
+pub mod Spoken
+pub mod WriteSteps
+pub mod Puts

@@ -1,0 +1,46 @@
+use Rattle.set.proofs.Requests.{bad-name, long-payload, unknown-bit, lacks-bs, taken}
+use Rattle.names.specs.Name.{isName}
+use Rattle.rules.specs.Set.{unsupportedBit}
+use borrow.Author.Tests.{eq-eqb, ne-eqb, not-true, not-false}
+use mathlib.Core.Path.{_≡_, sym, ap, _∙_}
+use mathlib.Core.Bool.{true, false, not}
+use borrow.Author.Needs.{needs}
+use Rattle.set.proofs.check_request.Statement.{statement}
+use Rattle.set.proofs.check_request.Tie as tie
+use Rattle.set.proofs.check_request.Reads as reads
+use Rattle.set.proofs.check_request.Lts as lts
+use Rattle.names.proofs.is_name.Reads as is-name-reads
+use Rattle.set.proofs.needs_bs.Reads as needs-bs-reads
+
+-- once the name is found good
+named : (c : tie.Else1) → isName (c .before .before .before .before .args .name .now) ≡ true
+named c = sym (c .before .is-name .ensures) ∙ not-false (c .before .is-name .result) (c .if1 .left)
+
+is-name-requires : tie.Need-is-name-requires
+is-name-requires c κs = search needs
+
+returns : tie.Need-returns
+returns c = λ g k. bad-name g _ _ _ k (sym (c .before .is-name .ensures) ∙ not-true (c .before .is-name .result) (c .if1 .taken))
+
+returns-2 : tie.Need-returns-2
+returns-2 c = λ g k. long-payload g _ _ _ k (named (c .before)) (c .if2 .taken)
+
+returns-3 : tie.Need-returns-3
+unfolding unsupportedBit
+returns-3 c = λ g k. unknown-bit g _ _ _ k (named (c .before .before)) (c .before .if2 .left) (ap not (ne-eqb _ _ (c .if3 .taken)))
+
+needs-bs-requires : tie.Need-needs-bs-requires
+needs-bs-requires c κs = search needs
+
+returns-4 : tie.Need-returns-4
+unfolding unsupportedBit
+returns-4 c = λ g k. let u = c .before .before in lacks-bs g _ _ _ k (named (u .before .before)) (u .before .if2 .left) (ap not (eq-eqb _ _ (u .if3 .left))) (sym (c .before .needs-bs .ensures) ∙ c .if4 .taken)
+
+returns-5 : tie.Need-returns-5
+unfolding unsupportedBit
+returns-5 c = λ g k. let u = c .before .before in taken g _ _ _ k (named (u .before .before)) (u .before .if2 .left) (ap not (eq-eqb _ _ (u .if3 .left))) (sym (c .before .needs-bs .ensures) ∙ c .if4 .left)
+
+pub check-request-spec : {M : Type 1} → statement M
+check-request-spec =
+    tie.close
+    (tie.spec is-name-requires returns returns-2 returns-3 needs-bs-requires returns-4 returns-5)

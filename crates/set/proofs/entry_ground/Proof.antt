@@ -1,0 +1,83 @@
+-- `set::entry_ground` meets its contract: the request's own ground, or else the lock's. Assumes nothing.
+use Rattle.entry.specs.Entry.{entryOf}
+use Rattle.rules.specs.declared.Ground.{Ground}
+use Rattle.rules.specs.declared.Ground.the-variants.{NoGround, SizeGround, AttributeGround, LockGround}
+use Rattle.rules.specs.Set.{requestGround}
+use Rattle.names.specs.Name.{Variable}
+use Rattle.set.proofs.Grounds.{by-request, locked-ground, unlocked-ground}
+use mathlib.Core.Path.{_≡_, sym, ap, _∙_}
+use borrow.Author.Needs.{needs}
+use Rattle.set.proofs.entry_ground.Statement.{statement}
+use Rattle.set.proofs.entry_ground.Tie as tie
+use Rattle.set.proofs.entry_ground.Reads as reads
+use Rattle.set.proofs.entry_ground.Lts as lts
+use Rattle.entry.proofs.entry_of.Reads as entry-of-reads
+use Rattle.set.proofs.locks.Reads as locks-reads
+use Rattle.set.proofs.request_ground.Reads as request-ground-reads
+
+-- ---- once the request's ground is known
+abbrev Start : tie.After-request-ground → tie.Start
+Start c = c .before .before .before .before .before .before
+
+asked : (c : tie.After-request-ground) (v : Variable)
+    → requestGround (Start c .args .e .now) (record { variable = v; attributes = Start c .args .attributes; payload = Start c .args .payload .now }) ≡ c .request-ground .result
+asked c v = sym (c .request-ground .ensures _ v (c .before .entry-of .ensures))
+
+-- ---- the needs
+entry-of-requires : tie.Need-entry-of-requires
+entry-of-requires c κs = search needs
+
+request-ground-requires : tie.Need-request-ground-requires
+request-ground-requires c κs = search needs
+
+enum-told : tie.Need-enum-told
+enum-told c = search needs
+
+enum-told-2 : tie.Need-enum-told-2
+enum-told-2 c = search needs
+
+returns : tie.Need-returns
+returns c = λ v w. by-request _ _ _ SizeGround (asked (c .before .before) v ∙ c .enum-told2 .given .1)
+
+enum-told-3 : tie.Need-enum-told-3
+enum-told-3 c = search needs
+
+returns-2 : tie.Need-returns-2
+returns-2 c = λ v w. by-request _ _ _ AttributeGround (asked (c .before .before) v ∙ c .enum-told3 .given .1)
+
+enum-told-4 : tie.Need-enum-told-4
+enum-told-4 c = search needs
+
+returns-3 : tie.Need-returns-3
+returns-3 c = λ v w. by-request _ _ _ LockGround (asked (c .before .before) v ∙ c .enum-told4 .given .1)
+
+locks-requires : tie.Need-locks-requires
+unfolding entryOf
+locks-requires c κs = let g = c .before .before in (Start g .pre .0, ap (λ x. x .lock) (g .before .entry-of .ensures))
+
+returns-4 : tie.Need-returns-4
+returns-4 c =
+    let n = c .before .before in
+    λ v w. locked-ground _ _ _ (asked (n .before .before) v ∙ n .enum-told .given .1) (c .before .locks .ensures v w) (c .if1 .taken)
+
+returns-5 : tie.Need-returns-5
+returns-5 c =
+    let n = c .before .before in
+    λ v w. unlocked-ground _ _ _ (asked (n .before .before) v ∙ n .enum-told .given .1) (c .before .locks .ensures v w) (c .if1 .left)
+
+pub entry-ground-spec : {M : Type 1} → statement M
+entry-ground-spec =
+    tie.close
+    (tie.spec
+    entry-of-requires
+    request-ground-requires
+    enum-told
+    enum-told-2
+    returns
+    enum-told-3
+    returns-2
+    enum-told-4
+    returns-3
+    locks-requires
+    returns-4
+    returns-5)

@@ -1,0 +1,48 @@
+use Rattle.set.proofs.LockRules.{trigger-by}
+use Rattle.stores.specs.PlaceLaws.{place-within-stores}
+use Rattle.stores.specs.Place.{Within}
+use mathlib.Core.Path.{sym, subst}
+use borrow.Author.Needs.{needs}
+use Rattle.set.proofs.trigger_holds.Statement.{statement}
+use Rattle.set.proofs.trigger_holds.Tie as tie
+use Rattle.set.proofs.trigger_holds.Reads as reads
+use Rattle.set.proofs.trigger_holds.Lts as lts
+use Rattle.set.proofs.is_value.Reads as is-value-reads
+use Rattle.slices.proofs.part.Reads as part-reads
+use Rattle.stores.proofs.locate.Reads as locate-reads
+use Rattle.stores.proofs.payload_at.Reads as payload-at-reads
+
+add-part : tie.Need-add-part
+add-part c = search needs
+
+part-requires : tie.Need-part-requires
+part-requires c κs = search needs
+
+part-requires-2 : tie.Need-part-requires-2
+part-requires-2 c κs = search needs
+
+locate-requires : tie.Need-locate-requires
+locate-requires c κs = search needs
+
+payload-at-requires : tie.Need-payload-at-requires
+payload-at-requires c κs = subst (Within _ _) (sym (c .locate .ensures)) (place-within-stores _ _ _)
+
+is-value-requires : tie.Need-is-value-requires
+is-value-requires c κs = search needs
+
+returns : tie.Need-returns
+returns c =
+    let l = c .before .before in
+    trigger-by _ _ _ (c .is-value .ensures) (c .before .payload-at .ensures) (l .locate .ensures) (l .before .before .part .ensures) (l .before .part2 .ensures)
+
+pub trigger-holds-spec : {M : Type 1} → statement M
+trigger-holds-spec =
+    tie.close
+    (tie.spec
+    add-part
+    part-requires
+    part-requires-2
+    locate-requires
+    payload-at-requires
+    is-value-requires
+    returns)

@@ -1,0 +1,535 @@
+// A set: what is decided of a request (steps 1 to 9), and what is then written (step 10 and deletions).
+ghost use mathlib.Core.Path.{_≡_};
+ghost use mathlib.Core.List.{_∷_, []};
+ghost use mathlib.Core.Bool.{true, false, cond};
+ghost use mathlib.Core.Option.{Option};
+ghost use Prim.Native.Nat.{ℕ, _+_, _≤_};
+ghost use lib.Dec.{eqb, leb};
+ghost use lib.Bits.{bitAnd};
+ghost use lib.ListN.{length};
+ghost use Rattle.limits.specs.Limits.{namespaceBytes, maxPayload, triggerNamespaceAt};
+ghost use Rattle.slices.specs.Test.{_and_};
+ghost use Rattle.slices.specs.Bytes.{Bytes, part, same};
+ghost use Rattle.names.specs.Name.{Variable, variable, named};
+ghost use Rattle.entry.specs.Entry.{wellFormed, lockOf, entryOf};
+ghost use Rattle.policy.specs.Policy.{entriesOf};
+ghost use Rattle.policy.specs.Choice.{chosen};
+ghost use Rattle.store.specs.Record.{hasNV, encodeRecord};
+ghost use Rattle.store.specs.Store.{endOf, placeOf, hasRoom, withoutVariable, withRecord};
+ghost use Rattle.stores.specs.Pair.{sound, lookup, endsOf};
+ghost use Rattle.stores.specs.Place.{placeIn, recordAt, Within};
+ghost use Rattle.rules.specs.Set.{Request, requestOf, needsBS, requestStatus, isDeletion, isEmptyAppend, holdsValue, locks, requestGround, groundOf, groundBy, otherAttributes, payloadAfter, storedAttributes, storeOf, recordAfter, storeDecision, writeDecision, decision, decisionStatus, decisionStore};
+ghost use Rattle.rules.specs.Engine.{speaking};
+ghost use Rattle.rules.specs.DecisionLaws.{Stored};
+ghost use Rattle.rules.specs.declared.Decision.the-variants.{Store};
+ghost use Rattle.set.specs.Known.{Located, Knows};
+ghost use Rattle.set.specs.Writable.{foundIn, Writable};
+use entry::Entry;
+use entry::LockRule;
+use entry::Trigger;
+use policy::Choice;
+use rules::Decision;
+use rules::Ground;
+use status::Status;
+use store::Found;
+use stores::Ends;
+use stores::Place;
+
+// What a set has found out of sound stores and a valid policy record: where the records end, how many entries there are, and where the request's variable stands.
+pub struct Known {
+    pub ends: Ends,
+    pub count: usize,
+    pub place: Place,
+}
+
+// ---- Steps 1 to 3.
+
+// Whether RT or append stands without BS.
+fn needs_bs(attributes: u32) -> bool
+    ensures { λ r. ⌜ r ≡ needsBS attributes ⌝ }
+{
+    if store::has_bs(attributes) {
+        return false;
+    }
+    if store::has_rt(attributes) {
+        return true;
+    }
+    store::has_append(attributes)
+}
+
+// INVALID_PARAMETER for a name or a payload that a set does not take; UNSUPPORTED for an attribute bit outside 0x47;
+// INVALID_PARAMETER for RT or append without BS.
+pub fn check_request(name: &[u8], attributes: u32, payload: &[u8]) -> Status
+    ensures { λ r.
+        ⌜ ((namespace : Bytes) → length namespace ≡ namespaceBytes
+        → r ≡ requestStatus (requestOf namespace (now (name .entry)) attributes (now (payload .entry)))) ⌝ }
+{
+    if !names::is_name(name) {
+        return Status::InvalidParameter;
+    }
+    if limits::MAX_PAYLOAD < payload.len() {
+        return Status::InvalidParameter;
+    }
+    if attributes & limits::KNOWN_ATTRIBUTES != attributes {
+        return Status::Unsupported;
+    }
+    if needs_bs(attributes) {
+        return Status::InvalidParameter;
+    }
+    Status::Success
+}
+
+// ---- Step 4.
+
+// Whether a set is a deletion (RULES.md, 10.9): without append, and with no payload or with neither of BS and RT.
+fn is_deletion(attributes: u32, payload: &[u8]) -> bool
+    ensures { λ r. ⌜ r ≡ isDeletion attributes (now (payload .entry)) ⌝ }
+{
+    if store::has_append(attributes) {
+        return false;
+    }
+    if payload.len() == 0 {
+        return true;
+    }
+    if store::has_bs(attributes) {
+        return false;
+    }
+    !store::has_rt(attributes)
+}
+
+fn size_allowed(min: u32, max: u32, length: usize) -> bool
+    ensures { λ r. ⌜ r ≡ (leb min length and leb length max) ⌝ }
+{
+    if length < min as usize {
+        return false;
+    }
+    length <= max as usize
+}
+
+// No required bit missing, no prohibited one set.
+fn attributes_allowed(must: u32, cant: u32, attributes: u32) -> bool
+    ensures { λ r. ⌜ r ≡ (eqb (bitAnd must attributes) must and eqb (bitAnd cant attributes) 0) ⌝ }
+{
+    if must & attributes != must {
+        return false;
+    }
+    cant & attributes == 0
+}
+
+// Unless the request is a deletion: its size against MinSize and MaxSize, then its attributes against those that the entry requires and prohibits.
+fn request_ground(entry: Entry, attributes: u32, payload: &[u8]) -> Ground
+    ensures { λ r.
+        ⌜ ((e : Bytes) (v : Variable) → entry ≡ entryOf e
+        → r ≡ requestGround e (record { variable = v; attributes = attributes; payload = now (payload .entry) })) ⌝ }
+{
+    if is_deletion(attributes, payload) {
+        return Ground::NoGround;
+    }
+    if !size_allowed(entry.min_size, entry.max_size, payload.len()) {
+        return Ground::SizeGround;
+    }
+    if attributes_allowed(
+        entry.attributes_must_have,
+        entry.attributes_cant_have,
+        attributes,
+    ) {
+        return Ground::NoGround;
+    }
+    Ground::AttributeGround
+}
+
+// Whether a payload is that one byte.
+fn is_value(payload: &[u8], value: u8) -> bool
+    ensures { λ r. ⌜ r ≡ same (now (payload .entry)) (value ∷ []) ⌝ }
+{
+    if payload.len() != 1 {
+        return false;
+    }
+    payload[0] == value
+}
+
+// Whether the trigger of an entry locks (RULES.md, 5): it is stored, and its payload is the one byte Value.
+fn trigger_holds<'a>(e: &[u8], trigger: Trigger, nv: &'a [u8], vol: &'a [u8], ends: Ends) -> bool
+    requires { ⌜ (ends ≡ endsOf (now nv) (now vol)) × (trigger .namespace ≡ triggerNamespaceAt) ⌝ }
+    ensures { λ r.
+        ⌜ r ≡ holdsValue (lookup (now (nv .entry)) (now (vol .entry)) (variable
+        (part (trigger .namespace) (trigger .namespace + 16) (now (e .entry)))
+        (part (trigger .name) (trigger .«name_end») (now (e .entry))))) (trigger .value) ⌝ }
+{
+    let from = trigger.namespace;
+    let namespace = slices::part(e, from, from + limits::NAMESPACE_BYTES);
+    let name = slices::part(e, trigger.name, trigger.name_end);
+    let place = stores::locate(nv, vol, ends, namespace, name);
+    is_value(stores::payload_at(nv, vol, place), trigger.value)
+}
+
+// Whether the chosen entry locks the request's variable.
+fn locks<'a>(e: &[u8], rule: LockRule, nv: &'a [u8], vol: &'a [u8], known: Known) -> bool
+    requires { ⌜ (known .ends ≡ endsOf (now nv) (now vol)) × (rule ≡ lockOf (now e)) ⌝ }
+    ensures { λ r.
+        ⌜ ((v : Variable) → Located known (now (nv .entry)) (now (vol .entry)) v → r ≡ locks (now (e .entry)) (lookup (now (nv .entry)) (now (vol .entry))) v) ⌝ }
+{
+    match rule {
+        LockRule::NoLock => false,
+        LockRule::LockNow => true,
+        LockRule::LockOnCreate => stores::is_somewhere(known.place),
+        LockRule::LockOnVarState(trigger) => trigger_holds(e, trigger, nv, vol, known.ends),
+    }
+}
+
+// The ground that an entry gives against the request: its size, its attributes, then its lock.
+fn entry_ground<'a>(
+    e: &[u8],
+    nv: &'a [u8],
+    vol: &'a [u8],
+    known: Known,
+    attributes: u32,
+    payload: &[u8],
+) -> Ground
+    requires { ⌜ (known .ends ≡ endsOf (now nv) (now vol)) × (wellFormed (now e) ≡ true) ⌝ }
+    ensures { λ r.
+        ⌜ ((v : Variable) → Located known (now (nv .entry)) (now (vol .entry)) v
+        → r ≡ groundOf (now (e .entry)) (lookup (now (nv .entry)) (now (vol .entry)))
+        (record { variable = v; attributes = attributes; payload = now (payload .entry) })) ⌝ }
+{
+    let entry = entry::entry_of(e);
+    let by_request = request_ground(entry, attributes, payload);
+    match by_request {
+        Ground::NoGround => (),
+        Ground::SizeGround => return Ground::SizeGround,
+        Ground::AttributeGround => return Ground::AttributeGround,
+        Ground::LockGround => return Ground::LockGround,
+    }
+    let rule = entry.lock;
+    if locks(e, rule, nv, vol, known) {
+        return Ground::LockGround;
+    }
+    Ground::NoGround
+}
+
+// The ground that the chosen entry gives, none where no entry is chosen or the engine is disabled.
+fn ground<'a>(
+    policy: &[u8],
+    enabled: bool,
+    nv: &'a [u8],
+    vol: &'a [u8],
+    known: Known,
+    namespace: &[u8; 16],
+    name: &[u8],
+    attributes: u32,
+    payload: &[u8],
+) -> Ground
+    requires { ⌜ Knows known (now nv) (now vol) (now policy) (variable (now namespace) (now name)) ⌝ }
+    ensures { λ r.
+        ⌜ r ≡ groundBy (speaking enabled (chosen (entriesOf (now (policy .entry))) (variable (now (namespace .entry)) (now (name .entry)))))
+        (lookup (now (nv .entry)) (now (vol .entry)))
+        (requestOf (now (namespace .entry)) (now (name .entry)) attributes (now (payload .entry))) ⌝ }
+{
+    if !enabled {
+        return Ground::NoGround;
+    }
+    let choice = policy::choose(policy, known.count, namespace, name);
+    let Choice::Chosen {
+        index: _,
+        at,
+        rank: _,
+    } = choice
+    else {
+        return Ground::NoGround;
+    };
+    let end = at + slices::le16(policy, at + 4) as usize;
+    entry_ground(&policy[at..end], nv, vol, known, attributes, payload)
+}
+
+// ---- Steps 5 to 9.
+
+// Whether a set is an append that joins nothing.
+fn is_empty_append(attributes: u32, payload: &[u8]) -> bool
+    ensures { λ r. ⌜ r ≡ isEmptyAppend attributes (now (payload .entry)) ⌝ }
+{
+    if store::has_append(attributes) {
+        return payload.len() == 0;
+    }
+    false
+}
+
+// How long the variable's payload is afterwards: an append joins what is stored.
+fn length_after<'a>(
+    nv: &'a [u8],
+    vol: &'a [u8],
+    place: Place,
+    attributes: u32,
+    payload: &[u8],
+) -> usize
+    requires { ⌜ Within (now nv) (now vol) place ⌝ }
+    ensures { λ r. ⌜ r ≡ length (payloadAfter (recordAt (now (nv .entry)) (now (vol .entry)) place) attributes (now (payload .entry))) ⌝ }
+{
+    if store::has_append(attributes) {
+        let stored = stores::payload_at(nv, vol, place);
+        return stored.len() + payload.len();
+    }
+    payload.len()
+}
+
+// Whether the store that the attributes name has room for the variable's record with a payload of n bytes. The variable does not
+// stand in the other store.
+fn has_room(
+    nv: &[u8],
+    vol: &[u8],
+    known: Known,
+    namespace: &[u8; 16],
+    name: &[u8],
+    attributes: u32,
+    n: usize,
+) -> bool
+    requires { ⌜ (sound (now nv) (now vol) ≡ true) × Located known (now nv) (now vol) (variable (now namespace) (now name))
+        × (named (variable (now namespace) (now name)) ≡ true)
+        × (otherAttributes (lookup (now nv) (now vol) (variable (now namespace) (now name))) attributes ≡ false) × (n ≤ maxPayload) ⌝ }
+    ensures { λ r.
+        ⌜ ((p : Bytes) → length p ≡ n
+        → r ≡ hasRoom (hasNV attributes) (storeOf attributes (now (nv .entry)) (now (vol .entry))) (variable (now (namespace .entry)) (now (name .entry)))
+        (encodeRecord (storedAttributes attributes) (variable (now (namespace .entry)) (now (name .entry))) p)) ⌝ }
+{
+    let place = known.place;
+    let found = place.found;
+    if store::has_nv(attributes) {
+        return store::has_room(nv, true, known.ends.nv, found, namespace, name, n);
+    }
+    store::has_room(vol, false, known.ends.vol, found, namespace, name, n)
+}
+
+// Steps 8 and 9. OUT_OF_RESOURCES for a payload that is then longer than 1,024 bytes, or where the store has no room.
+fn decide_store<'a>(
+    nv: &'a [u8],
+    vol: &'a [u8],
+    known: Known,
+    namespace: &[u8; 16],
+    name: &[u8],
+    attributes: u32,
+    payload: &[u8],
+) -> Decision
+    requires { ⌜ (sound (now nv) (now vol) ≡ true) × Located known (now nv) (now vol) (variable (now namespace) (now name))
+        × (named (variable (now namespace) (now name)) ≡ true)
+        × (otherAttributes (lookup (now nv) (now vol) (variable (now namespace) (now name))) attributes ≡ false) ⌝ }
+    ensures { λ r.
+        ⌜ r ≡ storeDecision (now (nv .entry)) (now (vol .entry)) (lookup (now (nv .entry)) (now (vol .entry)) (variable (now (namespace .entry)) (now (name .entry))))
+        (requestOf (now (namespace .entry)) (now (name .entry)) attributes (now (payload .entry))) ⌝ }
+{
+    let n = length_after(nv, vol, known.place, attributes, payload);
+    if limits::MAX_PAYLOAD < n {
+        return Decision::Refuse(Status::OutOfResources);
+    }
+    if has_room(nv, vol, known, namespace, name, attributes, n) {
+        return Decision::Store;
+    }
+    Decision::Refuse(Status::OutOfResources)
+}
+
+// Steps 5 to 9. NOT_FOUND for the deletion of an absent variable; INVALID_PARAMETER where the variable exists with other NV, BS or RT.
+fn decide_write<'a>(
+    nv: &'a [u8],
+    vol: &'a [u8],
+    known: Known,
+    namespace: &[u8; 16],
+    name: &[u8],
+    attributes: u32,
+    payload: &[u8],
+) -> Decision
+    requires { ⌜ (sound (now nv) (now vol) ≡ true) × Located known (now nv) (now vol) (variable (now namespace) (now name))
+        × (named (variable (now namespace) (now name)) ≡ true) ⌝ }
+    ensures { λ r.
+        ⌜ r ≡ writeDecision (now (nv .entry)) (now (vol .entry)) (lookup (now (nv .entry)) (now (vol .entry)) (variable (now (namespace .entry)) (now (name .entry))))
+        (requestOf (now (namespace .entry)) (now (name .entry)) attributes (now (payload .entry))) ⌝ }
+{
+    let found = stores::is_somewhere(known.place);
+    if is_deletion(attributes, payload) {
+        if found {
+            return Decision::Delete;
+        }
+        return Decision::Refuse(Status::NotFound);
+    }
+    if found & (stores::attributes_at(nv, vol, known.place) != attributes % 8) {
+        return Decision::Refuse(Status::InvalidParameter);
+    }
+    if is_empty_append(attributes, payload) {
+        return Decision::Keep;
+    }
+    decide_store(nv, vol, known, namespace, name, attributes, payload)
+}
+
+// All steps, over sound stores and a valid policy record.
+pub fn decide<'a>(
+    policy: &[u8],
+    enabled: bool,
+    nv: &'a [u8],
+    vol: &'a [u8],
+    known: Known,
+    namespace: &[u8; 16],
+    name: &[u8],
+    attributes: u32,
+    payload: &[u8],
+) -> Decision
+    requires { ⌜ (sound (now nv) (now vol) ≡ true) × Knows known (now nv) (now vol) (now policy) (variable (now namespace) (now name)) ⌝ }
+    ensures { λ r.
+        ⌜ r ≡ decision (speaking enabled (chosen (entriesOf (now (policy .entry))) (variable (now (namespace .entry)) (now (name .entry)))))
+        (now (nv .entry)) (now (vol .entry))
+        (requestOf (now (namespace .entry)) (now (name .entry)) attributes (now (payload .entry))) ⌝ }
+{
+    let by_request = check_request(name, attributes, payload);
+    if !status::is_success(by_request) {
+        return Decision::Refuse(by_request);
+    }
+    let by_entry = ground(
+        policy,
+        enabled,
+        nv,
+        vol,
+        known,
+        namespace,
+        name,
+        attributes,
+        payload,
+    );
+    match by_entry {
+        Ground::NoGround => decide_write(nv, vol, known, namespace, name, attributes, payload),
+        Ground::SizeGround => Decision::Block(Ground::SizeGround),
+        Ground::AttributeGround => Decision::Block(Ground::AttributeGround),
+        Ground::LockGround => Decision::Block(Ground::LockGround),
+    }
+}
+
+// The status of a decision.
+pub fn status_of(decided: Decision) -> Status
+    ensures { λ r. ⌜ r ≡ decisionStatus decided ⌝ }
+{
+    match decided {
+        Decision::Refuse(status) => status,
+        Decision::Block(ground) => match ground {
+            Ground::NoGround => Status::Success,
+            Ground::SizeGround => Status::InvalidParameter,
+            Ground::AttributeGround => Status::InvalidParameter,
+            Ground::LockGround => Status::WriteProtected,
+        },
+        Decision::Delete => Status::Success,
+        Decision::Keep => Status::Success,
+        Decision::Store => Status::Success,
+    }
+}
+
+// ---- Step 10, and deletions.
+
+// Takes the variable out of whichever of two sound stores holds it.
+fn delete(nv: &mut [u8], vol: &mut [u8], known: Known, namespace: &[u8; 16], name: &[u8])
+    requires { ⌜ (sound (now nv) (now vol) ≡ true) × Located known (now nv) (now vol) (variable (now namespace) (now name)) ⌝ }
+    ensures nv_after { λ _. ⌜ now (nv .exit) ≡ withoutVariable true (now (nv .entry)) (variable (now (namespace .entry)) (now (name .entry))) ⌝ }
+    ensures vol_after { λ _. ⌜ now (vol .exit) ≡ withoutVariable false (now (vol .entry)) (variable (now (namespace .entry)) (now (name .entry))) ⌝ }
+{
+    let place = known.place;
+    let found = place.found;
+    if place.nonvolatile {
+        store::remove(nv, true, known.ends.nv, found, namespace, name);
+    } else {
+        store::remove(vol, false, known.ends.vol, found, namespace, name);
+    }
+}
+
+// Stores the request's payload in one store, joined to what is stored there by an append.
+fn put(
+    s: &mut [u8],
+    nonvolatile: bool,
+    end: usize,
+    found: Found,
+    namespace: &[u8; 16],
+    name: &[u8],
+    attributes: u32,
+    payload: &[u8],
+)
+    requires { ⌜ (end ≡ endOf nonvolatile (now s)) × (found ≡ placeOf nonvolatile (now s) (variable (now namespace) (now name)))
+        × Writable nonvolatile (now s) (requestOf (now namespace) (now name) attributes (now payload)) ⌝ }
+    ensures { λ _.
+        ⌜ now (s .exit) ≡ withRecord nonvolatile (now (s .entry)) (variable (now (namespace .entry)) (now (name .entry)))
+        (recordAfter (foundIn nonvolatile (now (s .entry)) (variable (now (namespace .entry)) (now (name .entry))))
+        (requestOf (now (namespace .entry)) (now (name .entry)) attributes (now (payload .entry)))) ⌝ }
+{
+    let stored = (attributes % 8) as u8;
+    if store::has_append(attributes) {
+        store::append(s, nonvolatile, end, found, stored, namespace, name, payload);
+    } else {
+        store::write(s, nonvolatile, end, found, stored, namespace, name, payload);
+    }
+}
+
+// Stores the request's payload in the store that the attributes name, of two sound stores.
+fn put_variable(
+    nv: &mut [u8],
+    vol: &mut [u8],
+    known: Known,
+    namespace: &[u8; 16],
+    name: &[u8],
+    attributes: u32,
+    payload: &[u8],
+)
+    requires { ⌜ (sound (now nv) (now vol) ≡ true) × Located known (now nv) (now vol) (variable (now namespace) (now name))
+        × Stored (now nv) (now vol) (lookup (now nv) (now vol) (variable (now namespace) (now name))) (requestOf (now namespace) (now name) attributes (now payload)) ⌝ }
+    ensures nv_after { λ _.
+        ⌜ now (nv .exit) ≡ decisionStore Store true (now (nv .entry)) (lookup (now (nv .entry)) (now (vol .entry)) (variable (now (namespace .entry)) (now (name .entry))))
+        (requestOf (now (namespace .entry)) (now (name .entry)) attributes (now (payload .entry))) ⌝ }
+    ensures vol_after { λ _.
+        ⌜ now (vol .exit) ≡ decisionStore Store false (now (vol .entry)) (lookup (now (nv .entry)) (now (vol .entry)) (variable (now (namespace .entry)) (now (name .entry))))
+        (requestOf (now (namespace .entry)) (now (name .entry)) attributes (now (payload .entry))) ⌝ }
+{
+    let place = known.place;
+    let found = place.found;
+    if store::has_nv(attributes) {
+        put(
+            nv,
+            true,
+            known.ends.nv,
+            found,
+            namespace,
+            name,
+            attributes,
+            payload,
+        );
+    } else {
+        put(
+            vol,
+            false,
+            known.ends.vol,
+            found,
+            namespace,
+            name,
+            attributes,
+            payload,
+        );
+    }
+}
+
+// Does to two sound stores what is decided of the request.
+pub fn carry_out(
+    decided: Decision,
+    nv: &mut [u8],
+    vol: &mut [u8],
+    known: Known,
+    namespace: &[u8; 16],
+    name: &[u8],
+    attributes: u32,
+    payload: &[u8],
+)
+    requires { ⌜ (sound (now nv) (now vol) ≡ true) × Located known (now nv) (now vol) (variable (now namespace) (now name))
+        × ((o : Option Bytes) × (decided ≡ decision o (now nv) (now vol) (requestOf (now namespace) (now name) attributes (now payload)))) ⌝ }
+    ensures nv_after { λ _.
+        ⌜ now (nv .exit) ≡ decisionStore decided true (now (nv .entry)) (lookup (now (nv .entry)) (now (vol .entry)) (variable (now (namespace .entry)) (now (name .entry))))
+        (requestOf (now (namespace .entry)) (now (name .entry)) attributes (now (payload .entry))) ⌝ }
+    ensures vol_after { λ _.
+        ⌜ now (vol .exit) ≡ decisionStore decided false (now (vol .entry)) (lookup (now (nv .entry)) (now (vol .entry)) (variable (now (namespace .entry)) (now (name .entry))))
+        (requestOf (now (namespace .entry)) (now (name .entry)) attributes (now (payload .entry))) ⌝ }
+{
+    match decided {
+        Decision::Refuse(_) => (),
+        Decision::Block(_) => (),
+        Decision::Delete => delete(nv, vol, known, namespace, name),
+        Decision::Keep => (),
+        Decision::Store => put_variable(nv, vol, known, namespace, name, attributes, payload),
+    }
+}
