@@ -1,6 +1,6 @@
 // The calls of the engine (RULES.md, 10). The promise of each is one equation with the rules' `step`: from the state before, with the parts
 // that the call is not lent as they may be, to the answer and the state afterwards, for every input. The read pair is one call
-// of the rules; each of its two calls promises its part of the answer.
+// of the rules: its first call tells the status, the attributes and where the payload stands, its second hands that part back.
 ghost use mathlib.Core.Path.{_≡_};
 ghost use mathlib.Core.Bool.{true, false, cond};
 ghost use denote.Ref.{ptr};
