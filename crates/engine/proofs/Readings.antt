@@ -3,24 +3,24 @@ use Prim.Native.Nat.{ℕ, _+_, _≤_}
 use mathlib.Core.Path.{_≡_, refl, sym, ap, ap₂, _∙_, subst}
 use mathlib.Core.List.{[]}
 use mathlib.Core.Bool.{Bool, true, false, cond, true≢false}
-use mathlib.Core.Option.{Option, none, some}
+use mathlib.Core.Option.{none, some}
 use native.Mathlib.Omega.{arith}
 use lib.ListN.{length}
 use Rattle.slices.specs.Bytes.{Bytes, part}
 use Rattle.names.specs.Name.{Variable, named}
-use Rattle.store.specs.Record.{hasNV, attributesOf}
+use Rattle.store.specs.Record.{hasNV}
 use Rattle.store.specs.Parts.{isFound, attributesIn, payloadIn}
 use Rattle.store.specs.declared.Found.{Found}
 use Rattle.store.specs.declared.Found.the-variants.{At, Absent}
 use Rattle.stores.specs.Pair.{sound, lookup}
 use Rattle.stores.specs.declared.Place.{Place}
-use Rattle.stores.specs.Place.{placeIn, isSomewhere, storeAt, recordAt, attributesAt, payloadAt, boundsAt}
+use Rattle.stores.specs.Place.{placeIn, isSomewhere, storeAt, recordAt}
 use Rattle.stores.specs.PlaceLaws.{lookup-place, place-within-stores, place-nv, payload-bounds, exists-place}
 use Rattle.status.specs.declared.Status.{Status}
 use Rattle.status.specs.declared.Status.the-variants.{Success, InvalidParameter, VolumeCorrupted, NotFound}
 use Rattle.switches.specs.declared.Switches.{Switches}
 use Rattle.rules.specs.Set.{exists}
-use Rattle.rules.specs.Engine.{State, Answer, stateOf, readStatus, status, answer, step}
+use Rattle.rules.specs.Engine.{State, stateOf, readStatus, status, answer, step}
 use Rattle.rules.specs.Engine.Call.{read}
 use Rattle.engine.specs.declared.Reading.{Reading}
 use Rattle.switches.specs.Switches.{refusedSwitches}

@@ -1,7 +1,7 @@
 -- The answers of register, dump, lock and disable, each by what its code found. Assumes nothing.
 use Prim.Native.Nat.{ℕ}
 use mathlib.Core.Path.{_≡_, refl, sym, ap, ap₂, _∙_}
-use mathlib.Core.List.{List, [], _∷_, _++_}
+use mathlib.Core.List.{[], _∷_, _++_}
 use mathlib.Core.Bool.{Bool, true, false, cond}
 use lib.ListN.{length}
 use Rattle.slices.specs.Bytes.{Bytes, overwrite}
@@ -14,10 +14,9 @@ use Rattle.status.specs.Status.{isSuccess}
 use Rattle.switches.specs.declared.Switches.{Switches}
 use Rattle.switches.specs.declared.SwitchAnswer.{SwitchAnswer}
 use Rattle.switches.specs.Switches.{lockAnswer, disableAnswer}
-use Rattle.rules.specs.Engine.{State, stateOf, Call, Answer, onlyStatus, registerStatus, dumpStatus, step, effect}
+use Rattle.rules.specs.Engine.{stateOf, Answer, onlyStatus, registerStatus, dumpStatus, step, effect}
 use Rattle.rules.specs.Engine.Call.{register, dump, lock, disable}
 use Rattle.rules.specs.EngineLaws.{answer-alone}
-use Rattle.engine.specs.declared.DumpAnswer.{DumpAnswer}
 use Rattle.engine.specs.Answers.{dumpAnswer}
 use Rattle.engine.proofs.Steps.{step-is}
 use Rattle.engine.proofs.Checked.{lent-invalid, lent-valid}

@@ -1,6 +1,6 @@
 -- What a set answers and leaves, by what is decided of it. Assumes nothing.
 use mathlib.Core.Path.{_≡_, refl, sym, ap, ap₂, _∙_}
-use mathlib.Core.Bool.{Bool, true, false, cond, true≢false}
+use mathlib.Core.Bool.{Bool, true, false, cond}
 use Rattle.slices.specs.Test.{_and_}
 use Rattle.slices.specs.TestLaws.{and-no}
 use Rattle.slices.specs.Bytes.{Bytes}
@@ -14,7 +14,7 @@ use Rattle.switches.specs.declared.Switches.{Switches}
 use Rattle.rules.specs.declared.Decision.{Decision}
 use Rattle.rules.specs.declared.Decision.the-variants.{Refuse, Block, Delete, Keep, Store}
 use Rattle.rules.specs.Set.{Request, decision, decisionStatus, decisionStore}
-use Rattle.rules.specs.Engine.{State, stateOf, speaking, decisionBy, decisionIn, onlyStatus, after, effect, step}
+use Rattle.rules.specs.Engine.{State, stateOf, speaking, decisionBy, decisionIn, onlyStatus, after, step}
 use Rattle.rules.specs.Engine.Call.{set}
 use Rattle.rules.specs.EngineLaws.{answer-alone}
 use Rattle.engine.proofs.Steps.{step-is}

@@ -1,11 +1,10 @@
 -- The answers of power-on and restart, by what the code found. Assumes nothing.
 use Prim.Native.Nat.{ℕ, _+_, _≤_, _<_}
 use mathlib.Core.Path.{_≡_, refl, sym, ap, ap₂, _∙_}
-use mathlib.Core.List.{List, [], _∷_, _++_, append-nil}
+use mathlib.Core.List.{append-nil}
 use mathlib.Core.Bool.{Bool, true, false, cond}
 use native.Mathlib.Omega.{arith}
-use native.Mathlib.Nat.{zero-add}
-use lib.ListN.{length, take, drop, replicate, length-replicate, drop-of-length-le}
+use lib.ListN.{length, replicate, length-replicate, drop-of-length-le}
 use lib.Dec.{eqb, leb}
 use borrow.Author.Tests.{eq-eqb, ne-eqb, le-leb, lt-leb}
 use Rattle.limits.specs.Limits.{policyBytes, maxStore}
@@ -14,13 +13,12 @@ use Rattle.slices.specs.TestLaws.{and-no}
 use Rattle.slices.specs.Bytes.{Bytes, overwrite}
 use Rattle.policy.specs.Policy.{emptyPolicy}
 use Rattle.stores.specs.Pair.{sound, soundAlone}
-use Rattle.status.specs.declared.Status.{Status}
 use Rattle.status.specs.declared.Status.the-variants.{Success, VolumeCorrupted}
 use Rattle.status.specs.Status.{isSuccess}
 use Rattle.switches.specs.declared.Switches.{Switches}
 use Rattle.switches.specs.declared.SwitchAnswer.{SwitchAnswer}
 use Rattle.switches.specs.Switches.{freshSwitches, refusedSwitches}
-use Rattle.rules.specs.Engine.{State, stateOf, handBack, erased, powerOnStatus, restartStatus, step}
+use Rattle.rules.specs.Engine.{stateOf, handBack, erased, powerOnStatus, restartStatus, step}
 use Rattle.rules.specs.Engine.Call.{powerOn, restart}
 use Rattle.engine.proofs.Steps.{step-is}
 

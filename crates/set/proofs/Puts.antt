@@ -5,7 +5,6 @@ use mathlib.Core.Bool.{Bool, true, false, not, cond, true≢false}
 use mathlib.Core.Option.{Option, none, some}
 use lib.ListN.{length, length-append}
 use native.Mathlib.Omega.{arith}
-use lib.Dec.{eqb}
 use borrow.Author.Tests.{eqb-true}
 use Rattle.limits.specs.Limits.{maxPayload, namespaceBytes, maxNameBytes}
 use Rattle.slices.specs.Bytes.{Bytes}
@@ -13,7 +12,7 @@ use Rattle.slices.specs.Chunks.{find}
 use Rattle.slices.specs.ItemsLaws.{orElse, find-none}
 use Rattle.names.specs.Name.{Variable, variable, named}
 use Rattle.names.specs.NameLaws.{isName-length, named-namespace, named-name}
-use Rattle.store.specs.Record.{hasNV, hasAppend, attributesOf, attributesOk, isOf, encodeRecord}
+use Rattle.store.specs.Record.{hasNV, attributesOk, isOf, encodeRecord}
 use Rattle.store.specs.AttributeLaws.{attributesOk-stored}
 use Rattle.store.specs.Store.{recordsOf, storeOk, endOf, placeOf, hasRoom, withoutVariable, withRecord}
 use Rattle.store.specs.Parts.{Storable, payloadIn, joined}
@@ -33,7 +32,6 @@ use Rattle.rules.specs.DecisionLaws.{Stored}
 use Rattle.set.specs.declared.Known.{Known}
 use Rattle.set.specs.Known.{Located}
 use Rattle.set.specs.Writable.{foundIn, Writable}
-use Rattle.set.proofs.WriteSteps.{after-plain, after-append}
 
 -- ---- what makes the new record well formed
 

@@ -5,12 +5,12 @@ use mathlib.Core.List.{_++_}
 use mathlib.Core.Bool.{Bool, true, false, not, _&&_, cond}
 use mathlib.Core.Option.{Option, none, some}
 use lib.ListN.{length, length-append}
-use lib.Dec.{eqb, ltb}
+use lib.Dec.{eqb}
 use borrow.Author.Tests.{lt-ltb, le-ltb}
 use Rattle.limits.specs.Limits.{maxPayload}
 use Rattle.slices.specs.Bytes.{Bytes}
 use Rattle.names.specs.Name.{Variable, variable}
-use Rattle.store.specs.Record.{hasNV, hasAppend, encodeRecord}
+use Rattle.store.specs.Record.{hasNV, hasAppend}
 use Rattle.store.specs.Store.{hasRoom}
 use Rattle.store.specs.Parts.{payloadIn}
 use Rattle.store.specs.declared.Found.{Found}
@@ -22,8 +22,7 @@ use Rattle.stores.specs.Place.{placeIn, isSomewhere, recordAt, attributesAt}
 use Rattle.stores.specs.PlaceLaws.{lookup-place}
 use Rattle.rules.specs.declared.Decision.{Decision}
 use Rattle.rules.specs.declared.Decision.the-variants.{Refuse, Delete, Keep, Store}
-use Rattle.rules.specs.Set.{Request, exists, isDeletion, isEmptyAppend, otherAttributes, payloadAfter, storedAttributes, storeOf, recordAfter, storeDecision, writeDecision}
-use Rattle.set.proofs.LockRules.{exists-place}
+use Rattle.rules.specs.Set.{Request, exists, isDeletion, isEmptyAppend, otherAttributes, payloadAfter, storeOf, recordAfter, storeDecision, writeDecision}
 
 -- ---- steps 5 to 7
 

@@ -1,9 +1,9 @@
 // A set: what is decided of a request (steps 1 to 9), and what is then written (step 10 and deletions).
 ghost use mathlib.Core.Path.{_≡_};
 ghost use mathlib.Core.List.{_∷_, []};
-ghost use mathlib.Core.Bool.{true, false, cond};
+ghost use mathlib.Core.Bool.{true, false};
 ghost use mathlib.Core.Option.{Option};
-ghost use Prim.Native.Nat.{ℕ, _+_, _≤_};
+ghost use Prim.Native.Nat.{_+_, _≤_};
 ghost use lib.Dec.{eqb, leb};
 ghost use lib.Bits.{bitAnd};
 ghost use lib.ListN.{length};
@@ -17,8 +17,8 @@ ghost use Rattle.policy.specs.Choice.{chosen};
 ghost use Rattle.store.specs.Record.{hasNV, encodeRecord};
 ghost use Rattle.store.specs.Store.{endOf, placeOf, hasRoom, withoutVariable, withRecord};
 ghost use Rattle.stores.specs.Pair.{sound, lookup, endsOf};
-ghost use Rattle.stores.specs.Place.{placeIn, recordAt, Within};
-ghost use Rattle.rules.specs.Set.{Request, requestOf, needsBS, requestStatus, isDeletion, isEmptyAppend, holdsValue, locks, requestGround, groundOf, groundBy, otherAttributes, payloadAfter, storedAttributes, storeOf, recordAfter, storeDecision, writeDecision, decision, decisionStatus, decisionStore};
+ghost use Rattle.stores.specs.Place.{recordAt, Within};
+ghost use Rattle.rules.specs.Set.{requestOf, needsBS, requestStatus, isDeletion, isEmptyAppend, holdsValue, locks, requestGround, groundOf, groundBy, otherAttributes, payloadAfter, storedAttributes, storeOf, recordAfter, storeDecision, writeDecision, decision, decisionStatus, decisionStore};
 ghost use Rattle.rules.specs.Engine.{speaking};
 ghost use Rattle.rules.specs.DecisionLaws.{Stored};
 ghost use Rattle.rules.specs.declared.Decision.the-variants.{Store};

@@ -1,6 +1,6 @@
 -- What an exported read answers, by the engine's. Assumes nothing.
 use Prim.Native.Nat.{ℕ, _+_, _-_, _≤_}
-use mathlib.Core.Path.{_≡_, refl, sym, ap, _∙_, subst⁻¹}
+use mathlib.Core.Path.{_≡_, sym, ap, _∙_, subst⁻¹}
 use mathlib.Core.List.{[]}
 use mathlib.Core.Bool.{cond}
 use mathlib.Core.Option.{none}
@@ -11,12 +11,11 @@ use Rattle.names.specs.Name.{Variable}
 use Rattle.status.specs.Status.{statusNumber}
 use Rattle.switches.specs.declared.Switches.{Switches}
 use Rattle.switches.specs.Switches.{refusedSwitches}
-use Rattle.rules.specs.Engine.{State, stateOf, step}
-use Rattle.rules.specs.Engine.Call.{read}
+use Rattle.rules.specs.Engine.{State, stateOf}
 use Rattle.engine.specs.declared.Reading.{Reading}
 use Rattle.engine.specs.Answers.{readingOf, ReadStep}
 use Rattle.varpolicy.specs.declared.Read.{Read}
-use Rattle.varpolicy.specs.Exports.{Numbered, numbered, readOf, readAnswer, NumberedRead}
+use Rattle.varpolicy.specs.Exports.{numbered, readOf, NumberedRead}
 
 read-numbered : (s : State) (v : Variable) (x : Reading) → ReadStep s v x → NumberedRead s v (readOf x)
 read-numbered s v x h =

@@ -2,7 +2,6 @@
 // it is lent for writing what `step` leaves there, for every input. A slice is a pointer and a length. The switches are a byte
 // each, and every byte has a meaning: `switchesOf`, `givesLeave`.
 ghost use mathlib.Core.Path.{_≡_};
-ghost use Prim.Native.Nat.{_+_, _≤_};
 ghost use mathlib.Core.Bool.{cond};
 ghost use lib.Dec.{eqb};
 ghost use lib.ListN.{length};

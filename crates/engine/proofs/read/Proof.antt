@@ -1,7 +1,6 @@
 -- `engine::read` meets its contract: each return is the reading by the tests so far, and what holds of every reading (`read-step`) holds of
 -- it. Assumes nothing.
 use Rattle.limits.specs.Limits.{namespaceBytes}
-use Rattle.slices.specs.Bytes.{Bytes}
 use Rattle.slices.specs.Test.{_and_}
 use Rattle.slices.specs.TestLaws.{and-no}
 use Rattle.names.specs.Name.{Variable, variable, named, isName}

@@ -2,7 +2,6 @@
 -- carried out, which `set-done` turns into the rules' step. What was found out (`Knows`) is put together once, where the variable was
 -- looked for. Assumes nothing.
 use Rattle.limits.specs.Limits.{namespaceBytes}
-use Rattle.slices.specs.Bytes.{Bytes}
 use Rattle.names.specs.Name.{variable}
 use Rattle.policy.specs.PolicyLaws.{Found, check-valid, check-invalid}
 use Rattle.stores.specs.Pair.{sound, endsOf}

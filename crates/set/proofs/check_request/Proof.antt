@@ -3,7 +3,7 @@ use Rattle.names.specs.Name.{isName}
 use Rattle.rules.specs.Set.{unsupportedBit}
 use borrow.Author.Tests.{eq-eqb, ne-eqb, not-true, not-false}
 use mathlib.Core.Path.{_≡_, sym, ap, _∙_}
-use mathlib.Core.Bool.{true, false, not}
+use mathlib.Core.Bool.{true, not}
 use borrow.Author.Needs.{needs}
 use Rattle.set.proofs.check_request.Statement.{statement}
 use Rattle.set.proofs.check_request.Tie as tie

@@ -2,7 +2,7 @@
 use Rattle.set.proofs.LockRules.{exists-place}
 use Rattle.set.proofs.WriteSteps.{other-by, deletes, misses, differs, keeps, stores}
 use Rattle.slices.specs.Bytes.{Bytes}
-use Rattle.names.specs.Name.{Variable, variable}
+use Rattle.names.specs.Name.{variable}
 use Rattle.stores.specs.Pair.{lookup}
 use Rattle.stores.specs.Place.{Within}
 use Rattle.stores.specs.PlaceLaws.{place-within-stores}

@@ -1,7 +1,6 @@
 -- `set::entry_ground` meets its contract: the request's own ground, or else the lock's. Assumes nothing.
 use Rattle.entry.specs.Entry.{entryOf}
-use Rattle.rules.specs.declared.Ground.{Ground}
-use Rattle.rules.specs.declared.Ground.the-variants.{NoGround, SizeGround, AttributeGround, LockGround}
+use Rattle.rules.specs.declared.Ground.the-variants.{SizeGround, AttributeGround, LockGround}
 use Rattle.rules.specs.Set.{requestGround}
 use Rattle.names.specs.Name.{Variable}
 use Rattle.set.proofs.Grounds.{by-request, locked-ground, unlocked-ground}

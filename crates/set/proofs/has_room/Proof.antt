@@ -1,7 +1,7 @@
 use Rattle.set.proofs.Puts.{namespace-length, name-most, end-nv, end-vol, found-alike, room-alike}
 use Rattle.rules.specs.Set.{storedAttributes}
 use mathlib.Core.Bool.{true, false}
-use mathlib.Core.Path.{_≡_, sym, _∙_}
+use mathlib.Core.Path.{sym, _∙_}
 use borrow.Author.Needs.{needs}
 use Rattle.set.proofs.has_room.Statement.{statement}
 use Rattle.set.proofs.has_room.Tie as tie

@@ -1,5 +1,5 @@
 use Rattle.set.proofs.Requests.{empty-length, some-length}
-use Rattle.rules.specs.Set.{isDeletion, isEmpty}
+use Rattle.rules.specs.Set.{isDeletion}
 use Rattle.slices.specs.Test.{_and_}
 use borrow.Author.Needs.{needs}
 use Rattle.set.proofs.is_deletion.Statement.{statement}

@@ -1,6 +1,5 @@
 use Rattle.set.proofs.Puts.{put-storable, put-room, put-is, joined-some}
 use Rattle.set.proofs.WriteSteps.{after-plain, after-append}
-use Rattle.rules.specs.Set.{Request, requestOf}
 use mathlib.Core.Path.{sym, _∙_}
 use borrow.Author.Needs.{needs}
 use Rattle.set.proofs.put.Statement.{statement}
