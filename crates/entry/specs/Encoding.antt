@@ -58,7 +58,7 @@ encodeNumbers f = le32Bytes (f .minSize) ++ (le32Bytes (f .maxSize) ++ (le32Byte
 unfoldable pub encodeEntry : Fields → Bytes
 encodeEntry f = le32Bytes entryVersion ++ (le16Bytes (sizeFor f) ++ (le16Bytes (offsetFor f) ++ (f .namespace ++ encodeNumbers f)))
 
--- the rules of the table, field by field
+-- in range (RULES.md, 3.1), field by field
 abbrev pub LockInRange : Lock → Type 0
 LockInRange (plain k) = k ≤ 2
 LockInRange (onVarState namespace value reserved name) = (length namespace ≡ namespaceBytes) × (isName name ≡ true)

@@ -31,7 +31,7 @@ use Rattle.entry.specs.declared.Entry.{Entry}
 use Rattle.entry.specs.declared.Parsed.{Parsed}
 use Rattle.entry.specs.declared.Parsed.the-variants.{WellFormed, Malformed}
 
--- the fields, at their places in the table
+-- the fields, at their places (RULES.md, 3.1)
 abbrev pub version : Bytes → ℕ
 version e = le32 e versionAt
 
