@@ -5,7 +5,7 @@
 
   - a non-volatile and a volatile store of variables, 0 to 32,768 bytes each: records with EDK2's
     variable header (0x55AA, state 0x3F) end to end, then 0xFF;
-  - a policy record of exactly 8,192 bytes: packed entries end to end, then zeros;
+  - 8,192 bytes of policy record: packed entries end to end, then zeros;
   - three switches, varpolicy_switches, in each byte of which every value has a meaning.
 
   A call checks all of each store and policy record that it is lent, and answers
@@ -130,8 +130,8 @@ typedef struct {
 } varpolicy_found;
 
 /**
-  Powers an engine on: fills the volatile store with 0xFF and the policy record with zeros. The engine
-  is then enabled, unlocked and empty.
+  Powers an engine on: the policy record becomes all zeros, the volatile store all 0xFF. The engine is
+  then enabled, unlocked and empty.
 
   @param[in]  nv                 The non-volatile store.
   @param[in]  nv_len             Its length.
@@ -214,8 +214,8 @@ varpolicy_register (
   );
 
 /**
-  Writes the entries, end to end in the order registered, to the start of a buffer. Later bytes of the
-  buffer stay.
+  Writes the entries, one behind the other as they were registered, to the start of a buffer. Later
+  bytes of the buffer stay.
 
   @param[in]     policy      The policy record.
   @param[in]     policy_len  Its length.
@@ -331,10 +331,11 @@ varpolicy_read (
   @retval VARPOLICY_INVALID_PARAMETER  RT or APPEND without BS.
   @retval VARPOLICY_INVALID_PARAMETER  The engine is enabled, an entry is chosen, the request is no
                                        deletion, and the length of the payload is outside MinSize to
-                                       MaxSize, or a required attribute is missing or a prohibited one set.
+                                       MaxSize, or the attributes lack a required bit or have a
+                                       prohibited one.
   @retval VARPOLICY_WRITE_PROTECTED    The engine is enabled and the chosen entry locks the variable.
   @retval VARPOLICY_NOT_FOUND          A deletion, and there is no such variable.
-  @retval VARPOLICY_INVALID_PARAMETER  The variable exists with other NV, BS or RT.
+  @retval VARPOLICY_INVALID_PARAMETER  The variable is stored with a different NV, BS or RT.
   @retval VARPOLICY_OUT_OF_RESOURCES   An append would make the payload longer than VARPOLICY_MAX_PAYLOAD,
                                        or the records would be longer than their store.
   @retval VARPOLICY_SUCCESS            Stored, appended, deleted or, for an empty append, left as it was.

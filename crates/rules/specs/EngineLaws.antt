@@ -82,7 +82,7 @@ refused-answer : (s : State) (c : Call) → isSuccess (step s c .0 .status) ≡ 
 unfolding step
 refused-answer s c h = ap (λ b. cond b (given s c) (refusal s c (status s c))) (ap isSuccess (sym (answer-status s c (status s c))) ∙ h)
 
--- EVERY NUMBER BESIDE A REFUSAL IS ZERO, but for the needed length at 5; a dump's buffer is as it was, a power-on or restart hands back
+-- NO NUMBER BUT ZERO BESIDE A REFUSAL, except a dump's length beside 5; a dump's buffer is as it was, a power-on or restart hands back
 -- the refused switches, and nothing else is there
 pub record BesideRefusal (c : Call) (a : Answer) : Type 0 where
   pub number : eqb (statusNumber (a .status)) 5 ≡ false → a .number ≡ 0

@@ -325,7 +325,7 @@ fn decide_store<'a>(
     Decision::Refuse(Status::OutOfResources)
 }
 
-// Steps 5 to 9. NOT_FOUND for the deletion of an absent variable; INVALID_PARAMETER where the variable exists with other NV, BS or RT.
+// Steps 5 to 9. NOT_FOUND for the deletion of an absent variable; INVALID_PARAMETER where the variable is stored with a different NV, BS or RT.
 fn decide_write<'a>(
     nv: &'a [u8],
     vol: &'a [u8],

@@ -36,7 +36,7 @@ impl Call {
     }
 }
 
-/// The status and every value beside it.
+/// What a call hands back.
 #[derive(Clone, PartialEq, Eq, Debug)]
 pub struct Answer {
     /// The status.

@@ -6,7 +6,7 @@ use std::collections::BTreeMap;
 use varpolicy::calls::{self, Request, Started};
 use varpolicy::{Namespace, POLICY_BYTES, Status, SwitchBytes, Switches};
 
-/// Both stores, the policy record and the switches.
+/// The four parts of `docs/RULES.md`, 1.2.
 pub struct Simulation {
     nv: Vec<u8>,
     volatile: Vec<u8>,

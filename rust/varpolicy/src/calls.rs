@@ -96,7 +96,7 @@ pub fn register(policy: &mut [u8], switches: impl Into<SwitchBytes>, entry: &[u8
     Status::answered(answer)
 }
 
-/// Writes the entries, end to end in the order registered, to the start of `buffer`; later bytes stay.
+/// Writes the entries, one behind the other as they were registered, to the start of `buffer`; later bytes stay.
 ///
 /// * VOLUME_CORRUPTED: `policy` is not a policy record.
 /// * BUFFER_TOO_SMALL: `buffer` is shorter than the sum of Sizes, which is the length answered.

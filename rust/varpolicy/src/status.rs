@@ -10,7 +10,7 @@ pub enum Status {
     InvalidParameter = 2,
     /// An attribute bit outside 0x47.
     Unsupported = 3,
-    /// The buffer of a dump is too short; the needed length comes with it.
+    /// The buffer of a dump is too short; how long it must be is told too.
     BufferTooSmall = 5,
     /// The engine or the variable is locked.
     WriteProtected = 8,

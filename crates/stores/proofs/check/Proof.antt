@@ -1,6 +1,6 @@
--- `stores::check` meets its contract: what it answers is `pairCheck`. The scans tell that no variable stands twice, in the non-volatile store and then in
--- both, and where the records end; what is left is that each store is small enough and holds only 0xFF behind its records. By the returns: a store too
--- long, a variable that stands twice in the first store or in both, and the two tests behind the records. Assumes nothing.
+-- `stores::check` meets its contract: what it answers is `pairCheck`. The scans tell that no variable has two records, in the non-volatile store and
+-- then in both, and where the records end; what is left is that each store is small enough and holds only 0xFF behind its records. By the returns: a
+-- store too long, a variable that stands twice in the first store or in both, and the two tests behind the records. Assumes nothing.
 use Rattle.stores.proofs.Both.{Ended, ends-at, repeated-in, long-first, long-second, repeated-first, repeated-second, check-sound, check-unsound}
 use Rattle.store.specs.Store.{recordsOf}
 use Rattle.slices.specs.ChunksLaws.{nil}
