@@ -9,12 +9,11 @@ use lib.ListN.{length, take, length-append}
 use borrow.Author.Tests.{le-leb}
 use Rattle.limits.specs.Limits.{maxEntries, policyBytes}
 use Rattle.lists.specs.Lists as lists
-use Rattle.lists.specs.Lists.{over}
-use Rattle.lists.specs.ListsLaws.{length-perm, flat-perm, over-over}
+use Rattle.lists.specs.Lists.{All, over}
+use Rattle.lists.specs.ListsLaws.{all-right, all-here, length-perm, flat-perm, over-over}
 use Rattle.slices.specs.Test.{_and_}
 use Rattle.slices.specs.Bytes.{Bytes, padded}
 use Rattle.slices.specs.Chunks.{flat, packed}
-use Rattle.slices.specs.ItemsLaws.{all-right, all-here}
 use Rattle.names.specs.Name.{named}
 use Rattle.entry.specs.Entry.{sameTarget}
 use Rattle.policy.specs.Policy.{entriesOf, sizesSum, packPolicy, policyValid}
@@ -37,7 +36,6 @@ use Rattle.history.specs.History.Kind.{starts, registers, dumps, keeps}
 use Rattle.history.specs.HistoryLaws.{granted-refused, SameChoice, Laws}
 use Rattle.demand3.specs.Machine.{stateIn, answerIn, outcomeBy, kindOf, restartOf, closingOf, machine}
 use Rattle.demand3.specs.OrderLaws.{flat-length, length-flat, contains-perm, entries-perm, entries-left, entries-new, over-pack, overwrite-perm, overwrite-take}
-use Rattle.rules.specs.FoundLaws.{all-lists, lists-all}
 
 -- ---- another order of the entries: a state of the rules with the record of the entries o
 abbrev withEntries : State → List Bytes → State
@@ -263,10 +261,10 @@ dump-holds s c k h = go (isSuccess (status s c)) refl (sym (outcome-status s c) 
     go false e i = absurd (granted-refused (sym i))
 
 -- well-formed entries end to end come apart in one way: their record has that list
-unique : {ds es : List Bytes} → lists.All WellFormed ds → lists.All WellFormed es → flat ds ≡ flat es → ds ≡ es
+unique : {ds es : List Bytes} → All WellFormed ds → All WellFormed es → flat ds ≡ flat es → ds ≡ es
 unfolding packed
 unique {ds} {es} p q h =
-    sym (entriesOf-pack ds (lists-all ds p)) ∙ ap (λ (l : Bytes). entriesOf (padded policyBytes 0 l)) h ∙ entriesOf-pack es (lists-all es q)
+    sym (entriesOf-pack ds p) ∙ ap (λ (l : Bytes). entriesOf (padded policyBytes 0 l)) h ∙ entriesOf-pack es q
 
 -- ---- A REBUILD: a list of calls that all answer 0, and where it leads
 record Runs (s : State) (cs : List Call) (z : State) : Type 0 where
@@ -301,7 +299,7 @@ register-done es e fs a =
     let few : suc (length es) ≤ maxEntries = omega (arith, rw length-append at (a .few)) in
     let room : length (flat es) + length e ≤ policyBytes = omega arith in
     rw (
-      all-here e fs (all-right es (e ∷ fs) (a .formed)),
+      all-here (all-right es (e ∷ fs) (a .formed)),
       entries-new es e fs a,
       le-leb (suc (length es)) maxEntries few,
       le-leb (length (flat es) + length e) policyBytes room,
@@ -360,7 +358,7 @@ ordered-again s x o d = ap (λ (p : Bytes). stateOf (s .nv) (s .vol) p (s .switc
 pub laws : Laws machine Reached
 laws = record {
   unique = λ {ds} {es} p q h. unique p q h;
-  areFormed = λ {t} {s} w. all-lists (entriesOf (s .policy)) (entriesOf-formed (s .policy));
+  areFormed = λ {t} {s} w. entriesOf-formed (s .policy);
   asListed = λ {t} {s} w.
       ap (λ (p : Bytes). stateOf (s .nv) (s .vol) p (s .switches))
       (over-o s (w .sound) (entriesOf (s .policy)) (Permᴰ·refl (entriesOf (s .policy))) ∙ pack-entriesOf (s .policy) (w .sound .policy));

@@ -11,15 +11,15 @@ use lib.Seq.{take-append-seam, drop-append-seam}
 use Rattle.limits.specs.Limits.{policyBytes}
 use Rattle.lists.specs.Lists as lists
 use Rattle.lists.specs.Lists.{any, over}
-use Rattle.lists.specs.ListsLaws.{all-map, all-perm, pairs-perm, pairs-middle, any-perm, length-perm, flat-perm, over-over}
+use Rattle.lists.specs.ListsLaws.{all-map, all-left, all-perm, pairs-perm, pairs-middle, any-perm, length-perm, flat-perm, over-over}
 use Rattle.slices.specs.Bytes.{Bytes, overwrite, padded}
 use Rattle.slices.specs.Chunks.{flat, packed, contains}
 use Rattle.slices.specs.ChunksLaws.{flat-append}
-use Rattle.slices.specs.ItemsLaws.{all-left, distinct-left}
+use Rattle.slices.specs.ItemsLaws.{distinct-left}
 use Rattle.entry.specs.Entry.{sameTarget}
 use Rattle.policy.specs.Policy.{packPolicy}
-use Rattle.policy.specs.PolicyLaws.{WellFormed, Entries}
-use Rattle.rules.specs.FoundLaws.{all-lists, lists-all, distinct-pairs, none-like, pairs-distinct, tells-target}
+use Rattle.policy.specs.PolicyLaws.{Entries}
+use Rattle.rules.specs.FoundLaws.{distinct-pairs, none-like, pairs-distinct, tells-target}
 
 -- ---- the same tests, said twice
 
@@ -42,7 +42,7 @@ contains-perm p {es} {o} d = contains-any p o ∙ sym (any-perm p d) ∙ sym (co
 pub entries-perm : {es o : List Bytes} → List·Permᴰ es o → Entries es → Entries o
 entries-perm {es} {o} d a =
     record {
-      formed = lists-all o (all-perm WellFormed d (all-lists es (a .formed)));
+      formed = all-perm d (a .formed);
       few = rw (← length-perm d) (a .few);
       room = rw (length-flat d) (a .room);
       apart = pairs-distinct sameTarget _ tells-target o (pairs-perm _ (λ x y h k. h (sym (k .0), sym (k .1))) d (distinct-pairs sameTarget _ tells-target es (a .apart)));
@@ -63,7 +63,7 @@ entries-left es fs a =
 pub entries-new : (es : List Bytes) (e : Bytes) (fs : List Bytes) → Entries (es ++ (e ∷ fs)) → contains (sameTarget e) es ≡ false
 entries-new es e fs a =
     none-like sameTarget _ tells-target e es
-    (all-map _ _ (λ x h k. h (sym (k .0), sym (k .1))) es (pairs-middle _ es e fs (distinct-pairs sameTarget _ tells-target (es ++ (e ∷ fs)) (a .apart))))
+    (all-map (λ x h k. h (sym (k .0), sym (k .1))) es (pairs-middle _ es e fs (distinct-pairs sameTarget _ tells-target (es ++ (e ∷ fs)) (a .apart))))
 
 -- the entries in another order over the record of the same entries
 over-padded : (n : ℕ) (es o : List Bytes) → length (flat es) ≡ length (flat o)

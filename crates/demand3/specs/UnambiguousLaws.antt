@@ -11,8 +11,8 @@ use native.Mathlib.Omega.{arith}
 use lib.ListN.{length}
 use borrow.Author.Tests.{eq-eqb, eqb-true}
 use Rattle.limits.specs.Limits.{namespaceBytes, wholeNamespaceRank}
-use Rattle.lists.specs.Lists.{All, Pairs, RanksDiffer}
-use Rattle.lists.specs.ListsLaws.{all-map}
+use Rattle.lists.specs.Lists.{All, nil, more, Pairs, RanksDiffer}
+use Rattle.lists.specs.ListsLaws.{all-here, all-rest, all-map}
 use Rattle.slices.specs.Test.{_and_}
 use Rattle.slices.specs.TestLaws.{and-left, and-right, and-intro}
 use Rattle.slices.specs.Bytes.{Bytes, AreBytes, pairwise}
@@ -55,7 +55,7 @@ unfolding units
 spell-unit a b c d s ha hb (inl e) r =
     record {
       bytes = a ∷ b ∷ r .bytes;
-      areBytes = (ha, (hb, r .areBytes));
+      areBytes = more ha (more hb (r .areBytes));
       sameUnits = ap₂ _∷_ e (r .sameUnits);
       sameLength = ap (λ n. suc (suc n)) (r .sameLength);
     }
@@ -63,20 +63,20 @@ spell-unit a b c d s ha hb (inr l) r =
     let e : c + 256 * d + 256 * 0 ≡ c + 256 * d = omega arith in
     record {
       bytes = (c + 256 * d) ∷ 0 ∷ r .bytes;
-      areBytes = (l, (omega arith, r .areBytes));
+      areBytes = more l (more {a = 0} (omega arith) (r .areBytes));
       sameUnits = ap₂ _∷_ e (r .sameUnits);
       sameLength = ap (λ n. suc (suc n)) (r .sameLength);
     }
 
 spell : (p s : Bytes) → AreBytes p → length s % 2 ≡ 0 → pairwise unitMatches (units p) (units s) ≡ true → Spelled s
 unfolding units pairwise
-spell p [] h e m = record { bytes = []; areBytes = tt; sameUnits = refl; sameLength = refl }
+spell p [] h e m = record { bytes = []; areBytes = nil; sameUnits = refl; sameLength = refl }
 spell p (c ∷ []) h e m = absurd (omega arith)
 spell [] (c ∷ d ∷ s) h e m = absurd (false≢true m)
 spell (a ∷ []) (c ∷ d ∷ s) h e m = absurd (false≢true m)
-spell (a ∷ b ∷ p) (c ∷ d ∷ s) h e m =
-    spell-unit a b c d s (h .0) (h .1 .0) (unit-cases (a + 256 * b) (c + 256 * d) (and-left _ _ m))
-    (spell p s (h .1 .1) (omega arith) (and-right _ _ m))
+spell (a ∷ b ∷ p) (c ∷ d ∷ s) (more ha (more hb h)) e m =
+    spell-unit a b c d s ha hb (unit-cases (a + 256 * b) (c + 256 * d) (and-left _ _ m))
+    (spell p s h (omega arith) (and-right _ _ m))
 
 -- ---- what stays of a variable with its name spelled anew
 
@@ -144,7 +144,7 @@ module _ (e f : Bytes) (v : Variable) (h : AreBytes e) (n : named v ≡ true) (p
 
   by-namespace : nameIsEmpty e ≡ true → nameIsEmpty f ≡ true → ⊥
   by-namespace z y =
-      differ (respelled v letterA) (record { namespace = namespace-bytes; name = (omega arith, (omega arith, tt)); taken = named-A })
+      differ (respelled v letterA) (record { namespace = namespace-bytes; name = more (omega arith) (more (omega arith) nil); taken = named-A })
       (targets-A e z p) (targets-A f y q) k
 
   never-both : ⊥
@@ -160,13 +160,13 @@ module _ (e f : Bytes) (v : Variable) (h : AreBytes e) (n : named v ≡ true) (p
 -- what holds of each pair with every variable
 all-each : {A W : Type 0} (P : W → Type 0) (R : W → A → Type 0) (l : List A) → ((w : W) → P w → All (R w) l)
     → All (λ a. (w : W) → P w → R w a) l
-all-each P R [] h = tt
-all-each P R (a ∷ l) h = (λ w p. h w p .0, all-each P R l (λ w p. h w p .1))
+all-each P R [] h = nil
+all-each P R (a ∷ l) h = more (λ w p. all-here (h w p)) (all-each P R l (λ w p. all-rest (h w p)))
 
 pub unambiguous : (ds : List Bytes) → All AreBytes ds → UnambiguousInBytes ds → Unambiguous machine ds
 unambiguous [] b u v n = tt
-unambiguous (e ∷ ds) b u v n = (
-  all-map _ _ (λ f differ p q k. never-both e f v (b .0) n p q k differ) ds
+unambiguous (e ∷ ds) (more b bs) u v n = (
+  all-map (λ f differ p q k. never-both e f v b n p q k differ) ds
       (all-each NamedInBytes (λ w. RanksDiffer rank (λ x. targets x w) e) ds (λ w r. u w r .0)),
-  unambiguous ds (b .1) (λ w r. u w r .1) v n,
+  unambiguous ds bs (λ w r. u w r .1) v n,
 )

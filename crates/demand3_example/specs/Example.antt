@@ -9,7 +9,7 @@ use mathlib.Core.Logic.{inl, inr}
 use native.Mathlib.Omega.{arith}
 use lib.ListN.{take, replicate, getD}
 use Rattle.lists.specs.Lists as lists
-use Rattle.lists.specs.Lists.{All, RanksDiffer}
+use Rattle.lists.specs.Lists.{All, nil, more, RanksDiffer}
 use Rattle.slices.specs.Test.{_and_}
 use Rattle.slices.specs.TestLaws.{and-left, and-right}
 use Rattle.slices.specs.Bytes.{Bytes, same}
@@ -23,7 +23,7 @@ use Rattle.rules.specs.Engine as rules
 use Rattle.rules.specs.Engine.{State, Answer, Call, step}
 use Rattle.rules.specs.Engine.Call.{powerOn, restart, register, dump, lock, disable, read, set}
 use Rattle.rules.specs.Opened.{rulesOpened}
-use Rattle.history.specs.History.{Items, Order, Complete, DumpOf, Demand3, Permitted, Past, answers, end, answersWith, endWith, history, stateBy, standingOrder, struck}
+use Rattle.history.specs.History.{Items, Order, Complete, Demand3, Permitted, Past, answers, end, answersWith, endWith, history, stateBy, standingOrder, struck}
 use Rattle.history.specs.AnyMoment.{pastAfter}
 use Rattle.history.specs.History.Kind.{dumps}
 use Rattle.history.specs.History.ItemOf.{call, ownDump, rebuild}
@@ -238,24 +238,37 @@ past is = pastAfter machine [] start is
 abbrev shows : List Bytes → Answer → Bool
 shows ds a = isSuccess (a .status) and same (flat ds) (take (a .number) (a .bytes))
 
-dump-of : {ds : List Bytes} {c : Call} {a : Answer} → kindOf c ≡ dumps → All (λ e. wellFormed e ≡ true) ds → shows ds a ≡ true
-    → DumpOf machine ds c a
-dump-of {ds} {c} {a} k f h =
-    record {
-      isDump = k;
-      isGranted = ap outcomeBy (and-left _ _ h);
-      areFormed = f;
-      areDumped = same-eq (flat ds) (take (a .number) (a .bytes)) (and-right _ _ h);
-    }
+-- and whose entries are well formed
+abbrev allFormed : List Bytes → Bool
+allFormed [] = true
+allFormed (e ∷ es) = wellFormed e and allFormed es
+
+all-formed : (ds : List Bytes) → allFormed ds ≡ true → All (λ e. wellFormed e ≡ true) ds
+all-formed [] h = nil
+all-formed (e ∷ es) h = more (and-left _ _ h) (all-formed es (and-right _ _ h))
+
+-- the last call of the past is such a dump
+abbrev ShownLast : List Bytes → Past machine → Type 0
+ShownLast ds [] = ⊥
+ShownLast ds (e ∷ past) = (kindOf (e .made) ≡ dumps) × (allFormed ds ≡ true) × (shows ds (e .got) ≡ true)
+
+complete-here : (ds : List Bytes) (past : Past machine) → ShownLast ds past → Complete machine ds past
+complete-here ds (e ∷ past) h =
+    inl (record {
+      isDump = h .0;
+      isGranted = ap outcomeBy (and-left _ _ (h .2));
+      areFormed = all-formed ds (h .1);
+      areDumped = same-eq (flat ds) (take (e .got .number) (e .got .bytes)) (and-right _ _ (h .2));
+    })
 
 complete-empty : Complete machine [] (past (ownDump [] ∷ []))
 unfolding rulesOpened
-complete-empty = inl (dump-of refl tt refl)
+complete-empty = complete-here [] (past (ownDump [] ∷ [])) (refl, refl, refl)
 
 -- the own dump; neither rebuilds nor dumps outdate it
 complete-own : Complete machine d₁₂ (past dumped₁)
 unfolding rulesOpened
-complete-own = inl (dump-of refl (refl, (refl, tt)) refl)
+complete-own = complete-here d₁₂ (past dumped₁) (refl, refl, refl)
 
 complete-own₂ : Complete machine d₁₂ (past items₂)
 complete-own₂ = inr (refl, complete-own)
@@ -266,7 +279,7 @@ complete-own₃ = inr (refl, complete-own₂)
 -- the history's dump; a disable, a lock and a refused registration do not outdate it
 complete-new : Complete machine d₂₁₃ (past items₄)
 unfolding rulesOpened
-complete-new = inl (dump-of refl (refl, (refl, (refl, tt))) refl)
+complete-new = complete-here d₂₁₃ (past items₄) (refl, refl, refl)
 
 complete-old : Complete machine d₂₁₃ (past items₅)
 unfolding rulesOpened
@@ -274,7 +287,7 @@ complete-old = inr (refl, inr (refl, inr (refl, complete-new)))
 
 complete-last : Complete machine d₃ (past items₆)
 unfolding rulesOpened
-complete-last = inl (dump-of refl (refl, tt) refl)
+complete-last = complete-here d₃ (past items₆) (refl, refl, refl)
 
 -- entries of different namespaces never target one variable
 apart : (e f : Bytes) → (namespaceOf e ≡ namespaceOf f → ⊥) → (v : Variable) → RanksDiffer rank (λ x. targets x v) e f
@@ -285,7 +298,7 @@ other-namespace : namespaceOf e₁ ≡ namespaceOf e₂ → ⊥
 other-namespace h = let z : _≡_ {A = ℕ} 0x5C 7 = ap (λ (l : Bytes). getD l 0 0) h in omega arith
 
 other-order : Permitted machine d₁₂ (some d₂₁)
-other-order = (List·Permᴰ·swap refl refl, λ v n. ((apart e₁ e₂ other-namespace v, tt), (tt, tt)))
+other-order = (List·Permᴰ·swap refl refl, λ v n. (more (apart e₁ e₂ other-namespace v) nil, (nil, tt)))
 
 -- and entries that target one variable at different ranks may stand in any order: "A#" and "A1" of one namespace, both of which
 -- target "A1"
@@ -301,7 +314,7 @@ unfolding rulesOpened
 other-rank h = let z : _≡_ {A = ℕ} 1 0 = h in omega arith
 
 pub other-ranks : Permitted machine (e₁ ∷ e₄ ∷ []) (some (e₄ ∷ e₁ ∷ []))
-other-ranks = (List·Permᴰ·swap refl refl, λ v n. (((λ p q r. other-rank r), tt), (tt, tt)))
+other-ranks = (List·Permᴰ·swap refl refl, λ v n. (more (λ p q r. other-rank r) nil, (nil, tt)))
 
 abbrev ProperHere : Items machine → Type 0
 ProperHere = ProperFrom board true (answered .powered)

@@ -9,7 +9,7 @@ use mathlib.Core.Option.{none, some}
 use mathlib.Core.Logic.{_⊎_, inl, inr}
 use Prim.Native.Nat.{ℕ}
 use native.Mathlib.Omega.{arith}
-use Rattle.lists.specs.Lists.{All, flat, best, chosen}
+use Rattle.lists.specs.Lists.{All, nil, more, flat, best, chosen}
 use Rattle.lists.specs.ListsLaws.{best-append, best-perm}
 use Rattle.history.specs.History.{Outcome, Kind, Machine, Buffer, Entry, Entries, Items, Order}
 use Rattle.history.specs.History.Outcome.{granted, refused, cut}
@@ -202,14 +202,14 @@ module _ (M : Machine) where
 
   -- no answer that is left is a refusal
   none-refused : (l : List Answer) → All (λ a. outcome a ≡ refused → ⊥) (struckAnswers M l)
-  none-refused [] = tt
+  none-refused [] = nil
   none-refused (a ∷ l) = go (outcome a) refl (none-refused l)
     where
       go : (r : Outcome) → outcome a ≡ r → All (λ a. outcome a ≡ refused → ⊥) (struckAnswers M l)
           → All (λ a. outcome a ≡ refused → ⊥) (ifRefused r (struckAnswers M l) (a ∷ struckAnswers M l))
-      go granted e h = (λ r. granted-refused (sym e ∙ r), h)
+      go granted e h = more (λ r. granted-refused (sym e ∙ r)) h
       go refused e h = h
-      go cut e h = (λ r. cut-refused (sym e ∙ r), h)
+      go cut e h = more (λ r. cut-refused (sym e ∙ r)) h
 
   module _ (Invariant : Bool → State → Type 0) (L : Laws Invariant) where
     -- COMPLETE DUMPS: one that is complete after a call is the state's entries or was complete before, and the call outdates

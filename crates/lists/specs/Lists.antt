@@ -8,12 +8,12 @@ use Prim.Native.Nat.{ℕ}
 use lib.ListN.{length, drop}
 use lib.Dec.{ltb}
 
-module _ {A : Type 0} where
-  -- of each
-  abbrev pub All : (A → Type 0) → List A → Type 0
-  All P [] = Unit
-  All P (a ∷ l) = P a × All P l
+-- of each
+pub data All {A : Type 0} (P : A → Type 0) : List A → Type 0 where
+  nil : All P []
+  more : {a : A} {l : List A} → P a → All P l → All P (a ∷ l)
 
+module _ {A : Type 0} where
   -- a stands in the list
   abbrev pub Among : A → List A → Type 0
   Among a [] = ⊥

@@ -10,7 +10,7 @@ use native.Mathlib.Omega.{arith}
 use lib.ListN.{length, length-append}
 use lib.Seq.{drop-append-seam}
 use lib.Dec.{ltb, T, ltb→lt, nltb→le}
-use Rattle.lists.specs.Lists.{All, Among, Pairs, any, flat, over, lower, better, best, chosen, RanksDiffer}
+use Rattle.lists.specs.Lists.{All, nil, more, Among, Pairs, any, flat, over, lower, better, best, chosen, RanksDiffer}
 
 or-left-comm : (x y z : Bool) → (x || (y || z)) ≡ (y || (x || z))
 or-left-comm true true z = refl
@@ -18,33 +18,47 @@ or-left-comm true false z = refl
 or-left-comm false true z = refl
 or-left-comm false false z = refl
 
-module _ {A : Type 0} where
+module _ {A : Type 0} {P : A → Type 0} where
   -- each
-  pub all-map : (P Q : A → Type 0) → ((a : A) → P a → Q a) → (l : List A) → All P l → All Q l
-  all-map P Q f [] h = tt
-  all-map P Q f (a ∷ l) h = (f a (h .0), all-map P Q f l (h .1))
+  pub all-here : {a : A} {l : List A} → All P (a ∷ l) → P a
+  all-here (more h k) = h
 
-  pub all-append : (P : A → Type 0) (l m : List A) → All P l → All P m → All P (l ++ m)
-  all-append P [] m h k = k
-  all-append P (x ∷ l) m h k = (h .0, all-append P l m (h .1) k)
+  pub all-rest : {a : A} {l : List A} → All P (a ∷ l) → All P l
+  all-rest (more h k) = k
 
-  pub all-left : (P : A → Type 0) (l m : List A) → All P (l ++ m) → All P l
-  all-left P [] m h = tt
-  all-left P (x ∷ l) m h = (h .0, all-left P l m (h .1))
+  pub all-map : {Q : A → Type 0} → ((a : A) → P a → Q a) → (l : List A) → All P l → All Q l
+  all-map f [] nil = nil
+  all-map f (a ∷ l) (more h k) = more (f a h) (all-map f l k)
 
-  pub all-right : (P : A → Type 0) (l m : List A) → All P (l ++ m) → All P m
-  all-right P [] m h = h
-  all-right P (x ∷ l) m h = all-right P l m (h .1)
+  pub all-append : (l m : List A) → All P l → All P m → All P (l ++ m)
+  all-append [] m nil k = k
+  all-append (a ∷ l) m (more h i) k = more h (all-append l m i k)
+
+  pub all-left : (l m : List A) → All P (l ++ m) → All P l
+  all-left [] m h = nil
+  all-left (a ∷ l) m (more h k) = more h (all-left l m k)
+
+  pub all-right : (l m : List A) → All P (l ++ m) → All P m
+  all-right [] m h = h
+  all-right (a ∷ l) m (more h k) = all-right l m k
 
   -- and of each that stands in the list
-  pub all-among : (P : A → Type 0) (l : List A) → All P l → (a : A) → Among a l → P a
-  all-among P (x ∷ l) h a (inl e) = subst⁻¹ P e (h .0)
-  all-among P (x ∷ l) h a (inr k) = all-among P l (h .1) a k
+  pub all-among : (l : List A) → All P l → (a : A) → Among a l → P a
+  all-among (x ∷ l) (more h w) a (inl e) = subst⁻¹ P e h
+  all-among (x ∷ l) (more h w) a (inr k) = all-among l w a k
 
-  pub among-all : (P : A → Type 0) (l : List A) → ((a : A) → Among a l → P a) → All P l
-  among-all P [] h = tt
-  among-all P (x ∷ l) h = (h x (inl refl), among-all P l (λ a k. h a (inr k)))
+  pub among-all : (l : List A) → ((a : A) → Among a l → P a) → All P l
+  among-all [] h = nil
+  among-all (x ∷ l) h = more (h x (inl refl)) (among-all l (λ a k. h a (inr k)))
 
+  -- A PERMUTATION keeps what holds of each
+  pub all-perm : {l m : List A} → List·Permᴰ l m → All P l → All P m
+  all-perm List·Permᴰ·nil h = nil
+  all-perm (List·Permᴰ·cons e d) (more h k) = more (subst P e h) (all-perm d k)
+  all-perm (List·Permᴰ·swap e₁ e₂) (more h (more i k)) = more (subst P e₂ i) (more (subst P e₁ h) k)
+  all-perm (List·Permᴰ·trans d₁ d₂) h = all-perm d₂ (all-perm d₁ h)
+
+module _ {A : Type 0} where
   pub among-left : (l m : List A) (a : A) → Among a l → Among a (l ++ m)
   among-left (x ∷ l) m a (inl e) = inl e
   among-left (x ∷ l) m a (inr k) = inr (among-left l m a k)
@@ -56,47 +70,19 @@ module _ {A : Type 0} where
   pub among-middle : (l : List A) (a : A) (m : List A) → Among a (l ++ (a ∷ m))
   among-middle l a m = among-right l (a ∷ m) a (inl refl)
 
-  -- each two: one more behind the others, those in front of a place, and those before it against it
-  pub pairs-snoc : (R : A → A → Type 0) (l : List A) (a : A) → Pairs R l → All (λ x. R x a) l → Pairs R (l ++ (a ∷ []))
-  pairs-snoc R [] a h p = (tt, tt)
-  pairs-snoc R (x ∷ l) a h p = (all-append (R x) l (a ∷ []) (h .0) (p .0, tt), pairs-snoc R l a (h .1) (p .1))
-
-  pub pairs-left : (R : A → A → Type 0) (l m : List A) → Pairs R (l ++ m) → Pairs R l
-  pairs-left R [] m h = tt
-  pairs-left R (x ∷ l) m h = (all-left (R x) l m (h .0), pairs-left R l m (h .1))
-
+  -- each two: those in front of a place against it
   pub pairs-middle : (R : A → A → Type 0) (l : List A) (a : A) (m : List A) → Pairs R (l ++ (a ∷ m)) → All (λ x. R x a) l
-  pairs-middle R [] a m h = tt
-  pairs-middle R (x ∷ l) a m h = (all-right (R x) l (a ∷ m) (h .0) .0, pairs-middle R l a m (h .1))
+  pairs-middle R [] a m h = nil
+  pairs-middle R (x ∷ l) a m h = more (all-here (all-right l (a ∷ m) (h .0))) (pairs-middle R l a m (h .1))
 
-  -- the test of any
-  pub any-none : (p : A → Bool) (l : List A) → All (λ x. p x ≡ false) l → any p l ≡ false
-  any-none p [] h = refl
-  any-none p (x ∷ l) h = rw (h .0) (any-none p l (h .1))
-
-  pub none-any : (p : A → Bool) (l : List A) → any p l ≡ false → All (λ x. p x ≡ false) l
-  none-any p [] h = tt
-  none-any p (x ∷ l) h = go (p x) refl h (none-any p l)
-    where
-      go : (b : Bool) → p x ≡ b → (b || any p l) ≡ false → (any p l ≡ false → All (λ x. p x ≡ false) l)
-          → (p x ≡ false) × All (λ x. p x ≡ false) l
-      go true e k f = absurd (true≢false k)
-      go false e k f = (e, f k)
-
-  -- A PERMUTATION keeps what holds of each and, where it is symmetric, of each two; the test of any; the length
-  pub all-perm : (P : A → Type 0) {l m : List A} → List·Permᴰ l m → All P l → All P m
-  all-perm P List·Permᴰ·nil h = tt
-  all-perm P (List·Permᴰ·cons e d) h = (subst P e (h .0), all-perm P d (h .1))
-  all-perm P (List·Permᴰ·swap e₁ e₂) h = (subst P e₂ (h .1 .0), (subst P e₁ (h .0), h .1 .1))
-  all-perm P (List·Permᴰ·trans d₁ d₂) h = all-perm P d₂ (all-perm P d₁ h)
-
+  -- A PERMUTATION keeps what holds of each two, where it is symmetric; the test of any; the length
   pub pairs-perm : (R : A → A → Type 0) → ((a b : A) → R a b → R b a) → {l m : List A}
       → List·Permᴰ l m → Pairs R l → Pairs R m
   pairs-perm R s List·Permᴰ·nil h = tt
-  pairs-perm R s (List·Permᴰ·cons {l₂ = m} e d) h = (subst (λ x. All (R x) m) e (all-perm _ d (h .0)), pairs-perm R s d (h .1))
+  pairs-perm R s (List·Permᴰ·cons {l₂ = m} e d) h = (subst (λ x. All (R x) m) e (all-perm d (h .0)), pairs-perm R s d (h .1))
   pairs-perm R s (List·Permᴰ·swap {a} {b} {a′} {b′} {l} e₁ e₂) h = (
-    (subst (λ x. R x b′) e₂ (subst (R b) e₁ (s a b (h .0 .0))), subst (λ x. All (R x) l) e₂ (h .1 .0)),
-    (subst (λ x. All (R x) l) e₁ (h .0 .1), h .1 .1),
+    more (subst (λ x. R x b′) e₂ (subst (R b) e₁ (s a b (all-here (h .0))))) (subst (λ x. All (R x) l) e₂ (h .1 .0)),
+    (subst (λ x. All (R x) l) e₁ (all-rest (h .0)), h .1 .1),
   )
   pairs-perm R s (List·Permᴰ·trans d₁ d₂) h = pairs-perm R s d₂ (pairs-perm R s d₁ h)
 
@@ -193,7 +179,7 @@ module _ {A : Type 0} (rank : A → ℕ) (targets : A → Bool) where
   best-perm b (List·Permᴰ·cons {b = y} {l₂ = m} e d) h =
       best-perm _ d (h .1) ∙ ap (λ x. best rank targets (better rank targets b x (targets x)) m) e
   best-perm b (List·Permᴰ·swap {a = x} {b = y} {l = l} e₁ e₂) h =
-      ap (λ z. best rank targets z l) (better-swap b x y (h .0 .0))
+      ap (λ z. best rank targets z l) (better-swap b x y (all-here (h .0)))
       ∙ ap₂ (λ u v. best rank targets (better rank targets (better rank targets b u (targets u)) v (targets v)) l) e₂ e₁
   best-perm b (List·Permᴰ·trans d₁ d₂) h =
       best-perm b d₁ h ∙ best-perm b d₂ (pairs-perm (RanksDiffer rank targets) ranks-differ-sym d₁ h)
@@ -214,13 +200,13 @@ module _ {A : Type 0} (rank : A → ℕ) (targets : A → Bool) where
   Holds l (some a) = Chosen l a
 
   holds-skip : (l : List A) (b : Option A) (x : A) → targets x ≡ false → Holds l b → Holds (l ++ (x ∷ [])) b
-  holds-skip l none x e h = all-append _ l (x ∷ []) h (e, tt)
+  holds-skip l none x e h = all-append l (x ∷ []) h (more e nil)
   holds-skip l (some a) x e h = record {
     before = h .before;
     after = h .after ++ (x ∷ []);
     place = ap (λ z. z ++ (x ∷ [])) (h .place) ∙ append-assoc (h .before) (a ∷ h .after) (x ∷ []);
     target = h .target;
-    lowest = all-append _ l (x ∷ []) (h .lowest) ((λ k. absurd (true≢false (sym k ∙ e))), tt);
+    lowest = all-append l (x ∷ []) (h .lowest) (more (λ k. absurd (true≢false (sym k ∙ e))) nil);
     first = h .first;
   }
 
@@ -231,20 +217,20 @@ module _ {A : Type 0} (rank : A → ℕ) (targets : A → Bool) where
     after = [];
     place = refl;
     target = e;
-    lowest = all-append _ l (x ∷ []) (all-map _ _ (λ y k t. let z = k t in omega arith) l h) ((λ k. omega arith), tt);
+    lowest = all-append l (x ∷ []) (all-map (λ y k t. let z = k t in omega arith) l h) (more (λ k. omega arith) nil);
     first = h;
   }
 
   holds-lower : (l : List A) (a x : A) → targets x ≡ true → Chosen l a → Less (rank x) (rank a)
       → Holds (l ++ (x ∷ [])) (lower rank targets a x (ltb (rank x) (rank a)))
   holds-lower l a x e h (inl p) =
-      rw (p .1) (holds-new l x e (all-map _ _ (λ y k t. let z = k t in let q = p .0 in omega arith) l (h .lowest)))
+      rw (p .1) (holds-new l x e (all-map (λ y k t. let z = k t in let q = p .0 in omega arith) l (h .lowest)))
   holds-lower l a x e h (inr p) = rw (p .1) (record {
     before = h .before;
     after = h .after ++ (x ∷ []);
     place = ap (λ z. z ++ (x ∷ [])) (h .place) ∙ append-assoc (h .before) (a ∷ h .after) (x ∷ []);
     target = h .target;
-    lowest = all-append _ l (x ∷ []) (h .lowest) ((λ k. p .0), tt);
+    lowest = all-append l (x ∷ []) (h .lowest) (more (λ k. p .0) nil);
     first = h .first;
   })
 
@@ -254,7 +240,7 @@ module _ {A : Type 0} (rank : A → ℕ) (targets : A → Bool) where
     where
       go : (t : Bool) → targets x ≡ t → (b : Option A) → Holds l b → Holds (l ++ (x ∷ [])) (better rank targets b x t)
       go false e b h = holds-skip l b x e h
-      go true e none h = holds-new l x e (all-map _ _ (λ y k t. absurd (true≢false (sym t ∙ k))) l h)
+      go true e none h = holds-new l x e (all-map (λ y k t. absurd (true≢false (sym t ∙ k))) l h)
       go true e (some a) h = holds-lower l a x e h (less (rank x) (rank a))
 
   holds-best : (l m : List A) (b : Option A) → Holds l b → Holds (l ++ m) (best rank targets b m)
@@ -264,14 +250,14 @@ module _ {A : Type 0} (rank : A → ℕ) (targets : A → Bool) where
       (holds-best (l ++ (x ∷ [])) m (better rank targets b x (targets x)) (holds-next l b x h))
 
   pub chosen-some : (l : List A) (a : A) → chosen rank targets l ≡ some a → Chosen l a
-  chosen-some l a h = subst (Holds l) h (holds-best [] l none tt)
+  chosen-some l a h = subst (Holds l) h (holds-best [] l none nil)
 
   pub chosen-none : (l : List A) → chosen rank targets l ≡ none → All (λ x. targets x ≡ false) l
-  chosen-none l h = subst (Holds l) h (holds-best [] l none tt)
+  chosen-none l h = subst (Holds l) h (holds-best [] l none nil)
 
   pub none-chosen : (l : List A) → All (λ x. targets x ≡ false) l → chosen rank targets l ≡ none
-  none-chosen [] h = refl
-  none-chosen (x ∷ l) h = rw (h .0) (none-chosen l (h .1))
+  none-chosen [] nil = refl
+  none-chosen (x ∷ l) (more h k) = rw h (none-chosen l k)
 
   -- an entry of which the laws hold is the chosen one
   same-place : (l m l′ m′ : List A) (a b : A) → l ++ (a ∷ l′) ≡ m ++ (b ∷ m′) → targets a ≡ true → targets b ≡ true
@@ -280,26 +266,26 @@ module _ {A : Type 0} (rank : A → ℕ) (targets : A → Bool) where
   same-place [] [] l′ m′ a b e p q r s f g = cc
   same-place [] (y ∷ m) l′ m′ a b e p q r s f g =
       let t : a ≡ y = cc in
-      let z : rank b < rank a = subst⁻¹ (λ x. rank b < rank x) t (g .0 (subst (λ x. targets x ≡ true) t p)) in
+      let z : rank b < rank a = subst⁻¹ (λ x. rank b < rank x) t (all-here g (subst (λ x. targets x ≡ true) t p)) in
       absurd (omega arith)
   same-place (x ∷ l) [] l′ m′ a b e p q r s f g =
       let t : b ≡ x = cc in
-      let z : rank a < rank b = subst⁻¹ (λ x. rank a < rank x) t (f .0 (subst (λ x. targets x ≡ true) t q)) in
+      let z : rank a < rank b = subst⁻¹ (λ x. rank a < rank x) t (all-here f (subst (λ x. targets x ≡ true) t q)) in
       absurd (omega arith)
   same-place (x ∷ l) (y ∷ m) l′ m′ a b e p q r s f g =
-      let t : l ++ (a ∷ l′) ≡ m ++ (b ∷ m′) = cc in same-place l m l′ m′ a b t p q r s (f .1) (g .1)
+      let t : l ++ (a ∷ l′) ≡ m ++ (b ∷ m′) = cc in same-place l m l′ m′ a b t p q r s (all-rest f) (all-rest g)
 
   -- what holds of each holds at the place
-  at-place : (P : A → Type 0) (l : List A) (a : A) → Chosen l a → All P l → P a
-  at-place P l a h p = all-right P (h .before) (a ∷ h .after) (subst (All P) (h .place) p) .0
+  at-place : {P : A → Type 0} (l : List A) (a : A) → Chosen l a → All P l → P a
+  at-place {P} l a h p = all-here (all-right (h .before) (a ∷ h .after) (subst (All P) (h .place) p))
 
   pub some-chosen : (l : List A) (a : A) → Chosen l a → chosen rank targets l ≡ some a
-  some-chosen l a h = go (chosen rank targets l) (holds-best [] l none tt)
+  some-chosen l a h = go (chosen rank targets l) (holds-best [] l none nil)
     where
       go : (b : Option A) → Holds l b → b ≡ some a
-      go none k = absurd (true≢false (sym (h .target) ∙ at-place (λ x. targets x ≡ false) l a h k))
+      go none k = absurd (true≢false (sym (h .target) ∙ at-place l a h k))
       go (some b) k =
-          let r : rank a ≤ rank b = at-place (λ x. targets x ≡ true → rank a ≤ rank x) l b k (h .lowest) (k .target) in
-          let s : rank b ≤ rank a = at-place (λ x. targets x ≡ true → rank b ≤ rank x) l a h (k .lowest) (h .target) in
+          let r : rank a ≤ rank b = at-place l b k (h .lowest) (k .target) in
+          let s : rank b ≤ rank a = at-place l a h (k .lowest) (h .target) in
           ap some (sym (same-place (h .before) (k .before) (h .after) (k .after) a b (sym (h .place) ∙ k .place)
           (h .target) (k .target) r s (h .first) (k .first)))

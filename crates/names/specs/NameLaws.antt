@@ -1,5 +1,5 @@
 -- Laws of names, which proofs cite instead of the definitions' text. Assumes nothing.
-use Prim.Native.Nat.{ℕ, zero, suc, _+_, _-_, _*_, _/_, _%_, _≤_, _<_}
+use Prim.Native.Nat.{ℕ, zero, suc, _+_, _-_, _*_, _/_, _≤_, _<_}
 use mathlib.Core.Path.{_≡_, refl, sym, ap, ap₂, _∙_}
 use mathlib.Core.List.{List, [], _∷_, _++_}
 use mathlib.Core.Bool.{Bool, true, false, not, _||_, _&&_, false≢true}
@@ -12,7 +12,7 @@ use lib.Seq.{drop-cons, getD-append-add, getD-append-seam, take-append-seam}
 use lib.Dec.{eqb, leb}
 use borrow.Author.Tests.{eq-eqb, ne-eqb, le-leb, leb-true, eqb-true, eqb-false}
 use Rattle.limits.specs.Limits.{maxNameBytes, namespaceBytes}
-use Rattle.lists.specs.Lists.{All, Among}
+use Rattle.lists.specs.Lists.{All, nil, more, Among}
 use Rattle.lists.specs.ListsLaws.{all-among, among-left, among-right}
 use Rattle.slices.specs.Test.{_and_}
 use Rattle.slices.specs.TestLaws.{or-cases, and-left, and-right, and-intro, and-assoc, and-eager}
@@ -37,23 +37,6 @@ units-at (a ∷ b ∷ rest) (suc k) h =
     let e : 2 * suc k ≡ suc (suc (2 * k)) = omega arith in
     let e₁ : 2 * suc k + 1 ≡ suc (suc (2 * k + 1)) = omega arith in
     rw (e₁, e) (units-at rest k (omega arith))
-
--- of whole units the bytes are determined: the same units are the same bytes
-pub units-injective : (s t : Bytes) → ((i : ℕ) → getD s i 0 < 256) → ((i : ℕ) → getD t i 0 < 256) → length s % 2 ≡ 0 → length t % 2 ≡ 0
-    → units s ≡ units t → s ≡ t
-unfolding units
-units-injective [] [] hs ht es et e = refl
-units-injective [] (c ∷ []) hs ht es et e = absurd (omega arith)
-units-injective [] (c ∷ d ∷ t) hs ht es et e = absurd (let z : _≡_ {A = ℕ} 0 1 = cc in omega arith)
-units-injective (a ∷ []) t hs ht es et e = absurd (omega arith)
-units-injective (a ∷ b ∷ s) [] hs ht es et e = absurd (let z : _≡_ {A = ℕ} 0 1 = cc in omega arith)
-units-injective (a ∷ b ∷ s) (c ∷ []) hs ht es et e = absurd (omega arith)
-units-injective (a ∷ b ∷ s) (c ∷ d ∷ t) hs ht es et e =
-    let u : a + 256 * b ≡ c + 256 * d = cc in
-    let r : units s ≡ units t = cc in
-    let p : a ≡ c = omega (arith, hs 0, ht 0) in
-    let q : b ≡ d = omega arith in
-    rw (p, q, units-injective s t (λ i. hs (suc (suc i))) (λ i. ht (suc (suc i))) (omega arith) (omega arith) r)
 
 -- one turn of a loop over the bytes of the units
 module _ (s : Bytes) (i : ℕ) (h : i + 2 ≤ length s) where
@@ -199,7 +182,7 @@ in-ranges u false false false e f g h = absurd (false≢true e)
 
 all-hex : All (λ x. isHexDigit x ≡ true) hexDigits
 unfolding isHexDigit _and_
-all-hex = (refl, (refl, (refl, (refl, (refl, (refl, (refl, (refl, (refl, (refl, (refl, (refl, (refl, (refl, (refl, (refl, (refl, (refl, (refl, (refl, (refl, (refl, tt))))))))))))))))))))))
+all-hex = more refl (more refl (more refl (more refl (more refl (more refl (more refl (more refl (more refl (more refl (more refl (more refl (more refl (more refl (more refl (more refl (more refl (more refl (more refl (more refl (more refl (more refl nil)))))))))))))))))))))
 
 -- EXACTLY THE 22 UNITS ARE HEX DIGITS
 pub hex-digits : (u : ℕ) → isHexDigit u ≡ true ↔ Among u hexDigits
@@ -207,7 +190,7 @@ unfolding isHexDigit
 hex-digits u = (
   (λ e. in-ranges u (leb 0x30 u and leb u 0x39) (leb 0x41 u and leb u 0x46) (leb 0x61 u and leb u 0x66) e
       (in-range 0x30 0x39 10 u refl) (in-range 0x41 0x46 6 u refl) (in-range 0x61 0x66 6 u refl)),
-  all-among (λ x. isHexDigit x ≡ true) hexDigits all-hex u,
+  all-among hexDigits all-hex u,
 )
 
 pub hex-small : (u : ℕ) → isHexDigit u ≡ true → u < 256

@@ -17,8 +17,9 @@ use Rattle.slices.specs.PartLaws.{part-of}
 use Rattle.slices.specs.NumberLaws.{le32-take, le32-drop}
 use Rattle.slices.specs.Hash.{hashFrom}
 use Rattle.slices.specs.Chunks.{contains, distinct}
-use Rattle.slices.specs.ChunksLaws.{All, nil, more}
-use Rattle.slices.specs.ItemsLaws.{or-off, or-right-off, all-append, all-map, contains-append, contains-one, distinct-apart, distinct-left, distinct-append}
+use Rattle.lists.specs.Lists.{All, nil, more}
+use Rattle.lists.specs.ListsLaws.{all-append, all-map}
+use Rattle.slices.specs.ItemsLaws.{or-off, or-right-off, contains-append, contains-one, distinct-apart, distinct-left, distinct-append}
 use Rattle.entry.specs.Entry.{namespaceOf, nameOf, sameTarget}
 use Rattle.entry.specs.EntryLaws.{sameTarget-same, sameTarget-sym, sameTarget-alike}
 use Rattle.policy.specs.declared.PolicyCheck.the-variants.{Valid, Invalid}

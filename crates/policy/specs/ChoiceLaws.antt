@@ -10,13 +10,14 @@ use lib.Seq.{take-append-seam, drop-append-seam, drop-append-add, drop-at, take-
 use lib.Dec.{ltb}
 use Rattle.limits.specs.Limits.{sizeAt}
 use Rattle.lists.specs.Lists as lists
+use Rattle.lists.specs.Lists.{All}
+use Rattle.lists.specs.ListsLaws.{all-right, all-here}
 use Rattle.slices.specs.Test.{_and_}
 use Rattle.slices.specs.Bytes.{Bytes, le16, part}
 use Rattle.slices.specs.NumberLaws.{le16-take, le16-drop}
 use Rattle.slices.specs.PartLaws.{part-of}
 use Rattle.slices.specs.Chunks.{flat}
-use Rattle.slices.specs.ChunksLaws.{All, flat-append, flat-one, flat-chunks}
-use Rattle.slices.specs.ItemsLaws.{all-right, all-here}
+use Rattle.slices.specs.ChunksLaws.{flat-append, flat-one, flat-chunks}
 use Rattle.names.specs.Name.{Variable}
 use Rattle.entry.specs.Entry.{wellFormed, targets, rank}
 use Rattle.entry.specs.EntryLaws.{sized}
@@ -126,7 +127,7 @@ module _ (es : List Bytes) (v : Variable) (i at r : ℕ) (e : Bytes) (k : Place 
   place-end m = rw (place-flat m, length-append, length-append) (omega (arith, k .start))
 
   pub place-all : {P : Bytes → Type 0} → All P es → P e
-  place-all {P} a = all-here e (drop (i + 1) es) (all-right (take i es) (e ∷ drop (i + 1) es) (rw place-split at a))
+  place-all {P} a = all-here (all-right (take i es) (e ∷ drop (i + 1) es) (rw place-split at a))
 
 -- ---- in a policy record
 module _ (p : Bytes) (v : Variable) (i at r : ℕ) (e : Bytes) (k : Place (entriesOf p) v i at r e) where

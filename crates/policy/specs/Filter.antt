@@ -6,7 +6,7 @@ use mathlib.Core.List.{List}
 use lib.ListN.{length, getD}
 use Rattle.slices.specs.Bytes.{Bytes, le32}
 use Rattle.slices.specs.Hash.{hashFrom}
-use Rattle.slices.specs.ChunksLaws.{All}
+use Rattle.lists.specs.Lists.{All}
 use Rattle.entry.specs.Entry.{namespaceOf, nameOf}
 
 abbrev pub slots : ℕ

@@ -10,15 +10,14 @@ use lib.Seq.{take-at, length-take-le}
 use lib.Dec.{leb}
 use borrow.Author.Tests.{eq-eqb, le-leb, eqb-true, leb-true}
 use Rattle.limits.specs.Limits.{sizeAt, entryHeader, maxEntryBytes, maxEntries, policyBytes}
+use Rattle.lists.specs.Lists.{All, nil, more}
+use Rattle.lists.specs.ListsLaws.{all-append, all-map}
 use Rattle.slices.specs.Test.{_and_}
 use Rattle.slices.specs.TestLaws.{and-left, and-right, and-intro}
 use Rattle.slices.specs.Bytes.{Bytes, le16}
 use Rattle.slices.specs.NumberLaws.{le16-take}
 use Rattle.slices.specs.Chunks.{flat, packed, contains, distinct}
 use Rattle.slices.specs.ChunksLaws.{
-  All,
-  nil,
-  more,
   IsItem,
   flat-append,
   flat-one,
@@ -33,7 +32,7 @@ use Rattle.slices.specs.ChunksLaws.{
   free-packed,
   length-packed,
 }
-use Rattle.slices.specs.ItemsLaws.{all-append, all-map, distinct-append}
+use Rattle.slices.specs.ItemsLaws.{distinct-append}
 use Rattle.entry.specs.Entry.{sizeField, wellFormed, sameTarget}
 use Rattle.entry.specs.EntryLaws.{sized, sameTarget-sym, sameTarget-alike}
 use Rattle.policy.specs.declared.PolicyCheck.the-variants.{Valid, Invalid}

@@ -1,6 +1,6 @@
 -- Each test of the rules holds exactly if its proposition in Grounds.antt does: bits, names, targets, the choice, requests.
 -- Assumes nothing.
-use Prim.Native.Nat.{ℕ, zero, suc, _+_, _-_, _/_, _%_, _≤_, _<_, min}
+use Prim.Native.Nat.{ℕ, zero, suc, _+_, _/_, _%_, _≤_, _<_, min}
 use mathlib.Core.Path.{_≡_, refl, sym, ap, ap₂, subst, subst⁻¹, _∙_}
 use mathlib.Core.List.{List, [], _∷_}
 use mathlib.Core.Bool.{Bool, true, false, not, _||_, cond, or-true, true≢false, false≢true}
@@ -15,7 +15,7 @@ use lib.Bits.{bitAnd, and-step}
 use borrow.Author.Tests.{eq-eqb, eqb-true, eqb-false, le-leb, leb-true, lt-ltb, ltb-true}
 use Rattle.limits.specs.Limits.{maxNameBytes, wholeNamespaceRank}
 use Rattle.lists.specs.Lists as lists
-use Rattle.lists.specs.Lists.{Among}
+use Rattle.lists.specs.Lists.{nil, more, Among}
 use Rattle.lists.specs.ListsLaws as choice
 use Rattle.lists.specs.ListsLaws.{all-among, among-all}
 use Rattle.slices.specs.Test.{_and_}
@@ -194,7 +194,7 @@ pub tells-unsupported : (a : ℕ) → Tells (unsupportedBit a) ((i : ℕ) × Bit
 unfolding unsupportedBit
 tells-unsupported a =
     let t = tells-missing a 0x47 in (
-      (λ e. let w = t .0 e in (w .0, w .1, λ k. w .2 (all-among (λ i. Bit i 0x47) knownBits (refl, (refl, (refl, (refl, tt)))) (w .0) k))),
+      (λ e. let w = t .0 e in (w .0, w .1, λ k. w .2 (all-among {P = λ i. Bit i 0x47} knownBits (more refl (more refl (more refl (more refl nil)))) (w .0) k))),
       λ w. t .1 (w .0, w .1, λ b. w .2 (known (w .0) b)),
     )
 
@@ -355,11 +355,11 @@ chosen-is es v e h =
       lowest = λ f m n k t x y.
           let p = tells-rank e m .1 x in
           let q = tells-rank f n .1 y in
-          let l = all-among _ es (c .lowest) f k (tells-targets f v .1 t) in omega arith;
+          let l = all-among es (c .lowest) f k (tells-targets f v .1 t) in omega arith;
       first = λ f m n k t x y.
           let p = tells-rank e m .1 x in
           let q = tells-rank f n .1 y in
-          let l = all-among _ (c .before) (c .first) f k (tells-targets f v .1 t) in omega arith;
+          let l = all-among (c .before) (c .first) f k (tells-targets f v .1 t) in omega arith;
     }
 
 pub is-chosen : (es : List Bytes) (v : Variable) (e : Bytes) → IsChosen es v e → chosen es v ≡ some e
@@ -370,6 +370,6 @@ is-chosen es v e c =
       after = c .after;
       place = c .place;
       target = tells-targets e v .1 (c .target);
-      lowest = among-all _ es (λ f k t. c .lowest f (rank e) (rank f) k (tells-targets f v .0 t) (rank-ranks e) (rank-ranks f));
-      first = among-all _ (c .before) (λ f k t. c .first f (rank e) (rank f) k (tells-targets f v .0 t) (rank-ranks e) (rank-ranks f));
+      lowest = among-all es (λ f k t. c .lowest f (rank e) (rank f) k (tells-targets f v .0 t) (rank-ranks e) (rank-ranks f));
+      first = among-all (c .before) (λ f k t. c .first f (rank e) (rank f) k (tells-targets f v .0 t) (rank-ranks e) (rank-ranks f));
     })

@@ -7,14 +7,12 @@ use mathlib.Core.Bool.{Bool, true, false, _||_, cond, or-true, true≢false, fal
 use mathlib.Core.Option.{Option, none, some}
 use mathlib.Core.Logic.{inl, inr}
 use lib.ListN.{length, length-append}
-use Rattle.lists.specs.Lists as lists
-use Rattle.lists.specs.Lists.{Among, Pairs}
-use Rattle.lists.specs.ListsLaws.{among-middle}
+use Rattle.lists.specs.Lists.{All, nil, more, Among, Pairs}
+use Rattle.lists.specs.ListsLaws.{all-map, all-among, among-middle}
 use Rattle.slices.specs.TestLaws.{and-left, and-right, and-intro, forced-off}
 use Rattle.slices.specs.Bytes.{Bytes, padded}
 use Rattle.slices.specs.Chunks.{flat, packed, contains, distinct, find, remove, replace, replaceOrAppend}
-use Rattle.slices.specs.ChunksLaws.{All, nil, more}
-use Rattle.slices.specs.ItemsLaws.{all-map, contains-middle, contains-none, distinct-across, distinct-apart, distinct-cons, distinct-left, distinct-right, find-takes, or-left-off, or-off, or-right-off, remove-none}
+use Rattle.slices.specs.ItemsLaws.{contains-middle, contains-none, distinct-across, distinct-apart, distinct-cons, distinct-left, distinct-right, find-takes, or-left-off, or-off, or-right-off, remove-none}
 use Rattle.names.specs.Name.{Variable}
 use Rattle.entry.specs.Entry.{namespaceOf, nameOf, sameTarget}
 use Rattle.entry.specs.EntryLaws.{sized, sameTarget-same, sameTarget-of}
@@ -33,10 +31,6 @@ use Rattle.rules.specs.Effects.{Taken}
 use Rattle.rules.specs.ConditionLaws.{Tells, tells-off, off-tells}
 
 -- ---- members of a list, and tests
-
-pub slices-among : {P : Bytes → Type 0} (l : List Bytes) → All P l → (a : Bytes) → Among a l → P a
-slices-among {P} (x ∷ l) (more h w) a (inl e) = subst⁻¹ P e h
-slices-among (x ∷ l) (more h w) a (inr k) = slices-among l w a k
 
 pub among-contains : (p : Bytes → Bool) (l : List Bytes) (a : Bytes) → Among a l → p a ≡ true → contains p l ≡ true
 unfolding contains
@@ -59,28 +53,18 @@ find-among p (x ∷ l) a e = go (p x) e (find-among p l a)
     go true h f = inl (let z : x ≡ a = cc in sym z)
     go false h f = inr (f h)
 
--- ---- the lists of `slices`, and those of `lists`
-
-pub all-lists : {P : Bytes → Type 0} (l : List Bytes) → All P l → lists.All P l
-all-lists [] nil = tt
-all-lists (x ∷ l) (more h w) = (h, all-lists l w)
-
-pub lists-all : {P : Bytes → Type 0} (l : List Bytes) → lists.All P l → All P l
-lists-all [] h = nil
-lists-all (x ∷ l) h = more (h .0) (lists-all l (h .1))
-
 -- no item is like a later one, by the test and by the pairs
 module _ (like : Bytes → Bytes → Bool) (Like : Bytes → Bytes → Type 0) (tells : (a b : Bytes) → Tells (like a b) (Like a b)) where
   pub distinct-pairs : (l : List Bytes) → distinct like l ≡ true → Pairs (λ a b. Not (Like a b)) l
   distinct-pairs [] e = tt
   distinct-pairs (x ∷ l) e =
       let w = distinct-apart like x l e in
-      (all-lists l (all-map (λ c h. tells-off _ (tells x c) h) l (contains-none (like x) l (w .here))), distinct-pairs l (w .rest))
+      (all-map (λ c h. tells-off _ (tells x c) h) l (contains-none (like x) l (w .here)), distinct-pairs l (w .rest))
 
-  pub none-like : (x : Bytes) (l : List Bytes) → lists.All (λ c. Not (Like x c)) l → contains (like x) l ≡ false
+  pub none-like : (x : Bytes) (l : List Bytes) → All (λ c. Not (Like x c)) l → contains (like x) l ≡ false
   unfolding contains
-  none-like x [] h = refl
-  none-like x (c ∷ l) h = or-off (like x c) (contains (like x) l) (off-tells _ (tells x c) (h .0)) (none-like x l (h .1))
+  none-like x [] nil = refl
+  none-like x (c ∷ l) (more h k) = or-off (like x c) (contains (like x) l) (off-tells _ (tells x c) h) (none-like x l k)
 
   pub pairs-distinct : (l : List Bytes) → Pairs (λ a b. Not (Like a b)) l → distinct like l ≡ true
   unfolding distinct
@@ -106,17 +90,17 @@ distinct-apart-all = distinct-pairs sameVariable (λ a b. variableOf a ≡ varia
 
 records-packs : (b : Bool) (s : Bytes) (rs : List Bytes) → StoreRecords b s rs → store.Packs b s rs
 unfolding packed padded
-records-packs b s rs k = record { small = k .small; records = lists-all rs (k .formed); fits = k .room; is = sym (k .is) }
+records-packs b s rs k = record { small = k .small; records = k .formed; fits = k .room; is = sym (k .is) }
 
 packs-records : (b : Bool) (s : Bytes) (rs : List Bytes) → store.Packs b s rs → StoreRecords b s rs
 unfolding packed padded
-packs-records b s rs k = record { formed = all-lists rs (k .records); small = k .small; room = k .fits; is = sym (k .is) }
+packs-records b s rs k = record { formed = k .records; small = k .small; room = k .fits; is = sym (k .is) }
 
 entries-packs : (p : Bytes) (es : List Bytes) → PolicyEntries p es → policy.Packs es p
 unfolding packed padded
 entries-packs p es k =
     record {
-      entries = record { formed = lists-all es (k .formed); few = k .few; room = k .room; apart = pairs-distinct sameTarget _ tells-target es (k .apart) };
+      entries = record { formed = k .formed; few = k .few; room = k .room; apart = pairs-distinct sameTarget _ tells-target es (k .apart) };
       packs = sym (k .is);
     }
 
@@ -124,7 +108,7 @@ pub packs-entries : (p : Bytes) (es : List Bytes) → policy.Packs es p → Poli
 unfolding packed padded
 packs-entries p es k =
     record {
-      formed = all-lists es (k .entries .formed);
+      formed = k .entries .formed;
       few = k .entries .few;
       apart = distinct-pairs sameTarget _ tells-target es (k .entries .apart);
       room = k .entries .room;
@@ -311,13 +295,13 @@ nowhere v rs n = forced-off (contains (isOf v) rs) (λ c.
     let w = contains-among (isOf v) rs c in absurd (n (w .0) (w .1) (sym (isOf-variable v (w .0) (w .2)))))
 
 none-there : (v : Variable) (rs : List Bytes) → contains (isOf v) rs ≡ false → (x : Bytes) → Among x rs → Not (variableOf x ≡ v)
-none-there v rs e x k o = true≢false (sym (own-of v x o) ∙ slices-among rs (contains-none (isOf v) rs e) x k)
+none-there v rs e x k o = true≢false (sym (own-of v x o) ∙ all-among rs (contains-none (isOf v) rs e) x k)
 
 -- of distinct records none before a variable's is one of the variable
 only-one : (v : Variable) (xs : List Bytes) (x : Bytes) (ys : List Bytes) → distinct sameVariable (xs ++ (x ∷ ys)) ≡ true → isOf v x ≡ true → contains (isOf v) xs ≡ false
 only-one v xs x ys d t = forced-off (contains (isOf v) xs) (λ c.
     let w = contains-among (isOf v) xs c in
-    let off = slices-among xs (distinct-across sameVariable xs (x ∷ ys) d) (w .0) (w .1) in
+    let off = all-among xs (distinct-across sameVariable xs (x ∷ ys) d) (w .0) (w .1) in
     absurd (true≢false (sym (among-contains (sameVariable (w .0)) (x ∷ ys) x (inl refl) (sym (isOf-like v (w .0) (w .2) x) ∙ t)) ∙ off)))
 
 module _ (v : Variable) (rs : List Bytes) where

@@ -5,7 +5,7 @@ use mathlib.Core.Path.{_≡_, refl}
 use mathlib.Core.List.{List, [], _∷_, _++_}
 use mathlib.Core.Bool.{true, false}
 use lib.ListN.{length, replicate, take}
-use Rattle.lists.specs.Lists.{All}
+use Rattle.lists.specs.Lists.{All, nil, more}
 use Rattle.slices.specs.Bytes.{Bytes, le16Bytes, le32Bytes, same}
 use Rattle.status.specs.Status.{statusNumber}
 use Rattle.switches.specs.Switches.{freshSwitches}
@@ -112,4 +112,4 @@ readings =
 -- THE READINGS HOLD
 pub readings-hold : All Holds readings
 unfolding rulesOpened
-readings-hold = (refl, (refl, (refl, (refl, (refl, (refl, (refl, (refl, (refl, (refl, (refl, (refl, (refl, (refl, (refl, tt)))))))))))))))
+readings-hold = more refl (more refl (more refl (more refl (more refl (more refl (more refl (more refl (more refl (more refl (more refl (more refl (more refl (more refl (more refl nil))))))))))))))

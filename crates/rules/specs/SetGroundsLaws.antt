@@ -252,8 +252,8 @@ kind-same x a e =
 -- a record of a sound store has no other bits
 found-small : (s : State) (v : Variable) (q : Bytes) → RecordOf s v q → attributesOf q ≤ 7
 found-small s v q f =
-    all-among (λ r. attributesOf r ≤ 7) (f .inNV ++ f .inVol)
-    (all-append _ (f .inNV) (f .inVol) (all-map _ _ (small true) (f .inNV) (f .records .first .formed)) (all-map _ _ (small false) (f .inVol) (f .records .second .formed)))
+    all-among {P = λ r. attributesOf r ≤ 7} (f .inNV ++ f .inVol)
+    (all-append (f .inNV) (f .inVol) (all-map (small true) (f .inNV) (f .records .first .formed)) (all-map (small false) (f .inVol) (f .records .second .formed)))
     q (f .stands)
   where
     small : (b : Bool) (r : Bytes) → recordOk b r ≡ true → attributesOf r ≤ 7
@@ -396,7 +396,7 @@ module _ (s : State) (r : Request) where
 
   enforced-formed : (e : Bytes) → Enforced s r e → wellFormed e ≡ true
   enforced-formed e w =
-      all-among (λ x. wellFormed x ≡ true) (w .entries) (w .listed .formed) e
+      all-among (w .entries) (w .listed .formed) e
       (subst⁻¹ (Among e) (w .choice .place) (among-middle (w .choice .before) e (w .choice .after)))
 
   entry-enforced : HasEntries s (entriesOf (s .policy)) → (e : Bytes) → chosenEntry ≡ some e → Enforced s r e

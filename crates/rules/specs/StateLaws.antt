@@ -9,12 +9,12 @@ use lib.ListN.{length}
 use lib.Dec.{eqb, leb}
 use borrow.Author.Tests.{le-leb, leb-true}
 use Rattle.limits.specs.Limits.{maxEntries, policyBytes, maxStore}
+use Rattle.lists.specs.Lists.{nil, more}
+use Rattle.lists.specs.ListsLaws.{all-append}
 use Rattle.slices.specs.Test.{_and_}
 use Rattle.slices.specs.TestLaws.{and-left, and-right}
 use Rattle.slices.specs.Bytes.{Bytes}
 use Rattle.slices.specs.Chunks.{flat, contains, distinct}
-use Rattle.slices.specs.ChunksLaws.{nil, more}
-use Rattle.slices.specs.ItemsLaws.{all-append}
 use Rattle.entry.specs.Entry.{wellFormed, sameTarget}
 use Rattle.policy.specs.Policy.{entriesOf, emptyPolicy, policyValid}
 use Rattle.policy.specs.PolicyLaws.{policyValid-length, sizesSum-flat, entriesOf-formed, entriesOf-pack, entries-policy, policy-append}

@@ -1,7 +1,7 @@
 -- Laws of tests on lists of bytes. Assumes nothing.
 use Prim.Native.Nat.{ℕ, zero, suc, _+_, _-_, _≤_, _<_}
 use mathlib.Core.Path.{_≡_, refl, sym, ap, ap₂, _∙_}
-use mathlib.Core.List.{[], _∷_, _++_}
+use mathlib.Core.List.{[], _∷_}
 use mathlib.Core.Bool.{Bool, true, false, _&&_, false≢true}
 use native.Mathlib.Omega.{arith}
 use native.Mathlib.Numerals.{add-one}
@@ -148,8 +148,3 @@ pub allAre-replicate : (v n : ℕ) → allAre v (replicate n v) ≡ true
 unfolding allAre
 allAre-replicate v zero = refl
 allAre-replicate v (suc n) = and-intro (eqb v v) (allAre v (replicate n v)) (eq-eqb v v refl) (allAre-replicate v n)
-
-pub allAre-append : (v : ℕ) (l m : Bytes) → allAre v (l ++ m) ≡ (allAre v l and allAre v m)
-unfolding _and_ allAre
-allAre-append v [] m = refl
-allAre-append v (b ∷ l) m = rw (allAre-append v l m) (sym (and-assoc (eqb b v) (allAre v l) (allAre v m)))

@@ -9,15 +9,11 @@ use native.Mathlib.Omega.{arith}
 use native.Mathlib.Nat.{le-refl}
 use lib.ListN.{length, take, drop, replicate, length-append, length-drop, length-replicate, take-append-drop}
 use lib.Seq.{length-take-le, take-add, drop-drop, take-at, drop-at}
+pub use Rattle.lists.specs.Lists.{All, nil, more}
 pub use Rattle.lists.specs.ListsLaws.{flat-append, flat-one}
 use Rattle.slices.specs.Bytes.{Bytes, allAre, padded}
 use Rattle.slices.specs.BytesLaws.{allAre-is, allAre-replicate}
 use Rattle.slices.specs.Chunks.{flat, next, chunksFrom, chunks, used, packed}
-
--- each item has the property
-pub data All (P : Bytes → Type 0) : List Bytes → Type 0 where
-  nil : All P []
-  more : {c : Bytes} {cs : List Bytes} → P c → All P cs → All P (c ∷ cs)
 
 pub length-packed : (n v : ℕ) (cs : List Bytes) → length (flat cs) ≤ n → length (packed n v cs) ≡ n
 unfolding packed padded

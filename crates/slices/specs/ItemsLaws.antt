@@ -10,6 +10,7 @@ use Rattle.slices.specs.Test.{_and_}
 use Rattle.slices.specs.TestLaws.{and-left, and-right, and-intro, and-no, and-off, forced-off}
 use Rattle.slices.specs.Bytes.{Bytes}
 use Rattle.slices.specs.Chunks.{flat, contains, distinct, find, remove, replace, replaceOrAppend}
+pub use Rattle.lists.specs.ListsLaws.{all-here, all-map, all-append, all-right}
 use Rattle.slices.specs.ChunksLaws.{All, nil, more}
 
 -- ---- of two tests joined by or
@@ -27,25 +28,6 @@ or-off false b e f = f
 
 -- ---- each item has the property still
 module _ {P : Bytes → Type 0} where
-  pub all-append : (cs ds : List Bytes) → All P cs → All P ds → All P (cs ++ ds)
-  all-append [] ds nil k = k
-  all-append (c ∷ cs) ds (more h a) k = more h (all-append cs ds a k)
-
-  pub all-left : (cs ds : List Bytes) → All P (cs ++ ds) → All P cs
-  all-left [] ds a = nil
-  all-left (c ∷ cs) ds (more h a) = more h (all-left cs ds a)
-
-  pub all-right : (cs ds : List Bytes) → All P (cs ++ ds) → All P ds
-  all-right [] ds a = a
-  all-right (c ∷ cs) ds (more h a) = all-right cs ds a
-
-  pub all-here : (c : Bytes) (cs : List Bytes) → All P (c ∷ cs) → P c
-  all-here c cs (more h a) = h
-
-  pub all-map : {Q : Bytes → Type 0} → ((c : Bytes) → P c → Q c) → (cs : List Bytes) → All P cs → All Q cs
-  all-map f [] nil = nil
-  all-map f (c ∷ cs) (more h a) = more (f c h) (all-map f cs a)
-
   module _ (p : Bytes → Bool) where
     pub all-remove : (cs : List Bytes) → All P cs → All P (remove p cs)
     unfolding remove
@@ -201,15 +183,6 @@ module _ (f : Bytes → Bool) where
   unfolding contains find
   find-append [] ds e = refl
   find-append (c ∷ cs) ds e = rw (or-left-off (f c) (contains f cs) e) (find-append cs ds (or-right-off (f c) (contains f cs) e))
-
-  pub find-left : (cs ds : List Bytes) → contains f cs ≡ true → find f (cs ++ ds) ≡ find f cs
-  unfolding contains find
-  find-left [] ds e = absurd (false≢true e)
-  find-left (c ∷ cs) ds e = go (f c) e (find-left cs ds)
-    where
-      go : (b : Bool) → (b || contains f cs) ≡ true → (contains f cs ≡ true → find f (cs ++ ds) ≡ find f cs) → cond b (some c) (find f (cs ++ ds)) ≡ cond b (some c) (find f cs)
-      go true k ih = refl
-      go false k ih = ih k
 
   -- what is found once an item was replaced, or put behind
   pub find-replace : (q : Bytes) (cs : List Bytes) → f q ≡ true → contains f cs ≡ true → find f (replace f q cs) ≡ some q
@@ -424,7 +397,7 @@ module _ (like : Bytes → Bytes → Bool) where
     contains-across q (c ∷ cs) ds e h = go (like q c) refl h (contains-across q cs ds (distinct-apart c (cs ++ ds) e .rest))
       where
         go : (b : Bool) → like q c ≡ b → (b || contains (like q) cs) ≡ true → (contains (like q) cs ≡ true → contains (like q) ds ≡ false) → contains (like q) ds ≡ false
-        go true t k i = contains-ext (like q) (like c) ds (like-same q c t) ∙ all-here c cs (distinct-across (c ∷ cs) ds e)
+        go true t k i = contains-ext (like q) (like c) ds (like-same q c t) ∙ all-here (distinct-across (c ∷ cs) ds e)
         go false t k i = i k
 
 -- an item like one before it

@@ -52,8 +52,8 @@ part-take a e n s h = ap (take (e - a)) (drop-take n a s) ∙ take-take (e - a) 
 -- a part of bytes is bytes
 pub bytes-part : (a e : ℕ) (s : Bytes) → AreBytes s → AreBytes (part a e s)
 bytes-part a e s h =
-    let d : AreBytes (drop a s) = all-right _ (take a s) (drop a s) (subst⁻¹ AreBytes (take-append-drop a s) h) in
-    all-left _ (take (e - a) (drop a s)) (drop (e - a) (drop a s)) (subst⁻¹ AreBytes (take-append-drop (e - a) (drop a s)) d)
+    let d : AreBytes (drop a s) = all-right (take a s) (drop a s) (subst⁻¹ AreBytes (take-append-drop a s) h) in
+    all-left (take (e - a) (drop a s)) (drop (e - a) (drop a s)) (subst⁻¹ AreBytes (take-append-drop (e - a) (drop a s)) d)
 
 pub drop-replicate : (m n v : ℕ) → drop m (replicate n v) ≡ replicate (n - m) v
 drop-replicate zero n v = rw sub-zero

@@ -139,7 +139,7 @@ module _ (nonVolatile : Bool) (s : Bytes) (v : Variable) where
     ok-at =
         let w = split-at in
         ap (recordOk nonVolatile) part-at
-        ∙ all-here (w .here) (w .behind) (all-right (w .before) (w .here ∷ w .behind) (subst (All (λ (r : Bytes). recordOk nonVolatile r ≡ true)) (w .is) (records-ok nonVolatile s)))
+        ∙ all-here (all-right (w .before) (w .here ∷ w .behind) (subst (All (λ (r : Bytes). recordOk nonVolatile r ≡ true)) (w .is) (records-ok nonVolatile s)))
 
     pub fits-at : HeaderFits (part at (at + len) s)
     fits-at =
