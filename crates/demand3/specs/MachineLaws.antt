@@ -8,7 +8,6 @@ use native.Mathlib.Omega.{arith}
 use lib.ListN.{length, take, length-append}
 use borrow.Author.Tests.{le-leb}
 use Rattle.limits.specs.Limits.{maxEntries, policyBytes}
-use Rattle.lists.specs.Lists as lists
 use Rattle.lists.specs.Lists.{All, over}
 use Rattle.lists.specs.ListsLaws.{all-right, all-here, length-perm, flat-perm, over-over}
 use Rattle.slices.specs.Test.{_and_}

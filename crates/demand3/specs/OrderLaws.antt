@@ -9,7 +9,6 @@ use native.Mathlib.Nat.{zero-add}
 use lib.ListN.{length, take, replicate, length-append}
 use lib.Seq.{take-append-seam, drop-append-seam}
 use Rattle.limits.specs.Limits.{policyBytes}
-use Rattle.lists.specs.Lists as lists
 use Rattle.lists.specs.Lists.{any, over}
 use Rattle.lists.specs.ListsLaws.{all-map, all-left, all-perm, pairs-perm, pairs-middle, any-perm, length-perm, flat-perm, over-over}
 use Rattle.slices.specs.Bytes.{Bytes, overwrite, padded}

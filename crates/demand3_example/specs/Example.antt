@@ -8,7 +8,6 @@ use mathlib.Core.Option.{none, some}
 use mathlib.Core.Logic.{inl, inr}
 use native.Mathlib.Omega.{arith}
 use lib.ListN.{take, replicate, getD}
-use Rattle.lists.specs.Lists as lists
 use Rattle.lists.specs.Lists.{All, nil, more, RanksDiffer}
 use Rattle.slices.specs.Test.{_and_}
 use Rattle.slices.specs.TestLaws.{and-left, and-right}

@@ -30,7 +30,6 @@ use Rattle.slices.specs.ChunksLaws.{
   packed-chunks,
   chunks-packed,
   free-packed,
-  length-packed,
 }
 use Rattle.slices.specs.ItemsLaws.{distinct-append}
 use Rattle.entry.specs.Entry.{sizeField, wellFormed, sameTarget}

@@ -14,7 +14,6 @@ use lib.Arith.{bin-ind}
 use lib.Bits.{bitAnd, and-step}
 use borrow.Author.Tests.{eq-eqb, eqb-true, eqb-false, le-leb, leb-true, lt-ltb, ltb-true}
 use Rattle.limits.specs.Limits.{maxNameBytes, wholeNamespaceRank}
-use Rattle.lists.specs.Lists as lists
 use Rattle.lists.specs.Lists.{nil, more, Among}
 use Rattle.lists.specs.ListsLaws as choice
 use Rattle.lists.specs.ListsLaws.{all-among, among-all}

@@ -24,7 +24,6 @@ use Rattle.status.specs.Status.{isSuccess, statusNumber}
 use Rattle.status.specs.StatusLaws.{success-only}
 use Rattle.store.specs.Record.{hasNV, attributesOf, isOf, recordOk}
 use Rattle.store.specs.Store.{recordsOf, packStore, withoutVariable, hasRoom, withRecord}
-use Rattle.store.specs.StoreLaws as store
 use Rattle.store.specs.StoreLaws.{records-without, length-without, records-with, length-with}
 use Rattle.switches.specs.declared.Switches.{Switches}
 use Rattle.switches.specs.Switches.{freshSwitches}

@@ -2,9 +2,6 @@ use Rattle.engine.proofs.Registered.{disable-step}
 use borrow.Author.Needs.{needs}
 use Rattle.engine.proofs.disable.Statement.{statement}
 use Rattle.engine.proofs.disable.Tie as tie
-use Rattle.engine.proofs.disable.Reads as reads
-use Rattle.engine.proofs.disable.Lts as lts
-use Rattle.switches.proofs.disable.Reads as disable-reads
 
 disable-requires : tie.Need-disable-requires
 disable-requires c κs = search needs

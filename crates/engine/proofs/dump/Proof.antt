@@ -12,10 +12,6 @@ use mathlib.Core.Path.{sym, _∙_}
 use borrow.Author.Needs.{needs}
 use Rattle.engine.proofs.dump.Statement.{statement}
 use Rattle.engine.proofs.dump.Tie as tie
-use Rattle.engine.proofs.dump.Reads as reads
-use Rattle.engine.proofs.dump.Lts as lts
-use Rattle.policy.proofs.check.Reads as check-reads
-use Rattle.policy.proofs.dump_into.Reads as dump-into-reads
 
 -- ---- once the record is found valid
 abbrev Start : tie.After-checked → tie.Start

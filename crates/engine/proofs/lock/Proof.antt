@@ -2,9 +2,6 @@ use Rattle.engine.proofs.Registered.{lock-step}
 use borrow.Author.Needs.{needs}
 use Rattle.engine.proofs.lock.Statement.{statement}
 use Rattle.engine.proofs.lock.Tie as tie
-use Rattle.engine.proofs.lock.Reads as reads
-use Rattle.engine.proofs.lock.Lts as lts
-use Rattle.switches.proofs.lock.Reads as lock-reads
 
 lock-requires : tie.Need-lock-requires
 lock-requires c κs = search needs

@@ -4,13 +4,6 @@ use mathlib.Core.Path.{sym, _∙_}
 use borrow.Author.Needs.{needs}
 use Rattle.engine.proofs.power_on.Statement.{statement}
 use Rattle.engine.proofs.power_on.Tie as tie
-use Rattle.engine.proofs.power_on.Reads as reads
-use Rattle.engine.proofs.power_on.Lts as lts
-use Rattle.engine.proofs.fresh_start.Reads as fresh-start-reads
-use Rattle.engine.proofs.refused_start.Reads as refused-start-reads
-use Rattle.stores.proofs.check_alone.Reads as check-alone-reads
-use Rattle.policy.proofs.clear.Reads as clear-reads
-use Rattle.slices.proofs.fill.Reads as fill-reads
 
 check-alone-requires : tie.Need-check-alone-requires
 check-alone-requires c κs = search needs

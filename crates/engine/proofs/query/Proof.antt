@@ -2,8 +2,6 @@ use Rattle.rules.specs.Engine.{step}
 use mathlib.Core.Path.{refl}
 use Rattle.engine.proofs.query.Statement.{statement}
 use Rattle.engine.proofs.query.Tie as tie
-use Rattle.engine.proofs.query.Reads as reads
-use Rattle.engine.proofs.query.Lts as lts
 
 returns : tie.Need-returns
 unfolding step

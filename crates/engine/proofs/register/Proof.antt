@@ -19,12 +19,6 @@ use mathlib.Core.Bool.{true, false}
 use borrow.Author.Needs.{needs}
 use Rattle.engine.proofs.register.Statement.{statement}
 use Rattle.engine.proofs.register.Tie as tie
-use Rattle.engine.proofs.register.Reads as reads
-use Rattle.engine.proofs.register.Lts as lts
-use Rattle.entry.proofs.parse.Reads as parse-reads
-use Rattle.policy.proofs.append.Reads as append-reads
-use Rattle.policy.proofs.check.Reads as check-reads
-use Rattle.policy.proofs.contains.Reads as contains-reads
 
 -- ---- the places: once the record is found valid
 abbrev Start : tie.After-checked → tie.Start

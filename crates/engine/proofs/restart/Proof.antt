@@ -4,12 +4,6 @@ use mathlib.Core.Path.{sym, _∙_}
 use borrow.Author.Needs.{needs}
 use Rattle.engine.proofs.restart.Statement.{statement}
 use Rattle.engine.proofs.restart.Tie as tie
-use Rattle.engine.proofs.restart.Reads as reads
-use Rattle.engine.proofs.restart.Lts as lts
-use Rattle.engine.proofs.fresh_start.Reads as fresh-start-reads
-use Rattle.engine.proofs.refused_start.Reads as refused-start-reads
-use Rattle.stores.proofs.check.Reads as check-reads
-use Rattle.policy.proofs.clear.Reads as clear-reads
 
 check-requires : tie.Need-check-requires
 check-requires c κs = search needs

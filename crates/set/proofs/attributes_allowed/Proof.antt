@@ -2,8 +2,6 @@ use Rattle.slices.specs.Test.{_and_}
 use borrow.Author.Tests.{eq-eqb, ne-eqb}
 use Rattle.set.proofs.attributes_allowed.Statement.{statement}
 use Rattle.set.proofs.attributes_allowed.Tie as tie
-use Rattle.set.proofs.attributes_allowed.Reads as reads
-use Rattle.set.proofs.attributes_allowed.Lts as lts
 
 returns : tie.Need-returns
 unfolding _and_

@@ -5,10 +5,6 @@ use mathlib.Core.Path.{sym, _∙_}
 use borrow.Author.Needs.{needs}
 use Rattle.set.proofs.carry_out.Statement.{statement}
 use Rattle.set.proofs.carry_out.Tie as tie
-use Rattle.set.proofs.carry_out.Reads as reads
-use Rattle.set.proofs.carry_out.Lts as lts
-use Rattle.set.proofs.delete.Reads as delete-reads
-use Rattle.set.proofs.put_variable.Reads as put-variable-reads
 
 -- ---- once it is told what is decided
 abbrev Deletes : tie.After-enum-told3 → tie.Start

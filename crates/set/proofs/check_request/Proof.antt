@@ -7,10 +7,6 @@ use mathlib.Core.Bool.{true, not}
 use borrow.Author.Needs.{needs}
 use Rattle.set.proofs.check_request.Statement.{statement}
 use Rattle.set.proofs.check_request.Tie as tie
-use Rattle.set.proofs.check_request.Reads as reads
-use Rattle.set.proofs.check_request.Lts as lts
-use Rattle.names.proofs.is_name.Reads as is-name-reads
-use Rattle.set.proofs.needs_bs.Reads as needs-bs-reads
 
 -- once the name is found good
 named : (c : tie.Else1) → isName (c .before .before .before .before .args .name .now) ≡ true

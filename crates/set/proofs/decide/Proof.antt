@@ -10,12 +10,6 @@ use mathlib.Core.Path.{_≡_, refl, sym, ap, _∙_}
 use borrow.Author.Needs.{needs}
 use Rattle.set.proofs.decide.Statement.{statement}
 use Rattle.set.proofs.decide.Tie as tie
-use Rattle.set.proofs.decide.Reads as reads
-use Rattle.set.proofs.decide.Lts as lts
-use Rattle.set.proofs.check_request.Reads as check-request-reads
-use Rattle.set.proofs.decide_write.Reads as decide-write-reads
-use Rattle.set.proofs.ground.Reads as ground-reads
-use Rattle.status.proofs.is_success.Reads as is-success-reads
 
 -- ---- the places: once the request was checked
 abbrev Start : tie.After-check-request → tie.Start

@@ -10,10 +10,6 @@ use lib.ListN.{length}
 use borrow.Author.Needs.{needs}
 use Rattle.set.proofs.decide_store.Statement.{statement}
 use Rattle.set.proofs.decide_store.Tie as tie
-use Rattle.set.proofs.decide_store.Reads as reads
-use Rattle.set.proofs.decide_store.Lts as lts
-use Rattle.set.proofs.has_room.Reads as has-room-reads
-use Rattle.set.proofs.length_after.Reads as length-after-reads
 
 -- ---- once the length is known
 abbrev Start : tie.After-length-after → tie.Start

@@ -13,13 +13,6 @@ use mathlib.Core.Path.{_≡_, sym, subst, _∙_}
 use borrow.Author.Needs.{needs}
 use Rattle.set.proofs.decide_write.Statement.{statement}
 use Rattle.set.proofs.decide_write.Tie as tie
-use Rattle.set.proofs.decide_write.Reads as reads
-use Rattle.set.proofs.decide_write.Lts as lts
-use Rattle.set.proofs.decide_store.Reads as decide-store-reads
-use Rattle.set.proofs.is_deletion.Reads as is-deletion-reads
-use Rattle.set.proofs.is_empty_append.Reads as is-empty-append-reads
-use Rattle.stores.proofs.attributes_at.Reads as attributes-at-reads
-use Rattle.stores.proofs.is_somewhere.Reads as is-somewhere-reads
 
 -- ---- the places: once the variable was looked for
 abbrev Start : tie.After-is-somewhere → tie.Start

@@ -4,9 +4,6 @@ use mathlib.Core.Bool.{true, false}
 use borrow.Author.Needs.{needs}
 use Rattle.set.proofs.delete.Statement.{statement}
 use Rattle.set.proofs.delete.Tie as tie
-use Rattle.set.proofs.delete.Reads as reads
-use Rattle.set.proofs.delete.Lts as lts
-use Rattle.store.proofs.remove.Reads as remove-reads
 
 abbrev Start : tie.After-place → tie.Start
 Start c = c .before .before .before .before

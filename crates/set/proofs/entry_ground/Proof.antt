@@ -8,11 +8,6 @@ use mathlib.Core.Path.{_≡_, sym, ap, _∙_}
 use borrow.Author.Needs.{needs}
 use Rattle.set.proofs.entry_ground.Statement.{statement}
 use Rattle.set.proofs.entry_ground.Tie as tie
-use Rattle.set.proofs.entry_ground.Reads as reads
-use Rattle.set.proofs.entry_ground.Lts as lts
-use Rattle.entry.proofs.entry_of.Reads as entry-of-reads
-use Rattle.set.proofs.locks.Reads as locks-reads
-use Rattle.set.proofs.request_ground.Reads as request-ground-reads
 
 -- ---- once the request's ground is known
 abbrev Start : tie.After-request-ground → tie.Start

@@ -14,11 +14,6 @@ use mathlib.Core.Path.{_≡_, sym, _∙_}
 use borrow.Author.Needs.{needs}
 use Rattle.set.proofs.ground.Statement.{statement}
 use Rattle.set.proofs.ground.Tie as tie
-use Rattle.set.proofs.ground.Reads as reads
-use Rattle.set.proofs.ground.Lts as lts
-use Rattle.policy.proofs.choose.Reads as choose-reads
-use Rattle.set.proofs.entry_ground.Reads as entry-ground-reads
-use Rattle.slices.proofs.le16.Reads as le16-reads
 
 -- ---- the places: where the engine is enabled
 abbrev Start : tie.Else1 → tie.Start

@@ -5,10 +5,6 @@ use mathlib.Core.Path.{sym, _∙_}
 use borrow.Author.Needs.{needs}
 use Rattle.set.proofs.has_room.Statement.{statement}
 use Rattle.set.proofs.has_room.Tie as tie
-use Rattle.set.proofs.has_room.Reads as reads
-use Rattle.set.proofs.has_room.Lts as lts
-use Rattle.store.proofs.has_nv.Reads as has-nv-reads
-use Rattle.store.proofs.has_room.Reads as has-room-reads
 
 abbrev Start : tie.After-has-nv → tie.Start
 Start c = c .before .before .before .before .before

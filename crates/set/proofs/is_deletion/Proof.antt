@@ -4,11 +4,6 @@ use Rattle.slices.specs.Test.{_and_}
 use borrow.Author.Needs.{needs}
 use Rattle.set.proofs.is_deletion.Statement.{statement}
 use Rattle.set.proofs.is_deletion.Tie as tie
-use Rattle.set.proofs.is_deletion.Reads as reads
-use Rattle.set.proofs.is_deletion.Lts as lts
-use Rattle.store.proofs.has_append.Reads as has-append-reads
-use Rattle.store.proofs.has_bs.Reads as has-bs-reads
-use Rattle.store.proofs.has_rt.Reads as has-rt-reads
 
 has-append-requires : tie.Need-has-append-requires
 has-append-requires c κs = search needs

@@ -4,9 +4,6 @@ use Rattle.slices.specs.Test.{_and_}
 use borrow.Author.Needs.{needs}
 use Rattle.set.proofs.is_empty_append.Statement.{statement}
 use Rattle.set.proofs.is_empty_append.Tie as tie
-use Rattle.set.proofs.is_empty_append.Reads as reads
-use Rattle.set.proofs.is_empty_append.Lts as lts
-use Rattle.store.proofs.has_append.Reads as has-append-reads
 
 has-append-requires : tie.Need-has-append-requires
 has-append-requires c κs = search needs

@@ -2,8 +2,6 @@ use Rattle.set.proofs.Requests.{other-length, one-byte}
 use borrow.Author.Needs.{needs}
 use Rattle.set.proofs.is_value.Statement.{statement}
 use Rattle.set.proofs.is_value.Tie as tie
-use Rattle.set.proofs.is_value.Reads as reads
-use Rattle.set.proofs.is_value.Lts as lts
 
 returns : tie.Need-returns
 returns c = other-length _ _ (c .if1 .taken)

@@ -3,10 +3,6 @@ use mathlib.Core.Path.{sym, _∙_}
 use borrow.Author.Needs.{needs}
 use Rattle.set.proofs.length_after.Statement.{statement}
 use Rattle.set.proofs.length_after.Tie as tie
-use Rattle.set.proofs.length_after.Reads as reads
-use Rattle.set.proofs.length_after.Lts as lts
-use Rattle.store.proofs.has_append.Reads as has-append-reads
-use Rattle.stores.proofs.payload_at.Reads as payload-at-reads
 
 has-append-requires : tie.Need-has-append-requires
 has-append-requires c κs = search needs

@@ -4,10 +4,6 @@ use mathlib.Core.Path.{sym, _∙_}
 use borrow.Author.Needs.{needs}
 use Rattle.set.proofs.locks.Statement.{statement}
 use Rattle.set.proofs.locks.Tie as tie
-use Rattle.set.proofs.locks.Reads as reads
-use Rattle.set.proofs.locks.Lts as lts
-use Rattle.set.proofs.trigger_holds.Reads as trigger-holds-reads
-use Rattle.stores.proofs.is_somewhere.Reads as is-somewhere-reads
 
 enum-told : tie.Need-enum-told
 enum-told c = search needs

@@ -2,11 +2,6 @@ use Rattle.set.proofs.Requests.{no-need, runtime-needs, append-needs}
 use borrow.Author.Needs.{needs}
 use Rattle.set.proofs.needs_bs.Statement.{statement}
 use Rattle.set.proofs.needs_bs.Tie as tie
-use Rattle.set.proofs.needs_bs.Reads as reads
-use Rattle.set.proofs.needs_bs.Lts as lts
-use Rattle.store.proofs.has_append.Reads as has-append-reads
-use Rattle.store.proofs.has_bs.Reads as has-bs-reads
-use Rattle.store.proofs.has_rt.Reads as has-rt-reads
 
 has-bs-requires : tie.Need-has-bs-requires
 has-bs-requires c κs = search needs

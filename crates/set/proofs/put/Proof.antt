@@ -4,11 +4,6 @@ use mathlib.Core.Path.{sym, _∙_}
 use borrow.Author.Needs.{needs}
 use Rattle.set.proofs.put.Statement.{statement}
 use Rattle.set.proofs.put.Tie as tie
-use Rattle.set.proofs.put.Reads as reads
-use Rattle.set.proofs.put.Lts as lts
-use Rattle.store.proofs.append.Reads as append-reads
-use Rattle.store.proofs.has_append.Reads as has-append-reads
-use Rattle.store.proofs.write.Reads as write-reads
 
 cast-stored : tie.Need-cast-stored
 cast-stored c = search needs

@@ -4,10 +4,6 @@ use mathlib.Core.Path.{sym, _∙_}
 use borrow.Author.Needs.{needs}
 use Rattle.set.proofs.put_variable.Statement.{statement}
 use Rattle.set.proofs.put_variable.Tie as tie
-use Rattle.set.proofs.put_variable.Reads as reads
-use Rattle.set.proofs.put_variable.Lts as lts
-use Rattle.set.proofs.put.Reads as put-reads
-use Rattle.store.proofs.has_nv.Reads as has-nv-reads
 
 abbrev Start : tie.After-has-nv → tie.Start
 Start c = c .before .before .before .before .before .before

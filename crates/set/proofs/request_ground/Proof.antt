@@ -4,11 +4,6 @@ use mathlib.Core.Path.{sym, _∙_}
 use borrow.Author.Needs.{needs}
 use Rattle.set.proofs.request_ground.Statement.{statement}
 use Rattle.set.proofs.request_ground.Tie as tie
-use Rattle.set.proofs.request_ground.Reads as reads
-use Rattle.set.proofs.request_ground.Lts as lts
-use Rattle.set.proofs.attributes_allowed.Reads as attributes-allowed-reads
-use Rattle.set.proofs.is_deletion.Reads as is-deletion-reads
-use Rattle.set.proofs.size_allowed.Reads as size-allowed-reads
 
 is-deletion-requires : tie.Need-is-deletion-requires
 is-deletion-requires c κs = search needs

@@ -2,8 +2,6 @@ use Rattle.slices.specs.Test.{_and_}
 use borrow.Author.Tests.{lt-leb, le-leb}
 use Rattle.set.proofs.size_allowed.Statement.{statement}
 use Rattle.set.proofs.size_allowed.Tie as tie
-use Rattle.set.proofs.size_allowed.Reads as reads
-use Rattle.set.proofs.size_allowed.Lts as lts
 
 returns : tie.Need-returns
 unfolding _and_

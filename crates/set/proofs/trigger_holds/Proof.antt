@@ -5,12 +5,6 @@ use mathlib.Core.Path.{sym, subst}
 use borrow.Author.Needs.{needs}
 use Rattle.set.proofs.trigger_holds.Statement.{statement}
 use Rattle.set.proofs.trigger_holds.Tie as tie
-use Rattle.set.proofs.trigger_holds.Reads as reads
-use Rattle.set.proofs.trigger_holds.Lts as lts
-use Rattle.set.proofs.is_value.Reads as is-value-reads
-use Rattle.slices.proofs.part.Reads as part-reads
-use Rattle.stores.proofs.locate.Reads as locate-reads
-use Rattle.stores.proofs.payload_at.Reads as payload-at-reads
 
 add-part : tie.Need-add-part
 add-part c = search needs

@@ -3,10 +3,6 @@ use Rattle.varpolicy.proofs.Readings.{ordered, status-numbered, read-ex
 use borrow.Author.Needs.{needs}
 use Rattle.varpolicy.proofs.varpolicy_read.Statement.{statement}
 use Rattle.varpolicy.proofs.varpolicy_read.Tie as tie
-use Rattle.varpolicy.proofs.varpolicy_read.Reads as reads
-use Rattle.varpolicy.proofs.varpolicy_read.Lts as lts
-use Rattle.engine.proofs.read.Reads as read-reads
-use Rattle.status.proofs.number.Reads as number-reads
 
 read-requires : tie.Need-read-requires
 read-requires c κs = search needs
