@@ -189,16 +189,16 @@ pub packs-only : (es : List Bytes) (p : Bytes) → Packs es p → entriesOf p �
 packs-only es p k = rw (k .packs) at (entriesOf-pack es (k .entries .formed))
 
 -- what the check's answer tells
-pub record Found (p : Bytes) (count total : ℕ) : Type 0 where
+pub record Checked (p : Bytes) (count total : ℕ) : Type 0 where
   pub valid : policyValid p ≡ true
   pub counted : count ≡ length (entriesOf p)
   pub summed : total ≡ sizesSum p
 
-pub check-valid : (p : Bytes) (count total : ℕ) → policyCheck p ≡ Valid count total → Found p count total
+pub check-valid : (p : Bytes) (count total : ℕ) → policyCheck p ≡ Valid count total → Checked p count total
 unfolding policyCheck
 check-valid p count total e = go (policyValid p) refl e
   where
-    go : (t : Bool) → policyValid p ≡ t → cond t (Valid (length (entriesOf p)) (sizesSum p)) Invalid ≡ Valid count total → Found p count total
+    go : (t : Bool) → policyValid p ≡ t → cond t (Valid (length (entriesOf p)) (sizesSum p)) Invalid ≡ Valid count total → Checked p count total
     go true q k =
         let a : length (entriesOf p) ≡ count = cc in
         let b : sizesSum p ≡ total = cc in

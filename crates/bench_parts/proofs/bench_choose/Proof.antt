@@ -3,7 +3,7 @@ use mathlib.Core.Path.{_≡_, sym, ap, _∙_}
 use Rattle.names.specs.Name.{Variable, variable}
 use Rattle.policy.specs.Policy.{entriesOf}
 use Rattle.policy.specs.Choice.{choiceOf}
-use Rattle.policy.specs.PolicyLaws.{Found, check-valid, check-invalid}
+use Rattle.policy.specs.PolicyLaws.{Checked, check-valid, check-invalid}
 use Rattle.bench_parts.specs.declared.Numbers.{Numbers}
 use Rattle.bench_parts.specs.Parts.{ofChoice, chosenIn}
 use Rattle.bench_parts.proofs.Tested.{not-ok, not-asked, asked}
@@ -15,11 +15,11 @@ use Rattle.bench_parts.proofs.bench_choose.Tie as tie
 abbrev Start : tie.After-checked → tie.Start
 Start k = k .before .before .before .before .before
 
-abbrev Checked : tie.After-choose → tie.After-checked
-Checked d = d .before .before .before
+abbrev Valid : tie.After-choose → tie.After-checked
+Valid d = d .before .before .before
 
 -- what the check found of the record
-known : (k : tie.After-checked) → Found (Start k .args .policy .now) (k .checked .given .0 .0) (k .checked .given .0 .1 .0)
+known : (k : tie.After-checked) → Checked (Start k .args .policy .now) (k .checked .given .0 .0) (k .checked .given .0 .1 .0)
 known k = check-valid _ _ _ (sym (k .before .before .check .ensures) ∙ k .checked .given .1)
 
 -- behind the choice an answer that tells it is the one promised: the record is valid and the name is not empty
@@ -27,9 +27,9 @@ abbrev Asked : tie.After-checked → Variable
 Asked k = variable (Start k .args .namespace .now) (Start k .args .name .now)
 
 told : (d : tie.After-choose) {a : Numbers}
-    → a ≡ ofChoice (choiceOf (entriesOf (Start (Checked d) .args .policy .now)) (Asked (Checked d)))
-    → a ≡ chosenIn (Start (Checked d) .args .policy .now) (Asked (Checked d))
-told d = asked _ _ _ (known (Checked d) .valid) (d .before .if1 .left)
+    → a ≡ ofChoice (choiceOf (entriesOf (Start (Valid d) .args .policy .now)) (Asked (Valid d)))
+    → a ≡ chosenIn (Start (Valid d) .args .policy .now) (Asked (Valid d))
+told d = asked _ _ _ (known (Valid d) .valid) (d .before .if1 .left)
 
 check-requires : tie.Need-check-requires
 check-requires c κs = search needs

@@ -1,7 +1,7 @@
 -- `engine::dump` meets its contract: each return is one law of `Registered.antt`. Assumes nothing.
 use Rattle.engine.proofs.Registered.{dump-invalid, dump-needs, dump-granted}
 use Rattle.engine.proofs.Checked.{dump-short, dump-done}
-use Rattle.policy.specs.PolicyLaws.{Found, sizesSum-flat, check-valid, check-invalid}
+use Rattle.policy.specs.PolicyLaws.{Checked, sizesSum-flat, check-valid, check-invalid}
 use Rattle.policy.specs.Policy.{entriesOf}
 use Rattle.slices.specs.Chunks.{flat}
 use Rattle.slices.specs.Bytes.{Bytes}
@@ -23,7 +23,7 @@ Policy c = Start c .args .policy .now
 abbrev Buffer : tie.After-checked → Bytes
 Buffer c = Start c .args .buffer .now
 
-valid : (c : tie.After-checked) → Found (Policy c) (c .checked .given .0 .0) (c .checked .given .0 .1 .0)
+valid : (c : tie.After-checked) → Checked (Policy c) (c .checked .given .0 .0) (c .checked .given .0 .1 .0)
 valid c = check-valid _ _ _ (sym (c .before .before .check .ensures) ∙ c .checked .given .1)
 
 -- ---- the needs

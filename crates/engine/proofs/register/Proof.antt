@@ -4,7 +4,7 @@
 use Rattle.engine.proofs.Registered.{register-invalid, register-refused, register-granted}
 use Rattle.engine.proofs.Checked.{parse-formed, parse-malformed, register-locked, register-malformed, register-repeated, register-many, register-long, register-done}
 use Rattle.status.specs.declared.Status.the-variants.{WriteProtected, InvalidParameter, AlreadyStarted, OutOfResources}
-use Rattle.policy.specs.PolicyLaws.{Found, sizesSum-flat, sizesSum-within, policyValid-length, check-valid, check-invalid}
+use Rattle.policy.specs.PolicyLaws.{Checked, sizesSum-flat, sizesSum-within, policyValid-length, check-valid, check-invalid}
 use Rattle.policy.specs.Policy.{entriesOf}
 use Rattle.entry.specs.EntryLaws.{sized}
 use Rattle.slices.specs.Chunks.{flat, contains}
@@ -30,7 +30,7 @@ Policy c = Start c .args .policy .now
 abbrev Entry : tie.After-checked → Bytes
 Entry c = Start c .args .entry .now
 
-valid : (c : tie.After-checked) → Found (Policy c) (c .checked .given .0 .0) (c .checked .given .0 .1 .0)
+valid : (c : tie.After-checked) → Checked (Policy c) (c .checked .given .0 .0) (c .checked .given .0 .1 .0)
 valid c = check-valid _ _ _ (sym (c .before .before .check .ensures) ∙ c .checked .given .1)
 
 -- the engine unlocked

@@ -3,7 +3,7 @@
 -- looked for. Assumes nothing.
 use Rattle.limits.specs.Limits.{namespaceBytes}
 use Rattle.names.specs.Name.{variable}
-use Rattle.policy.specs.PolicyLaws.{Found, check-valid, check-invalid}
+use Rattle.policy.specs.PolicyLaws.{Checked, check-valid, check-invalid}
 use Rattle.stores.specs.Pair.{sound, endsOf}
 use Rattle.stores.specs.PairLaws.{check-sound, check-unsound}
 use Rattle.set.specs.declared.Known.{Known}
@@ -32,7 +32,7 @@ checked c = check-sound _ _ _ (sym (c .before .before .check .ensures) ∙ c .ch
 abbrev Sound : tie.After-entries → tie.After-checked
 Sound c = c .before .before .before .before
 
-valid : (c : tie.After-entries) → Found (Lent (Sound c) .args .policy .now) (c .entries .given .0 .0) (c .entries .given .0 .1 .0)
+valid : (c : tie.After-entries) → Checked (Lent (Sound c) .args .policy .now) (c .entries .given .0 .0) (c .entries .given .0 .1 .0)
 valid c = check-valid _ _ _ (sym (c .before .before .check2 .ensures) ∙ c .entries .given .1)
 
 -- the variable looked for
