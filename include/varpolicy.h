@@ -32,7 +32,7 @@
   the System V convention too: those of a program built for Microsoft's take their arguments in other
   registers.
 
-  Stack: the deepest call, varpolicy_set, takes 9,160 bytes with its return address (read off the
+  Stack: the deepest call, varpolicy_set, takes 9,176 bytes with its return address (read off the
   machine code); read, restart and power-on take nearly as much. The red zone and what memcpy, memmove
   and memset take come on top.
 
@@ -305,9 +305,10 @@ varpolicy_read (
   Sets, appends to or deletes a variable.
 
   Without APPEND, a request with an empty payload or with neither BS nor RT is a deletion; its other
-  attributes are not compared. The entry chosen for a variable is the one with the fewest '#' among
-  those that target it, the first registered among equals, and a whole-namespace entry only if there is
-  no other.
+  attributes are not compared. With APPEND the payload is joined to the stored one or, unless it is
+  empty, creates the variable. MinSize and MaxSize measure the payload as it would be afterwards. The
+  entry chosen for a variable is the one with the fewest '#' among those that target it, the first
+  registered among equals, and a whole-namespace entry only if there is no other.
 
   @param[in,out] nv                  The non-volatile store.
   @param[in]     nv_len              Its length.
@@ -330,9 +331,9 @@ varpolicy_read (
   @retval VARPOLICY_UNSUPPORTED        An attribute bit outside 0x47.
   @retval VARPOLICY_INVALID_PARAMETER  RT or APPEND without BS.
   @retval VARPOLICY_INVALID_PARAMETER  The engine is enabled, an entry is chosen, the request is no
-                                       deletion, and the length of the payload is outside MinSize to
-                                       MaxSize, or the attributes lack a required bit or have a
-                                       prohibited one.
+                                       deletion, and the payload as it would be afterwards is shorter
+                                       than MinSize or longer than MaxSize, or the attributes lack a
+                                       required bit or have a prohibited one.
   @retval VARPOLICY_WRITE_PROTECTED    The engine is enabled and the chosen entry locks the variable.
   @retval VARPOLICY_NOT_FOUND          A deletion, and there is no such variable.
   @retval VARPOLICY_INVALID_PARAMETER  The variable is stored with a different NV, BS or RT.

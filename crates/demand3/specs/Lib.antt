@@ -3,3 +3,4 @@ pub mod OrderLaws
 pub mod MachineLaws
 pub mod UnambiguousLaws
 pub mod Demand3
+pub mod StoredSizes

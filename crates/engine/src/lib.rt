@@ -291,9 +291,10 @@ pub fn payload<'a>(nv: &'a [u8], vol: &'a [u8], namespace: [u8; 16], name: &[u8]
 // Creates, rewrites, appends to or deletes a variable.
 // VOLUME_CORRUPTED where the stores are unsound or the policy record is not valid; then the first of:
 // 1. INVALID_PARAMETER for a bad name or a payload over 1,024 bytes; 2. UNSUPPORTED for an attribute bit outside 0x47;
-// 3. INVALID_PARAMETER for RT or append without BS; 4. what the chosen entry gives: INVALID_PARAMETER for the size or the
-// attributes, WRITE_PROTECTED for a lock; 5. NOT_FOUND for the deletion of an absent variable; 6. INVALID_PARAMETER for other
-// attributes than the stored ones; 8. OUT_OF_RESOURCES for an append that would exceed 1,024 bytes; 9. OUT_OF_RESOURCES for no room.
+// 3. INVALID_PARAMETER for RT or append without BS; 4. what the chosen entry gives: INVALID_PARAMETER for the size that the payload
+// would have afterwards or for the attributes, WRITE_PROTECTED for a lock; 5. NOT_FOUND for the deletion of an absent variable;
+// 6. INVALID_PARAMETER for other attributes than the stored ones; 8. OUT_OF_RESOURCES for an append that would exceed 1,024 bytes;
+// 9. OUT_OF_RESOURCES for no room.
 pub fn set(
     nv: &mut [u8],
     vol: &mut [u8],

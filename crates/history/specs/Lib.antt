@@ -2,3 +2,4 @@ pub mod History
 pub mod StandingOrder
 pub mod HistoryLaws
 pub mod AnyMoment
+pub mod AtEach

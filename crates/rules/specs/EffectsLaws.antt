@@ -307,7 +307,7 @@ step-exactly s c a t = (
 
 -- ---- a set by names
 
-same-found : (s t : State) (w : Variable) → SoundStores (t .nv) (t .vol) → lookup (t .nv) (t .vol) w ≡ lookup (s .nv) (s .vol) w → (q : Bytes) → RecordOf s w q → RecordOf t w q
+pub same-found : (s t : State) (w : Variable) → SoundStores (t .nv) (t .vol) → lookup (t .nv) (t .vol) w ≡ lookup (s .nv) (s .vol) w → (q : Bytes) → RecordOf s w q → RecordOf t w q
 same-found s t w k e q f = lookup-found t w q k (e ∙ found-lookup s w q f)
 
 module _ (s : State) (r : Request) (ok : sound (s .nv) (s .vol) ≡ true) (granted : isSuccess (decisionStatus (decisionIn s r)) ≡ true) where

@@ -7,6 +7,7 @@ use Rattle.status.specs.declared.Status.{Status}
 use Rattle.status.specs.declared.Status.the-variants.{Success}
 use Rattle.status.specs.Status.{isSuccess, statusNumber}
 use Rattle.status.specs.StatusLaws.{success-only}
+use Rattle.rules.specs.Set.{Request}
 use Rattle.rules.specs.Engine.{State, Call, Answer, Parts, parts, uses, status, onlyStatus, given, refusal, answer, effect, step}
 use Rattle.rules.specs.Engine.Call.{powerOn, restart, register, dump, lock, disable, query, read, set}
 
@@ -122,3 +123,20 @@ kept s c = go (isSuccess (step s c .0 .status)) refl
     go : (b : Bool) → isSuccess (step s c .0 .status) ≡ b → Kept (uses c .writes) s (step s c .1)
     go true h = subst⁻¹ (Kept (uses c .writes) s) (granted-effect s c h) (by-row s c .keeps)
     go false h = subst⁻¹ (Kept (uses c .writes) s) (refused-changes-nothing s c h) (same-parts _ s)
+
+-- WHICH CALLS WRITE A STORE: a power-on, a set, and no other
+pub data StoreWriter : Call → Type 0 where
+  powersOn : (allowed : Bool) → StoreWriter (powerOn allowed)
+  sets : (r : Request) → StoreWriter (set r)
+  noWriter : {c : Call} → uses c .writes .nv ≡ false → uses c .writes .vol ≡ false → StoreWriter c
+
+pub store-writer : (c : Call) → StoreWriter c
+store-writer (powerOn allowed) = powersOn allowed
+store-writer (restart allowed) = noWriter refl refl
+store-writer (register e) = noWriter refl refl
+store-writer (dump buffer) = noWriter refl refl
+store-writer lock = noWriter refl refl
+store-writer disable = noWriter refl refl
+store-writer query = noWriter refl refl
+store-writer (read v) = noWriter refl refl
+store-writer (set r) = sets r

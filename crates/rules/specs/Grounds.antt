@@ -262,9 +262,9 @@ pub data Applies (s : State) : Call → ℕ → Status → Type 0 where
   setRuntimeWithoutBS : {r : Request} → RT (r .attributes) → Not (BS (r .attributes)) → Applies s (set r) 30 InvalidParameter
   setAppendWithoutBS : {r : Request} → Append (r .attributes) → Not (BS (r .attributes)) → Applies s (set r) 30 InvalidParameter
   -- 4
-  setTooShort : {r : Request} (e : Bytes) → Enforced s r e → Not (Deletion r) → length (r .payload) < minSize e
+  setTooShort : {r : Request} (e p : Bytes) → Enforced s r e → Not (Deletion r) → PayloadAfter s r p → length p < minSize e
       → Applies s (set r) 41 InvalidParameter
-  setTooLong : {r : Request} (e : Bytes) → Enforced s r e → Not (Deletion r) → maxSize e < length (r .payload)
+  setTooLong : {r : Request} (e p : Bytes) → Enforced s r e → Not (Deletion r) → PayloadAfter s r p → maxSize e < length p
       → Applies s (set r) 41 InvalidParameter
   setBitMissing : {r : Request} (e : Bytes) (i : ℕ) → Enforced s r e → Not (Deletion r)
       → Bit i (attributesMustHave e) → Not (Bit i (r .attributes)) → Applies s (set r) 42 InvalidParameter

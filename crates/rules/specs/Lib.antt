@@ -11,6 +11,7 @@ pub mod OrderedLaws
 pub mod SetGroundsLaws
 pub mod GroundsLaws
 pub mod EffectsLaws
+pub mod SizeLaws
 pub mod StateLaws
 pub mod Opened
 pub mod Readings

@@ -27,15 +27,22 @@ text (u ∷ us) = u ∷ 0 ∷ text us
 abbrev closed : List ℕ → Bytes
 closed us = text us ++ (0 ∷ 0 ∷ [])
 
--- an entry of namespace G with any attributes: Size, OffsetToName, MinSize, lock type, and what follows the header
-abbrev entry : ℕ → ℕ → ℕ → ℕ → Bytes → Bytes
-entry size offset min type tail =
-    le32Bytes 0x10000 ++ le16Bytes size ++ le16Bytes offset ++ G ++ le32Bytes min ++ le32Bytes 0xFFFFFFFF ++ le32Bytes 0 ++ le32Bytes 0
+-- an entry of namespace G with any attributes: Size, OffsetToName, MinSize, MaxSize, lock type, and what follows the header
+abbrev sized-entry : ℕ → ℕ → ℕ → ℕ → ℕ → Bytes → Bytes
+sized-entry size offset min max type tail =
+    le32Bytes 0x10000 ++ le16Bytes size ++ le16Bytes offset ++ G ++ le32Bytes min ++ le32Bytes max ++ le32Bytes 0 ++ le32Bytes 0
     ++ (type ∷ 0 ∷ 0 ∷ 0 ∷ []) ++ tail
 
--- a well-formed one of types 0 to 2 with a name, and one of type 3 on the trigger "T" with Value 0
+-- one without an upper limit to the size
+abbrev entry : ℕ → ℕ → ℕ → ℕ → Bytes → Bytes
+entry size offset min type tail = sized-entry size offset min 0xFFFFFFFF type tail
+
+-- a well-formed one of types 0 to 2 with a name, one with a MaxSize, and one of type 3 on the trigger "T" with Value 0
 abbrev named-entry : ℕ → ℕ → List ℕ → Bytes
 named-entry min type us = entry (46 + 2 * length us) 44 min type (closed us)
+
+abbrev capped : ℕ → ℕ → List ℕ → Bytes
+capped max type us = sized-entry (46 + 2 * length us) 44 0 max type (closed us)
 
 abbrev triggered : List ℕ → Bytes
 triggered us = entry (68 + 2 * length us) 66 0 3 (G ++ (0 ∷ 0 ∷ []) ++ closed (0x54 ∷ []) ++ closed us)
@@ -56,6 +63,10 @@ write us = setting us 3 (7 ∷ [])
 
 abbrev delete : List ℕ → Call
 delete us = setting us 3 []
+
+-- an append of n bytes with NV and BS
+abbrev append : List ℕ → ℕ → Call
+append us n = setting us 0x43 (replicate n 7)
 
 -- before the power-on: an erased non-volatile store of 128 bytes, a volatile one and a policy record that hold anything
 abbrev board : State
@@ -101,6 +112,12 @@ readings =
     ∷ ((register (named-entry 0 2 A) ∷ write A ∷ write A ∷ delete A ∷ []), 0 ∷ 0 ∷ 0 ∷ 8 ∷ 8 ∷ [])
     -- MinSize 2, which a deletion is not held to
     ∷ ((register (named-entry 2 0 A) ∷ write A ∷ setting A 3 (1 ∷ 2 ∷ []) ∷ delete A ∷ []), 0 ∷ 0 ∷ 2 ∷ 0 ∷ 0 ∷ [])
+    -- MaxSize 64, which holds for what is stored afterwards: 60 bytes, 5 more, 4 more, none
+    ∷ ((register (capped 64 0 A) ∷ append A 60 ∷ append A 5 ∷ append A 4 ∷ append A 0 ∷ []), 0 ∷ 0 ∷ 0 ∷ 2 ∷ 0 ∷ 0 ∷ [])
+    -- and so does MinSize 4: none and 3 bytes for an absent variable, 4, 1 more, none
+    ∷ ((register (named-entry 4 0 A) ∷ append A 0 ∷ append A 3 ∷ append A 4 ∷ append A 1 ∷ append A 0 ∷ []), 0 ∷ 0 ∷ 2 ∷ 2 ∷ 0 ∷ 0 ∷ 0 ∷ [])
+    -- what is stored counts in the other store and with other attributes too: 60 bytes with BS alone, then under MaxSize 64 and lock now 5 more, 4 more
+    ∷ ((setting A 2 (replicate 60 7) ∷ register (capped 64 1 A) ∷ append A 5 ∷ append A 4 ∷ []), 0 ∷ 0 ∷ 0 ∷ 2 ∷ 8 ∷ [])
     -- RT without BS; a bit that is not known
     ∷ ((setting A 4 (1 ∷ []) ∷ setting A 8 (1 ∷ []) ∷ []), 0 ∷ 2 ∷ 3 ∷ [])
     -- lock and disable in both orders; disable twice
@@ -112,4 +129,4 @@ readings =
 -- THE READINGS HOLD
 pub readings-hold : All Holds readings
 unfolding rulesOpened
-readings-hold = more refl (more refl (more refl (more refl (more refl (more refl (more refl (more refl (more refl (more refl (more refl (more refl (more refl (more refl (more refl nil))))))))))))))
+readings-hold = more refl (more refl (more refl (more refl (more refl (more refl (more refl (more refl (more refl (more refl (more refl (more refl (more refl (more refl (more refl (more refl (more refl (more refl nil)))))))))))))))))

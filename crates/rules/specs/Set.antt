@@ -85,15 +85,22 @@ ruleLocks (LockOnVarState t) e found v = holdsValue (found (triggerOf e)) (trigg
 unfoldable pub locks : Bytes → Lookup → Variable → Bool
 locks e found v = ruleLocks (lockOf e) e found v
 
+-- ---- what would be stored
+
+-- the payload that the variable would have afterwards, by what is found of it: append joins what is stored, or creates
+unfoldable pub payloadAfter : Option Bytes → ℕ → Bytes → Bytes
+payloadAfter none a payload = payload
+payloadAfter (some old) a payload = cond (hasAppend a) (payloadOf old ++ payload) payload
+
+-- how long that is, of an append the request's length added to what is stored: what steps 4 and 8 measure
+abbrev pub lengthAfter : Option Bytes → Request → ℕ
+lengthAfter found r = length (payloadAfter found (r .attributes) (r .payload))
+
 -- ---- step 4
 
 -- a deletion (RULES.md, 10.9): without append, and with no payload or with neither of BS and RT
 unfoldable pub isDeletion : ℕ → Bytes → Bool
 isDeletion a payload = not (hasAppend a) and (isEmpty payload || not (hasBS a || hasRT a))
-
--- the length that MinSize and MaxSize measure: the request's, append or not
-abbrev pub measuredLength : Request → ℕ
-measuredLength r = length (r .payload)
 
 unfoldable pub sizeAllowed : Bytes → ℕ → Bool
 sizeAllowed e n = leb (minSize e) n and leb n (maxSize e)
@@ -109,15 +116,16 @@ orGround SizeGround later = SizeGround
 orGround AttributeGround later = AttributeGround
 orGround LockGround later = LockGround
 
--- what an entry says against a request that is no deletion: first its size, then its attributes
-unfoldable pub requestGround : Bytes → Request → Ground
-requestGround e r =
+-- what an entry says against a request that is no deletion, and whose variable would have n bytes: first its size, then its attributes
+unfoldable pub requestGround : Bytes → ℕ → Request → Ground
+requestGround e n r =
     cond (isDeletion (r .attributes) (r .payload)) NoGround
-    (cond (sizeAllowed e (measuredLength r)) (cond (attributesAllowed e (r .attributes)) NoGround AttributeGround) SizeGround)
+    (cond (sizeAllowed e n) (cond (attributesAllowed e (r .attributes)) NoGround AttributeGround) SizeGround)
 
--- and then against any request: a lock
+-- what it says against any request: that, by the length afterwards, and then a lock
 unfoldable pub groundOf : Bytes → Lookup → Request → Ground
-groundOf e found r = orGround (requestGround e r) (cond (locks e found (r .variable)) LockGround NoGround)
+groundOf e found r =
+    orGround (requestGround e (lengthAfter (found (r .variable)) r) r) (cond (locks e found (r .variable)) LockGround NoGround)
 
 -- where no entry speaks there is no ground
 abbrev pub groundBy : Option Bytes → Lookup → Request → Ground
@@ -146,11 +154,6 @@ otherAttributes (some r) a = not (eqb (attributesOf r) (storedAttributes a))
 unfoldable pub isEmptyAppend : ℕ → Bytes → Bool
 isEmptyAppend a payload = hasAppend a and isEmpty payload
 
--- append joins what is stored, or creates
-unfoldable pub payloadAfter : Option Bytes → ℕ → Bytes → Bytes
-payloadAfter none a payload = payload
-payloadAfter (some old) a payload = cond (hasAppend a) (payloadOf old ++ payload) payload
-
 abbrev pub recordAfter : Option Bytes → Request → Bytes
 recordAfter found r = encodeRecord (storedAttributes (r .attributes)) (r .variable) (payloadAfter found (r .attributes) (r .payload))
 
@@ -162,7 +165,7 @@ storeOf a nv vol = cond (hasNV a) nv vol
 abbrev pub storeDecision : Bytes → Bytes → Option Bytes → Request → Decision
 storeDecision nv vol found r =
     -- 8
-    cond (ltb maxPayload (length (payloadAfter found (r .attributes) (r .payload)))) (Refuse OutOfResources)
+    cond (ltb maxPayload (lengthAfter found r)) (Refuse OutOfResources)
     -- 9
     (cond (hasRoom (hasNV (r .attributes)) (storeOf (r .attributes) nv vol) (r .variable) (recordAfter found r)) Store (Refuse OutOfResources))
 

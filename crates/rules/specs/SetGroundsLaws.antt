@@ -33,7 +33,7 @@ use Rattle.rules.specs.declared.Ground.{Ground}
 use Rattle.rules.specs.declared.Ground.the-variants.{NoGround, SizeGround, AttributeGround, LockGround}
 use Rattle.rules.specs.declared.Decision.{Decision}
 use Rattle.rules.specs.declared.Decision.the-variants.{Refuse, Delete, Keep, Store}
-use Rattle.rules.specs.Set.{Request, Lookup, orGround, exists, badRequest, unsupportedBit, needsBS, requestStatus, holdsValue, ruleLocks, locks, isDeletion, sizeAllowed, attributesAllowed, requestGround, groundOf, groundBy, otherAttributes, isEmptyAppend, payloadAfter, recordAfter, storeOf, writeDecision, refuseOr, blockOr, decision, decisionStatus}
+use Rattle.rules.specs.Set.{Request, Lookup, orGround, exists, badRequest, unsupportedBit, needsBS, requestStatus, holdsValue, ruleLocks, locks, isDeletion, sizeAllowed, attributesAllowed, requestGround, groundOf, groundBy, otherAttributes, isEmptyAppend, payloadAfter, lengthAfter, recordAfter, storeOf, writeDecision, refuseOr, blockOr, decision, decisionStatus}
 use Rattle.rules.specs.Engine.{State, speaking, decisionBy, status}
 use Rattle.rules.specs.Engine.Call.{set}
 use Rattle.rules.specs.Grounds.{Not, Bit, BS, RT, Append, HasEntries, SoundStores, RecordOf, Locks, Deletion, SameAttributes, Enforced, PayloadAfter, Storing, Applies, Answers}
@@ -415,7 +415,7 @@ module _ (s : State) (r : Request) where
       go none e h = absurd (false≢true (sym f ∙ h))
       go (some x) e h = (x, e, h)
 
-  spoken-of : (e : Bytes) → Spoken (isDeletion (r .attributes) (r .payload)) (sizeAllowed e (length (r .payload))) (attributesAllowed e (r .attributes)) (locks e (lookup (s .nv) (s .vol)) (r .variable))
+  spoken-of : (e : Bytes) → Spoken (isDeletion (r .attributes) (r .payload)) (sizeAllowed e (lengthAfter standing r)) (attributesAllowed e (r .attributes)) (locks e (lookup (s .nv) (s .vol)) (r .variable))
       (groundOf e (lookup (s .nv) (s .vol)) r)
   unfolding groundOf requestGround
   spoken-of e = spoken _ _ _ _
@@ -437,9 +437,15 @@ module _ (s : State) (r : Request) where
     not-deletion : Not (Deletion r) → isDeletion (r .attributes) (r .payload) ≡ false
     not-deletion h = off-tells _ (tells-deletion r) h
 
-  size-ground : (e : Bytes) → Enforced s r e → Not (Deletion r) → (length (r .payload) < minSize e) ⊎ (maxSize e < length (r .payload)) → Applies s (set r) 41 InvalidParameter
-  size-ground e w d (inl h) = setTooShort e w d h
-  size-ground e w d (inr h) = setTooLong e w d h
+    no-size-ground : 0 < p → (e x : Bytes) → Enforced s r e → Not (Deletion r) → PayloadAfter s r x → isSize spokenGround ≡ false
+        → Not ((length x < minSize e) ⊎ (maxSize e < length x))
+    no-size-ground l e x w d a h =
+        subst⁻¹ (λ y. Not ((length y < minSize e) ⊎ (maxSize e < length y))) (payload-only s r (set-stores l) x a)
+        (tells-off _ (tells-size e (lengthAfter standing r)) (ap not (no-size _ (spoken-of e) (ground-off isSize h e w) (not-deletion d))))
+
+  size-ground : (e p : Bytes) → Enforced s r e → Not (Deletion r) → PayloadAfter s r p → (length p < minSize e) ⊎ (maxSize e < length p) → Applies s (set r) 41 InvalidParameter
+  size-ground e p w d a (inl h) = setTooShort e p w d a h
+  size-ground e p w d a (inr h) = setTooLong e p w d a h
 
   attribute-ground : (e : Bytes) → Enforced s r e → Not (Deletion r)
       → ((i : ℕ) × Bit i (attributesMustHave e) × Not (Bit i (r .attributes))) ⊎ ((i : ℕ) × Bit i (attributesCantHave e) × Bit i (r .attributes)) → Applies s (set r) 42 InvalidParameter
@@ -476,7 +482,9 @@ module _ (s : State) (r : Request) where
       then (λ n t.
       let w = asked isSize refl t in
       let q = size-says _ (spoken-of (w .0)) (w .2) in
-      size-ground (w .0) (entry-enforced (set-listed 41 n (lit< tt)) (w .0) (w .1)) (tells-off _ (tells-deletion r) (q .0)) (tells-size (w .0) (length (r .payload)) .0 (ap not (q .1))))
+      let k = set-stores 41 n (lit< tt) in
+      size-ground (w .0) (after s r k) (entry-enforced (set-listed 41 n (lit< tt)) (w .0) (w .1)) (tells-off _ (tells-deletion r) (q .0)) (payload-is s r k)
+      (tells-size (w .0) (length (after s r k)) .0 (ap not (q .1))))
       then (λ n t.
       let w = asked isAttribute refl t in
       let q = attribute-says _ (spoken-of (w .0)) (w .2) in
@@ -506,10 +514,8 @@ module _ (s : State) (r : Request) where
   no-set p n k m l (setUnknownBit i b h) = tells-off _ (tells-unsupported (r .attributes)) (n 4 l) (i, b, h)
   no-set p n k m l (setRuntimeWithoutBS h i) = tells-off _ (tells-needs-bs (r .attributes)) (n 5 l) (inl h, i)
   no-set p n k m l (setAppendWithoutBS h i) = tells-off _ (tells-needs-bs (r .attributes)) (n 5 l) (inr h, i)
-  no-set p n k m l (setTooShort e w d h) =
-      tells-off _ (tells-size e (length (r .payload))) (ap not (no-size _ (spoken-of e) (ground-off p n isSize (n 6 l) e w) (not-deletion p n d))) (inl h)
-  no-set p n k m l (setTooLong e w d h) =
-      tells-off _ (tells-size e (length (r .payload))) (ap not (no-size _ (spoken-of e) (ground-off p n isSize (n 6 l) e w) (not-deletion p n d))) (inr h)
+  no-set p n k m l (setTooShort e x w d a h) = no-size-ground p n (omega arith) e x w d a (n 6 l) (inl h)
+  no-set p n k m l (setTooLong e x w d a h) = no-size-ground p n (omega arith) e x w d a (n 6 l) (inr h)
   no-set p n k m l (setBitMissing e i w d h j) =
       tells-off _ (tells-attributes e (r .attributes))
       (ap not (no-attribute _ (spoken-of e) (ground-off p n isSize (n 6 (omega arith)) e w) (ground-off p n isAttribute (n 7 l) e w) (not-deletion p n d))) (inl (i, h, j))

@@ -1,6 +1,6 @@
 -- When the lock rule of an entry locks, by what the code found. Assumes nothing.
 use Prim.Native.Nat.{ℕ, _+_, _-_}
-use mathlib.Core.Path.{_≡_, refl, sym, ap, ap₂, _∙_}
+use mathlib.Core.Path.{_≡_, refl, sym, ap, ap₂, subst⁻¹, _∙_}
 use mathlib.Core.List.{[], _∷_}
 use mathlib.Core.Bool.{Bool, true, false, cond}
 use mathlib.Core.Option.{Option, none, some}
@@ -18,11 +18,17 @@ use Rattle.store.specs.declared.Found.{Found}
 use Rattle.store.specs.declared.Found.the-variants.{At, Absent}
 use Rattle.stores.specs.Pair.{lookup}
 use Rattle.stores.specs.declared.Place.{Place}
-use Rattle.stores.specs.Place.{placeIn, isSomewhere, recordAt, payloadAt}
-use Rattle.stores.specs.PlaceLaws.{lookup-place}
+use Rattle.stores.specs.Place.{Within, placeIn, isSomewhere, recordAt, payloadAt}
+use Rattle.stores.specs.PlaceLaws.{lookup-place, place-within-stores}
 use Rattle.rules.specs.Set.{Lookup, exists, holdsValue, ruleLocks, locks}
+use Rattle.set.specs.declared.Known.{Known}
+use Rattle.set.specs.Known.{Located}
 
 -- ---- what a place tells
+
+-- where the variable stands is within the stores
+pub located-within : (k : Known) (nv vol : Bytes) (v : Variable) → Located k nv vol v → Within nv vol (k .place)
+located-within k nv vol v w = subst⁻¹ (Within nv vol) (w .place) (place-within-stores nv vol v)
 
 pub exists-at : (nv vol : Bytes) (p : Place) → exists (recordAt nv vol p) ≡ isSomewhere p
 unfolding exists

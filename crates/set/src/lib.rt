@@ -79,6 +79,26 @@ pub fn check_request(name: &[u8], attributes: u32, payload: &[u8]) -> Status
     Status::Success
 }
 
+// ---- What would be stored.
+
+// How long the variable's payload would be afterwards: an append joins what is stored.
+fn length_after<'a>(
+    nv: &'a [u8],
+    vol: &'a [u8],
+    place: Place,
+    attributes: u32,
+    payload: &[u8],
+) -> usize
+    requires { ⌜ Within (now nv) (now vol) place ⌝ }
+    ensures { λ r. ⌜ r ≡ length (payloadAfter (recordAt (now (nv .entry)) (now (vol .entry)) place) attributes (now (payload .entry))) ⌝ }
+{
+    if store::has_append(attributes) {
+        let stored = stores::payload_at(nv, vol, place);
+        return stored.len() + payload.len();
+    }
+    payload.len()
+}
+
 // ---- Step 4.
 
 // Whether a set is a deletion (RULES.md, 10.9): without append, and with no payload or with neither of BS and RT.
@@ -116,16 +136,16 @@ fn attributes_allowed(must: u32, cant: u32, attributes: u32) -> bool
     cant & attributes == 0
 }
 
-// Unless the request is a deletion: its size against MinSize and MaxSize, then its attributes against those that the entry requires and prohibits.
-fn request_ground(entry: Entry, attributes: u32, payload: &[u8]) -> Ground
+// Unless the request is a deletion: the size n against MinSize and MaxSize, then the request's attributes against those that the entry requires and prohibits.
+fn request_ground(entry: Entry, n: usize, attributes: u32, payload: &[u8]) -> Ground
     ensures { λ r.
         ⌜ ((e : Bytes) (v : Variable) → entry ≡ entryOf e
-        → r ≡ requestGround e (record { variable = v; attributes = attributes; payload = now (payload .entry) })) ⌝ }
+        → r ≡ requestGround e n (record { variable = v; attributes = attributes; payload = now (payload .entry) })) ⌝ }
 {
     if is_deletion(attributes, payload) {
         return Ground::NoGround;
     }
-    if !size_allowed(entry.min_size, entry.max_size, payload.len()) {
+    if !size_allowed(entry.min_size, entry.max_size, n) {
         return Ground::SizeGround;
     }
     if attributes_allowed(
@@ -177,7 +197,7 @@ fn locks<'a>(e: &[u8], rule: LockRule, nv: &'a [u8], vol: &'a [u8], known: Known
     }
 }
 
-// The ground that an entry gives against the request: its size, its attributes, then its lock.
+// The ground that an entry gives against the request: the size of the payload afterwards, the request's attributes, then the lock.
 fn entry_ground<'a>(
     e: &[u8],
     nv: &'a [u8],
@@ -186,14 +206,15 @@ fn entry_ground<'a>(
     attributes: u32,
     payload: &[u8],
 ) -> Ground
-    requires { ⌜ (known .ends ≡ endsOf (now nv) (now vol)) × (wellFormed (now e) ≡ true) ⌝ }
+    requires { ⌜ (known .ends ≡ endsOf (now nv) (now vol)) × Within (now nv) (now vol) (known .place) × (wellFormed (now e) ≡ true) ⌝ }
     ensures { λ r.
         ⌜ ((v : Variable) → Located known (now (nv .entry)) (now (vol .entry)) v
         → r ≡ groundOf (now (e .entry)) (lookup (now (nv .entry)) (now (vol .entry)))
         (record { variable = v; attributes = attributes; payload = now (payload .entry) })) ⌝ }
 {
     let entry = entry::entry_of(e);
-    let by_request = request_ground(entry, attributes, payload);
+    let n = length_after(nv, vol, known.place, attributes, payload);
+    let by_request = request_ground(entry, n, attributes, payload);
     match by_request {
         Ground::NoGround => (),
         Ground::SizeGround => return Ground::SizeGround,
@@ -251,24 +272,6 @@ fn is_empty_append(attributes: u32, payload: &[u8]) -> bool
         return payload.len() == 0;
     }
     false
-}
-
-// How long the variable's payload is afterwards: an append joins what is stored.
-fn length_after<'a>(
-    nv: &'a [u8],
-    vol: &'a [u8],
-    place: Place,
-    attributes: u32,
-    payload: &[u8],
-) -> usize
-    requires { ⌜ Within (now nv) (now vol) place ⌝ }
-    ensures { λ r. ⌜ r ≡ length (payloadAfter (recordAt (now (nv .entry)) (now (vol .entry)) place) attributes (now (payload .entry))) ⌝ }
-{
-    if store::has_append(attributes) {
-        let stored = stores::payload_at(nv, vol, place);
-        return stored.len() + payload.len();
-    }
-    payload.len()
 }
 
 // Whether the store that the attributes name has room for the variable's record with a payload of n bytes. The variable does not

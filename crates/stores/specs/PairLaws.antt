@@ -98,6 +98,12 @@ module _ (nv vol : Bytes) (v : Variable) where
   pub lookup-nv : (at len : ℕ) → placeOf true nv v ≡ At at len → lookup nv vol v ≡ some (part at (at + len) nv)
   lookup-nv at len f = lookup-either ∙ rw (find-at true nv v at len f)
 
+  -- what is found once the volatile store is erased was found before
+  pub lookup-erased : (n : ℕ) (r : Bytes) → lookup nv (replicate n 255) v ≡ some r → lookup nv vol v ≡ some r
+  unfolding lookup
+  lookup-erased n r e =
+      lookup-either ∙ ap (λ o. orElse o (find (isOf v) (recordsOf false vol))) (rw (records-erased false n, append-nil) at e)
+
   -- the record that is found: it is of the variable, and its NV bit tells its store
   module _ (r : Bytes) (e : lookup nv vol v ≡ some r) where
     pub record Looked : Type 0 where

@@ -5,7 +5,6 @@ use crate::plain::calls as plain;
 use crate::plain::index::{Small, Standard};
 use varpolicy::{Attributes, Name, Switches, calls};
 
-const NV_BS: Attributes = Attributes(3);
 const SWITCHES: Switches = Switches { enabled: true, locked: false, disabling_allowed: false };
 
 /// A call.
@@ -15,12 +14,12 @@ pub enum Call {
         /// Its name.
         name: Name,
     },
-    /// Sets a variable. The payloads are used in turn.
+    /// Sets a variable, by two requests in turn.
     Set {
         /// Its name.
         name: Name,
-        /// Its payloads.
-        payloads: [Vec<u8>; 2],
+        /// Attributes and payload of each request.
+        requests: [(Attributes, Vec<u8>); 2],
         /// Whether the engine is enabled.
         enabled: bool,
     },
@@ -52,9 +51,9 @@ impl Call {
         let who = COLUMNS[column];
         match self {
             Call::Read { name } => read(who, name, lent),
-            Call::Set { name, payloads, enabled } => {
-                let payload = &payloads[lent.calls % 2];
-                [set(who, name, payload, *enabled, lent) as usize, 0, 0, 0]
+            Call::Set { name, requests, enabled } => {
+                let (attributes, payload) = &requests[lent.calls % 2];
+                [set(who, name, *attributes, payload, *enabled, lent) as usize, 0, 0, 0]
             }
             Call::Register { entry } => {
                 let status = register(who, entry, lent);
@@ -84,13 +83,13 @@ fn read(who: Who, name: &[u8], lent: &Lent) -> Answer {
     [found.status as usize, found.attributes as usize, found.offset, found.length]
 }
 
-fn set(who: Who, name: &[u8], payload: &[u8], enabled: bool, lent: &mut Lent) -> u32 {
+fn set(who: Who, name: &[u8], attributes: Attributes, payload: &[u8], enabled: bool, lent: &mut Lent) -> u32 {
     let Lent { nv, volatile, policy, .. } = lent;
     let switches = Switches { enabled, ..SWITCHES };
-    let request = plain::Request { namespace: &OURS, name, attributes: NV_BS.0, payload };
+    let request = plain::Request { namespace: &OURS, name, attributes: attributes.0, payload };
     match who {
         Who::Library => {
-            let request = calls::Request { namespace: &OURS, name, attributes: NV_BS, payload };
+            let request = calls::Request { namespace: &OURS, name, attributes, payload };
             calls::set(nv, volatile, policy, switches, request).number()
         }
         Who::Standard => plain::set::<plain::UseStandard>(nv, volatile, policy, plain_switches(switches), request),

@@ -5,16 +5,19 @@ use crate::case::{Bar, Case, Group, Growth, Work};
 use crate::inputs::{self, VOLATILE, variable};
 use crate::lent::Lent;
 use crate::parts::Part;
-use varpolicy::{MAX_STORE_BYTES, Name};
+use varpolicy::{Attributes, MAX_STORE_BYTES, Name};
 
 // ---- whole calls
 
 const VERSIONS: &[&str] = &["library", "standard", "small"];
 const RATIOS: &[&str] = &["to std.", "to small"];
 
+const PLAIN: Attributes = Attributes(3);
+const APPEND: Attributes = Attributes(0x43);
+
 /// Sets of a variable under a policy of 64 entries.
 fn set_under(name: Name, enabled: bool) -> Call {
-    Call::Set { name, payloads: [vec![1], vec![2]], enabled }
+    Call::Set { name, requests: [(PLAIN, vec![1]), (PLAIN, vec![2])], enabled }
 }
 
 /// Whole calls.
@@ -30,8 +33,8 @@ pub fn whole() -> Group {
         case("read the last", Call::Read { name: variable(VOLATILE + count - 1) });
         case("read an absent one", Call::Read { name: variable(60000) });
         let rewrite = |name, old: &[u8], new: &[u8]| {
-            let payloads = [old.to_vec(), new.to_vec()];
-            Call::Set { name, payloads, enabled: true }
+            let requests = [(PLAIN, old.to_vec()), (PLAIN, new.to_vec())];
+            Call::Set { name, requests, enabled: true }
         };
         case("set, same length", rewrite(variable(count - 1), &[1], &[2]));
         if count < 819 {
@@ -41,6 +44,13 @@ pub fn whole() -> Group {
     for (what, entries, name) in inputs::policies() {
         let lent = inputs::with_short_stores(&entries);
         case(format!("set, 64 entries, {what}"), set_under(name, true), &lent, 1.1);
+    }
+    let (_, entries, name) = inputs::policies().swap_remove(1);
+    let lent = inputs::with_short_stores(&entries);
+    for (what, bytes) in [("append 20 bytes", 20), ("append nothing", 0)] {
+        let requests = [(PLAIN, vec![1]), (APPEND, vec![2; bytes])];
+        let call = Call::Set { name, requests, enabled: true };
+        case(format!("set, then {what}, 64 entries, last match"), call, &lent, 1.1);
     }
     for units in [8, 41] {
         let mut entries = inputs::numbered(units);

@@ -82,6 +82,7 @@ pub enum Input {
     MinSize,
     MaxSize,
     AgainstSizes,
+    Sum,
     Required,
     Prohibited,
     KnownBit,
@@ -120,7 +121,16 @@ fn groups() -> Vec<Group> {
         Group::new(UnderSign, "unit of a set's name under an entry's '#'", labels::UNDER_SIGN),
         Group::new(MinSize, "MinSize of the chosen entry", labels::size_labels()),
         Group::new(MaxSize, "MaxSize of the chosen entry", labels::size_labels()),
-        Group::new(AgainstSizes, "payload against the chosen entry", labels::AGAINST_SIZES),
+        Group::new(
+            AgainstSizes,
+            "payload as it would be afterwards, against the chosen entry",
+            labels::against_sizes_labels(),
+        ),
+        Group::new(
+            Sum,
+            "append's own length and the sum against the sizes, and a later step that holds too",
+            labels::sum_labels(),
+        ),
         Group::new(Required, "AttributesMustHave of the chosen entry is this bit, which the set lacks", bits_but_bs()),
         Group::new(
             Prohibited,

@@ -6,6 +6,7 @@ use varpolicy::Namespace;
 
 /// The steps of a set that end it, in their order.
 const STEPS: [&str; 11] = ["1", "2", "3", "4 size", "4 attributes", "4 lock", "5", "6", "7", "8", "9"];
+const SIZE: usize = 3;
 const DELETION: usize = 6;
 const EMPTY_APPEND: usize = 8;
 const LONG_APPEND: usize = 9;
@@ -13,7 +14,7 @@ const LONG_APPEND: usize = 9;
 /// Whether two steps can hold for one set: a deletion is not asked for size and attributes and never comes
 /// to step 6, and an empty append makes nothing longer.
 fn can_meet(first: usize, second: usize) -> bool {
-    let asked_of_deletions = |step: usize| step < 3 || step == 5;
+    let asked_of_deletions = |step: usize| step < SIZE || step == 5;
     match (first, second) {
         (DELETION, _) => false,
         (first, DELETION) => asked_of_deletions(first),
@@ -85,7 +86,7 @@ impl<'a> Met<'a> {
 
     /// Whether the entry's size and attribute rules are asked.
     pub fn comes_to_policy(&self) -> bool {
-        (0..3).all(|step| !self.holds(step))
+        (0..SIZE).all(|step| !self.holds(step))
     }
 
     /// Where the variable is: 0 nowhere, 1 in the non-volatile store, 2 in the volatile one.
@@ -103,6 +104,11 @@ impl<'a> Met<'a> {
         Some(variable.payload.len() + self.length)
     }
 
+    /// The length of the payload as it would be afterwards (docs/RULES.md, 10.9).
+    pub fn length_afterwards(&self) -> usize {
+        self.joined().unwrap_or(self.length)
+    }
+
     /// Length of the records of the store that would hold the variable, as they would be afterwards; the
     /// padding of the variable's own; the length of the store.
     pub fn room(&self) -> (usize, usize, usize) {
@@ -113,7 +119,7 @@ impl<'a> Met<'a> {
         };
         let records: usize = self.pair.of(kind).iter().map(Variable::record_len).sum();
         let old = self.found.map_or(0, |(_, _, variable)| variable.record_len());
-        let unpadded = 32 + 2 * self.name.len() + 2 + self.joined().unwrap_or(self.length);
+        let unpadded = 32 + 2 * self.name.len() + 2 + self.length_afterwards();
         let padded = unpadded.next_multiple_of(4);
         (records - old + padded, padded - unpadded, self.store_lens[usize::from(kind == Kind::Volatile)])
     }
@@ -124,7 +130,7 @@ impl<'a> Met<'a> {
             0 => self.bad_name || self.length > MAX_PAYLOAD,
             1 => self.has(!0x47),
             2 => self.has(RT | APPEND) && !self.has(BS),
-            3 => !self.is_deletion() && self.chosen.is_some_and(|entry| self.refused_for_size(entry)),
+            SIZE => !self.is_deletion() && self.chosen.is_some_and(|entry| self.refused_for_size(entry)),
             4 => !self.is_deletion() && self.chosen.is_some_and(|entry| self.refused_for_attributes(entry)),
             5 => self.chosen.is_some_and(|entry| self.is_locked(entry)),
             DELETION => self.is_deletion() && self.found.is_none(),
@@ -142,7 +148,7 @@ impl<'a> Met<'a> {
     }
 
     fn refused_for_size(&self, entry: &Entry) -> bool {
-        !(entry.min_size as usize..=entry.max_size as usize).contains(&self.length)
+        !is_within(entry, self.length_afterwards())
     }
 
     fn refused_for_attributes(&self, entry: &Entry) -> bool {
@@ -166,6 +172,11 @@ impl<'a> Met<'a> {
         !self.is_deletion() && (0..STEPS.len() - 1).all(|step| !self.holds(step))
     }
 
+    /// Whether each step behind the size of step 4 would end the set, if it came to it.
+    pub fn behind_size(&self) -> [bool; 7] {
+        std::array::from_fn(|place| self.holds(SIZE + 1 + place))
+    }
+
     /// The places in [`pairs`] of the step that decides with each later one that holds too.
     pub fn steps_at_once(&self) -> Vec<usize> {
         let holding: Vec<usize> = (0..STEPS.len()).filter(|step| self.holds(*step)).collect();
@@ -175,6 +186,11 @@ impl<'a> Met<'a> {
         let place = |other: &usize| meeting().position(|pair| pair == (*first, *other));
         others.iter().filter_map(place).collect()
     }
+}
+
+/// Whether an entry's sizes allow this length.
+pub fn is_within(entry: &Entry, length: usize) -> bool {
+    (entry.min_size as usize..=entry.max_size as usize).contains(&length)
 }
 
 /// The units of these bytes; a last odd byte is left out.

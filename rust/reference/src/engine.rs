@@ -205,9 +205,9 @@ pub enum SetGround {
     UnknownAttribute,
     /// Step 3.
     WithoutBootService,
-    /// Step 4, shorter than MinSize.
+    /// Step 4, the payload as it would be afterwards shorter than MinSize.
     TooShort,
-    /// Step 4, longer than MaxSize.
+    /// Step 4, the payload as it would be afterwards longer than MaxSize.
     TooLong,
     /// Step 4, AttributesMustHave.
     AttributeMissing,
@@ -322,7 +322,7 @@ fn well_formed(request: &Request) -> Result<Vec<u16>, SetGround> {
 fn refused_by_policy(policy: &Policy, pair: &Pair, request: &Request, name: &[u16]) -> Option<SetGround> {
     let entry = policy.choose(request.namespace, name)?;
     if !request.is_deletion() {
-        let length = request.payload.len() as u32;
+        let length = payload_afterwards(pair, request, name).len() as u32;
         if length < entry.min_size {
             return Some(SetGround::TooShort);
         }
@@ -347,29 +347,36 @@ fn refused_by_policy(policy: &Policy, pair: &Pair, request: &Request, name: &[u1
     }
 }
 
+/// The payload as it would be afterwards (docs/RULES.md, 10.9): the request's own or, of an append to a variable that
+/// exists, in whichever store and with whatever attributes, the stored one with the request's behind it.
+fn payload_afterwards(pair: &Pair, request: &Request, name: &[u16]) -> Vec<u8> {
+    match pair.find(request.namespace, name) {
+        Some((_, _, variable)) if request.has(APPEND) => [&variable.payload, request.payload].concat(),
+        _ => request.payload.to_vec(),
+    }
+}
+
 /// Steps 6 to 8, and step 10 on the decoded variables.
 fn store_payload(pair: &mut Pair, request: &Request, name: &[u16]) -> SetGround {
     let attributes = request.attributes & !APPEND;
     let append = request.has(APPEND);
-    let found = pair.find(request.namespace, name).map(|(kind, place, variable)| (kind, place, variable.clone()));
-    if found.as_ref().is_some_and(|(_, _, variable)| variable.attributes != attributes) {
+    let found = pair.find(request.namespace, name).map(|(kind, place, variable)| (kind, place, variable.attributes));
+    if found.is_some_and(|(_, _, stored)| stored != attributes) {
         return SetGround::OtherAttributes;
     }
     if append && request.payload.is_empty() {
         return SetGround::EmptyAppend;
     }
-    let Some((kind, place, old)) = found else {
+    let payload = payload_afterwards(pair, request, name);
+    if append && payload.len() > MAX_PAYLOAD {
+        return SetGround::AppendTooLong;
+    }
+    let Some((kind, place, _)) = found else {
         let kind = if attributes & NV != 0 { Kind::NonVolatile } else { Kind::Volatile };
-        let payload = request.payload.to_vec();
         let namespace = *request.namespace;
         pair.of_mut(kind).push(Variable { namespace, name: name.to_vec(), attributes, payload });
         return if append { SetGround::AppendCreated } else { SetGround::Created };
     };
-    let mut payload = if append { old.payload } else { Vec::new() };
-    payload.extend(request.payload);
-    if payload.len() > MAX_PAYLOAD {
-        return SetGround::AppendTooLong;
-    }
     pair.of_mut(kind)[place].payload = payload;
     if append { SetGround::AppendJoined } else { SetGround::Rewritten }
 }

@@ -15,9 +15,9 @@ pub struct Entry {
     pub namespace: Namespace,
     /// The name or pattern; empty for the whole namespace.
     pub name: Vec<u16>,
-    /// Least length of a payload.
+    /// Least length of the payload as it would be afterwards (docs/RULES.md, 10.9).
     pub min_size: u32,
-    /// Greatest length of a payload.
+    /// Greatest length of that payload.
     pub max_size: u32,
     /// Attributes that a request must have.
     pub must_have: u32,

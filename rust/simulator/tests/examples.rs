@@ -30,7 +30,7 @@ fn examples_print_what_is_expected() {
         assert!(output.status.success());
         run += 1;
     }
-    assert!(run >= 4);
+    assert!(run >= 5);
 }
 
 #[test]

@@ -179,9 +179,9 @@ pub struct Request<'a> {
 /// * UNSUPPORTED: an attribute bit outside 0x47.
 /// * INVALID_PARAMETER: RT or APPEND without BS.
 /// * If the engine is enabled and an entry is chosen, and unless this is a deletion,
-///   INVALID_PARAMETER: the length of the payload is outside MinSize to MaxSize, or the attributes
-///   lack a required bit or have a prohibited one. Then, for a deletion too, WRITE_PROTECTED: the
-///   entry locks the variable.
+///   INVALID_PARAMETER: the payload as it would be afterwards, an append's with what is stored, is
+///   shorter than MinSize or longer than MaxSize, or the attributes lack a required bit or have a
+///   prohibited one. Then, for a deletion too, WRITE_PROTECTED: the entry locks the variable.
 /// * NOT_FOUND: the variable to delete does not exist.
 /// * INVALID_PARAMETER: the variable exists with other attributes.
 /// * OUT_OF_RESOURCES: an append would make the payload longer than 1,024 bytes, or the records

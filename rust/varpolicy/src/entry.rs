@@ -67,9 +67,9 @@ pub struct Entry {
     pub namespace: Namespace,
     /// The name or pattern; empty for the whole namespace.
     pub name: Name,
-    /// Least length of a payload.
+    /// Least length of the payload as it would be afterwards: of an append, with what is stored.
     pub min_size: u32,
-    /// Greatest length of a payload.
+    /// Greatest length of that payload.
     pub max_size: u32,
     /// Attributes that a request must have.
     pub must_have: Attributes,

@@ -1,11 +1,10 @@
 -- `set::decide_store` meets its contract: steps 8 and 9 by the payload's length afterwards. Assumes nothing.
+use Rattle.set.proofs.LockRules.{located-within}
 use Rattle.set.proofs.WriteSteps.{after-place, too-long, no-room, stored}
 use Rattle.names.specs.Name.{variable}
 use Rattle.stores.specs.Pair.{lookup}
-use Rattle.stores.specs.Place.{Within}
-use Rattle.stores.specs.PlaceLaws.{place-within-stores}
 use Rattle.rules.specs.Set.{payloadAfter}
-use mathlib.Core.Path.{_≡_, sym, subst}
+use mathlib.Core.Path.{_≡_, sym}
 use lib.ListN.{length}
 use borrow.Author.Needs.{needs}
 use Rattle.set.proofs.decide_store.Statement.{statement}
@@ -21,7 +20,7 @@ after c = after-place _ _ _ _ _ _ (Start c .pre .1 .place) (c .length-after .ens
 
 -- ---- the needs
 length-after-requires : tie.Need-length-after-requires
-length-after-requires c κs = subst (Within _ _) (sym (c .before .before .before .before .pre .1 .place)) (place-within-stores _ _ _)
+length-after-requires c κs = located-within _ _ _ _ (c .before .before .before .before .pre .1)
 
 returns : tie.Need-returns
 returns c = too-long _ _ _ _ (after (c .before)) (c .if1 .taken)

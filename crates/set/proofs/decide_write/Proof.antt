@@ -1,15 +1,13 @@
 -- `set::decide_write` meets its contract: steps 5 to 7, each by its test, and behind them steps 8 and 9. Assumes nothing.
-use Rattle.set.proofs.LockRules.{exists-place}
+use Rattle.set.proofs.LockRules.{located-within, exists-place}
 use Rattle.set.proofs.WriteSteps.{other-by, deletes, misses, differs, keeps, stores}
 use Rattle.slices.specs.Bytes.{Bytes}
 use Rattle.names.specs.Name.{variable}
 use Rattle.stores.specs.Pair.{lookup}
-use Rattle.stores.specs.Place.{Within}
-use Rattle.stores.specs.PlaceLaws.{place-within-stores}
 use Rattle.rules.specs.Set.{exists, isDeletion, otherAttributes}
 use mathlib.Core.Option.{Option}
 use mathlib.Core.Bool.{false}
-use mathlib.Core.Path.{_≡_, sym, subst, _∙_}
+use mathlib.Core.Path.{_≡_, sym, _∙_}
 use borrow.Author.Needs.{needs}
 use Rattle.set.proofs.decide_write.Statement.{statement}
 use Rattle.set.proofs.decide_write.Tie as tie
@@ -58,7 +56,7 @@ returns-2 c =
     misses _ _ _ _ (sym (d .before .is-deletion .ensures) ∙ d .if1 .taken) (sym (found (d .before .before)) ∙ c .if2 .left)
 
 attributes-at-requires : tie.Need-attributes-at-requires
-attributes-at-requires c κs = subst (Within _ _) (sym (Start (Sought c) .pre .1 .place)) (place-within-stores _ _ _)
+attributes-at-requires c κs = located-within _ _ _ _ (Start (Sought c) .pre .1)
 
 returns-3 : tie.Need-returns-3
 returns-3 c =

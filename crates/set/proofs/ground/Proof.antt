@@ -6,6 +6,7 @@ use Rattle.policy.specs.Choice.{choiceOf}
 use Rattle.policy.specs.ChoiceLaws.{choice-none}
 use Rattle.policy.specs.declared.Choice.the-variants.{Chosen}
 use Rattle.rules.specs.Set.{requestOf}
+use Rattle.set.proofs.LockRules.{located-within}
 use Rattle.set.proofs.Spoken.{header-within, end-within, entry-formed, entry-chosen}
 use Rattle.set.proofs.Grounds.{speaking-ground, silent-ground, unchosen-ground}
 use borrow.Author.Tests.{not-true, not-false}
@@ -76,7 +77,8 @@ entry-ground-requires : tie.Need-entry-ground-requires
 entry-ground-requires c κs =
     let z = c .before in
     let h = z .before .before in
-    (Start (Enabled h) .pre .located .ends, entry-formed _ _ _ _ _ (chosen-is h) _ (z .le16 .ensures))
+    let l = Start (Enabled h) .pre .located in
+    (l .ends, located-within _ _ _ _ l, entry-formed _ _ _ _ _ (chosen-is h) _ (z .le16 .ensures))
 
 returns-3 : tie.Need-returns-3
 returns-3 c =

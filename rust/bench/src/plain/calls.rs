@@ -170,7 +170,7 @@ fn decide<'a, I: Index<'a>>(
     if switches.enabled
         && let Some(entry) = entries.choose(namespace, name)
     {
-        enforce(entry, &stores, request, deletion, found.is_some())?;
+        enforce(entry, &stores, request, deletion, found)?;
     }
     if deletion {
         let place = found.ok_or(NOT_FOUND)?;
@@ -206,10 +206,12 @@ fn enforce<'a, I: Index<'a>>(
     stores: &Stores<'a, I>,
     request: &Request,
     deletion: bool,
-    exists: bool,
+    found: Option<Place>,
 ) -> Result<(), u32> {
-    let (attributes, length) = (request.attributes, request.payload.len() as u32);
+    let attributes = request.attributes;
     if !deletion {
+        let joined = found.filter(|_| attributes & APPEND != 0).map_or(0, |place| stores.payload(place).len());
+        let length = (joined + request.payload.len()) as u32;
         let (must, cant) = (le32(entry, 32), le32(entry, 36));
         if length < le32(entry, 24) || length > le32(entry, 28) || attributes & must != must || attributes & cant != 0 {
             return Err(INVALID_PARAMETER);
@@ -218,7 +220,7 @@ fn enforce<'a, I: Index<'a>>(
     let locked = match entry[40] {
         0 => false,
         1 => true,
-        2 => exists,
+        2 => found.is_some(),
         _ => {
             let trigger = Key::new(&entry[44..60], &entry[62..usize::from(le16(entry, 6)) - 2]);
             stores.find(trigger.bytes()).is_some_and(|place| *stores.payload(place) == [entry[60]])

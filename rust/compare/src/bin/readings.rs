@@ -13,7 +13,7 @@ type Implementation = fn(&mut State, &Call) -> Answer;
 /// A reading: its text, what answers it, and the statuses expected.
 type Reading = (&'static str, fn(Implementation) -> Vec<u32>, &'static [u32]);
 
-const READINGS: [Reading; 13] = [
+const READINGS: [Reading; 16] = [
     ("an entry of 43 bytes, one of 44", least_entry, &[2, 0]),
     ("a name of no units, closed", zero_unit_name, &[2]),
     ("a trigger's name of no units, of one", trigger_name, &[2, 0]),
@@ -26,6 +26,9 @@ const READINGS: [Reading; 13] = [
     ("a trigger with Value 0: absent, one byte 0, two bytes 0", triggers, &[0, 8, 0]),
     ("lock on create: create, rewrite, delete", lock_on_create, &[0, 8, 8]),
     ("MinSize 2: one byte, two, a deletion", min_size, &[2, 0, 0]),
+    ("MaxSize 64: appends of 60 bytes, 5, 4, none", append_to_max_size, &[0, 2, 0, 0]),
+    ("MinSize 4: appends of no byte, 3, 4, 1, none", append_to_min_size, &[2, 2, 0, 0, 0]),
+    ("MaxSize 64, locked, 60 bytes in the other store: appends of 5 bytes, 4", append_if_locked, &[2, 8]),
     ("RT without BS; an unknown bit", attributes, &[2, 3]),
     ("disable and lock, lock and disable, disable twice", switches, &[0, 0, 0, 8, 0, 20]),
     ("an empty store of 40 bytes: a record of 40, one of 44", forty_bytes, &[0, 9]),
@@ -78,6 +81,11 @@ impl Bench {
     /// A set with NV and BS.
     fn set(&mut self, name: &str, payload: &[u8]) -> u32 {
         self.set_with(name, 3, payload)
+    }
+
+    /// An append with NV and BS.
+    fn append(&mut self, name: &str, len: usize) -> u32 {
+        self.set_with(name, 0x43, &vec![1; len])
     }
 
     fn delete(&mut self, name: &str) -> u32 {
@@ -152,6 +160,25 @@ fn min_size(implementation: Implementation) -> Vec<u32> {
     let mut bench = Bench::new(implementation, 256);
     assert_eq!(bench.register(&EntryFields { min_size: 2, ..entry("A") }), 0);
     vec![bench.set("A", &[1]), bench.set("A", &[1, 2]), bench.delete("A")]
+}
+
+fn append_to_max_size(implementation: Implementation) -> Vec<u32> {
+    let mut bench = Bench::new(implementation, 256);
+    assert_eq!(bench.register(&EntryFields { max_size: 64, ..entry("A") }), 0);
+    [60, 5, 4, 0].map(|len| bench.append("A", len)).to_vec()
+}
+
+fn append_to_min_size(implementation: Implementation) -> Vec<u32> {
+    let mut bench = Bench::new(implementation, 256);
+    assert_eq!(bench.register(&EntryFields { min_size: 4, ..entry("A") }), 0);
+    [0, 3, 4, 1, 0].map(|len| bench.append("A", len)).to_vec()
+}
+
+fn append_if_locked(implementation: Implementation) -> Vec<u32> {
+    let mut bench = Bench::new(implementation, 256);
+    assert_eq!(bench.set_with("A", 2, &[1; 60]), 0);
+    assert_eq!(bench.register(&EntryFields { max_size: 64, ..locked_now("A") }), 0);
+    [5, 4].map(|len| bench.append("A", len)).to_vec()
 }
 
 fn attributes(implementation: Implementation) -> Vec<u32> {

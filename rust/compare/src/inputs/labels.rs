@@ -1,5 +1,7 @@
 //! What is counted of the inputs, in words. A class is told by its place in its table.
 
+use std::fmt::Display;
+
 /// Starts, with the one thing that is wrong.
 pub const START: [&str; 18] = [
     "power-on, nothing wrong",
@@ -110,9 +112,6 @@ pub fn size_labels() -> [&'static str; 13] {
     SIZE_VALUES.map(|(_, label)| label)
 }
 
-/// Payload lengths beside the sizes of the chosen entry.
-pub const AGAINST_SIZES: [&str; 4] = ["MinSize - 1", "MinSize", "MaxSize", "MaxSize + 1"];
-
 /// What the trigger of the chosen entry is.
 pub const TRIGGER: [&str; 14] = [
     "absent",
@@ -192,7 +191,7 @@ pub(super) const CALLS: [&str; 9] =
 const PLACES: [&str; 3] = ["absent", "non-volatile", "volatile"];
 
 /// The labels of `rows` with each of `columns`.
-fn crossed(rows: &[&str], columns: &[&str]) -> Vec<String> {
+fn crossed(rows: &[impl Display], columns: &[impl Display]) -> Vec<String> {
     rows.iter().flat_map(|row| columns.iter().map(move |column| format!("{row}, {column}"))).collect()
 }
 
@@ -212,7 +211,7 @@ pub fn switch_byte_labels() -> Vec<String> {
 /// Every type of lock, with where the variable is, for deletions and others.
 pub fn lock_labels() -> Vec<String> {
     let types = ["no lock", "lock now", "lock on create", "lock on state"];
-    crossed(&["set", "delete"], &crossed(&types, &PLACES).iter().map(String::as_str).collect::<Vec<_>>())
+    crossed(&["set", "delete"], &crossed(&types, &PLACES))
 }
 
 /// Every form of deletion, and the empty append, with where the variable is.
@@ -233,4 +232,22 @@ pub fn room_labels() -> Vec<String> {
 /// The attribute bits that a request can have where the chosen entry asks for them.
 pub fn known_bit_labels() -> Vec<String> {
     crossed(&["required", "prohibited"], &["0x1", "0x2", "0x4", "0x40"])
+}
+
+/// Every kind of set that the chosen entry measures, with where the variable is and the length measured. The last is
+/// left out: an empty append to an absent variable is measured by 0, which is over no MaxSize.
+pub fn against_sizes_labels() -> Vec<String> {
+    let kinds = crossed(&["set", "append", "empty append"], &["volatile", "non-volatile", "absent"]);
+    let mut labels = crossed(&kinds, &["MinSize - 1", "MinSize", "MaxSize", "MaxSize + 1"]);
+    labels.pop();
+    labels
+}
+
+/// Appends that the sizes of the chosen entry judge otherwise than they would their own length, with a later step that
+/// holds too.
+pub fn sum_labels() -> Vec<String> {
+    let sums = ["own within, sum over MaxSize", "own under MinSize, sum within"];
+    let steps =
+        ["none", "4 attributes", "4 lock", "4 lock and another NV", "4 lock and another RT", "6", "7", "8", "9"];
+    crossed(&sums, &steps)
 }

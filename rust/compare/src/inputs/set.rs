@@ -4,8 +4,8 @@ use super::count_if;
 use super::labels::SIZE_VALUES;
 use crate::coverage::{Coverage, Input};
 use crate::state::State;
-use crate::steps::Met;
-use reference::{Entry, LockRule, MAX_ENTRIES, Pair, Policy, Trigger};
+use crate::steps::{Met, is_within};
+use reference::{APPEND, Entry, LockRule, MAX_ENTRIES, NV, Pair, Policy, RT, Trigger};
 use varpolicy::{MAX_STORE_BYTES, Namespace};
 
 const NUMBER_SIGN: u16 = 0x23;
@@ -157,9 +157,8 @@ fn count_chosen(coverage: &mut Coverage, met: &Met, entry: &Entry) {
             coverage.input(input, label);
         }
     }
-    let (length, min, max) = (met.length as u64, u64::from(entry.min_size), u64::from(entry.max_size));
-    let against = [length + 1 == min, length == min, length == max, length == max + 1];
-    count_if(coverage, Input::AgainstSizes, &against, 0);
+    count_against_sizes(coverage, met, entry);
+    count_sum(coverage, met, entry);
     for (lacking, given, bits) in [(Input::Required, 0, entry.must_have), (Input::Prohibited, 4, entry.cant_have)] {
         if !bits.is_power_of_two() {
             continue;
@@ -169,6 +168,31 @@ fn count_chosen(coverage: &mut Coverage, met: &Met, entry: &Entry) {
             Some(label) => coverage.input(Input::KnownBit, given + label),
         }
     }
+}
+
+/// Counts the length that the entry measures, by the kind of set and by where the variable is.
+fn count_against_sizes(coverage: &mut Coverage, met: &Met, entry: &Entry) {
+    let length = met.length_afterwards() as u64;
+    let (min, max) = (u64::from(entry.min_size), u64::from(entry.max_size));
+    let against = [length + 1 == min, length == min, length == max, length == max + 1];
+    let kind = usize::from(met.has(APPEND)) + usize::from(met.length == 0);
+    count_if(coverage, Input::AgainstSizes, &against, 4 * (3 * kind + 2 - met.place()));
+}
+
+/// Counts an append that is within the sizes by its own length and not by the sum, or the other way round.
+fn count_sum(coverage: &mut Coverage, met: &Met, entry: &Entry) {
+    let first_label = match (is_within(entry, met.length), is_within(entry, met.length_afterwards())) {
+        (true, false) => 0,
+        (false, true) => 9,
+        _ => return,
+    };
+    let later = met.behind_size();
+    let [attributes, lock, _, others, empty, long, no_room] = later;
+    let differ = met.found.map_or(0, |(_, _, variable)| variable.attributes ^ met.attributes);
+    let (other_nv, other_rt) = (lock && differ & NV != 0, lock && differ & RT != 0);
+    let none = !later.contains(&true);
+    let holds = [none, attributes, lock, other_nv, other_rt, others, empty, long, no_room];
+    count_if(coverage, Input::Sum, &holds, first_label);
 }
 
 /// The place of a bit among all but BS, which every request that step 4 asks for attributes has.

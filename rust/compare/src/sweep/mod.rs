@@ -7,6 +7,7 @@ mod entries;
 mod names;
 mod sets;
 mod stores;
+mod sums;
 mod switches;
 
 use crate::call::Call;
@@ -25,7 +26,7 @@ type Outcome = Result<(), String>;
 
 type Part = (&'static str, fn(&mut Sweep) -> Outcome);
 
-const PARTS: [Part; 7] = [
+const PARTS: [Part; 8] = [
     ("entries", entries::run),
     ("engine", engine::run),
     ("choices", choices::run),
@@ -33,6 +34,7 @@ const PARTS: [Part; 7] = [
     ("stores", stores::run),
     ("names", names::run),
     ("switches", switches::run),
+    ("sums", sums::run),
 ];
 
 struct Sweep<'a> {

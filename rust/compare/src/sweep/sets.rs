@@ -6,8 +6,8 @@ use crate::make::{EntryFields, G, record, units};
 use crate::state::State;
 use std::slice::from_ref;
 
-const NAME: &[u16] = &[0x41];
-const OTHER_NAMESPACE: [u8; 16] = [0x0E; 16];
+pub(super) const NAME: &[u16] = &[0x41];
+pub(super) const OTHER_NAMESPACE: [u8; 16] = [0x0E; 16];
 
 pub(super) fn run(sweep: &mut Sweep) -> Outcome {
     attributes(sweep)?;

@@ -5,7 +5,8 @@
 //! name after its payload, step 4's size after its attributes, and step 8 after step 9 (one status each, and
 //! nothing written); a deletion asked for BS alone instead of BS and RT (step 3 has refused RT without BS);
 //! the volatile store searched before the other (no variable stands twice); a limit of 8,193 on the sum of
-//! Sizes (every Size is even).
+//! Sizes (every Size is even); the length that an append makes in 16 bits (it is 2,048 at most); MaxSize asked of
+//! an append's own length too (the sum is no shorter); MinSize less the stored length, 0 at least, asked of it.
 
 mod calls;
 mod entry;
@@ -14,6 +15,7 @@ mod name;
 mod policy;
 mod set;
 mod store;
+mod sums;
 mod switches;
 
 /// An edit of one file of the reference.
@@ -43,7 +45,7 @@ impl Edit {
 }
 
 /// The edits of each file in `reference/src`.
-const FILES: [(&str, &[Edit]); 9] = [
+const FILES: [(&str, &[Edit]); 10] = [
     ("lib.rs", limits::EDITS),
     ("cursor.rs", limits::CURSOR_EDITS),
     ("name.rs", name::EDITS),
@@ -52,6 +54,7 @@ const FILES: [(&str, &[Edit]); 9] = [
     ("store.rs", store::EDITS),
     ("engine.rs", calls::EDITS),
     ("engine.rs", set::EDITS),
+    ("engine.rs", sums::EDITS),
     ("switches.rs", switches::EDITS),
 ];
 

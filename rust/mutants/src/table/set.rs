@@ -11,29 +11,27 @@ const PAYLOAD: &str = "if request.payload.len() > MAX_PAYLOAD {";
 const UNKNOWN: &str = "if request.has(!(NV | BS | RT | APPEND)) {";
 const NAME: &str = "    let name = name::decode_request(request.name).ok_or(SetGround::BadName)?;\n";
 const WITHOUT_BS: &str = "if request.has(RT | APPEND) && !request.has(BS) {";
-const POLICY: &str = "    if switches.enabled\n        && let Some(ground)";
+pub(super) const POLICY: &str = "    if switches.enabled\n        && let Some(ground)";
 const ASKED: &str = "if !request.is_deletion() {\n        let length";
-const LENGTH: &str = "let length = request.payload.len() as u32;";
-const MIN: &str = "if length < entry.min_size {";
-const MAX: &str = "if length > entry.max_size {";
-const MUST: &str = "if entry.must_have & !request.attributes != 0 {";
+pub(super) const MIN: &str = "if length < entry.min_size {";
+pub(super) const MAX: &str = "if length > entry.max_size {";
+pub(super) const MUST: &str = "if entry.must_have & !request.attributes != 0 {";
 const CANT: &str = "if request.has(entry.cant_have) {";
 const NOW: &str = "LockRule::LockNow => Some(SetGround::LockedNow),";
 const ON_CREATE: &str = "pair.find(request.namespace, name).map(|_| SetGround::LockedOnCreate)";
 const TRIGGER: &str = "pair.find(&trigger.namespace, &trigger.name)?;";
 const TRIGGERED: &str = "(variable.payload == [trigger.value]).then_some(SetGround::LockedOnVarState)";
-const CHOSEN: &str = "    let entry = policy.choose(request.namespace, name)?;\n";
+pub(super) const CHOSEN: &str = "    let entry = policy.choose(request.namespace, name)?;\n";
 const DELETED: &str = "pair.of_mut(kind).remove(place);";
 const DELETES: &str = "    if request.is_deletion() {\n        let Some((kind, place, _))";
-const OTHERS: &str = "variable.attributes != attributes)";
+const OTHERS: &str = "stored != attributes)";
 const EMPTY_APPEND: &str =
     "    if append && request.payload.is_empty() {\n        return SetGround::EmptyAppend;\n    }\n";
-const OTHER_ATTRIBUTES: &str =
-    "    if found.as_ref().is_some_and(|(_, _, variable)| variable.attributes != attributes) {";
+const OTHER_ATTRIBUTES: &str = "    if found.is_some_and(|(_, _, stored)| stored != attributes) {";
 const KIND: &str = "let kind = if attributes & NV != 0 { Kind::NonVolatile } else { Kind::Volatile };";
 const CREATED: &str = "pair.of_mut(kind).push(Variable { namespace, name: name.to_vec(), attributes, payload });";
-const JOINED: &str = "let mut payload = if append { old.payload } else { Vec::new() };";
-const LONG: &str = "    if payload.len() > MAX_PAYLOAD {\n        return SetGround::AppendTooLong;";
+const JOINED: &str = "    let payload = payload_afterwards(pair, request, name);\n";
+const LONG: &str = "    if append && payload.len() > MAX_PAYLOAD {\n        return SetGround::AppendTooLong;";
 const REWRITTEN: &str = "    pair.of_mut(kind)[place].payload = payload;\n";
 const ROOM: &str =
     "if encoded_len(&pair.non_volatile) > non_volatile.len() || encoded_len(&pair.volatile) > volatile.len() {";
@@ -247,13 +245,6 @@ pub(super) const EDITS: &[Edit] = &[
         "8 bits of the length are compared with MaxSize",
     ),
     edit(
-        "step4-joined-length",
-        LENGTH,
-        "let old = pair.find(request.namespace, name).filter(|_| request.has(APPEND)).map_or(0, |found| \
-         found.2.payload.len()); let length = (old + request.payload.len()) as u32;",
-        "an append is measured by the joined length",
-    ),
-    edit(
         "step4-must-any",
         MUST,
         "if entry.must_have != 0 && entry.must_have & request.attributes == 0 {",
@@ -312,6 +303,14 @@ pub(super) const EDITS: &[Edit] = &[
         "let entry = policy.choose(request.namespace, name)?; if entry.lock == LockRule::LockOnCreate && \
          pair.find(request.namespace, name).is_some() { return Some(SetGround::LockedOnCreate); }",
         "step 4: a lock of type 2 before the size",
+    ),
+    edit(
+        "step4-state-lock-before-size",
+        CHOSEN,
+        "let entry = policy.choose(request.namespace, name)?; if let LockRule::LockOnVarState(trigger) = &entry.lock \
+         && pair.find(&trigger.namespace, &trigger.name).is_some_and(|found| found.2.payload == [trigger.value]) { \
+         return Some(SetGround::LockedOnVarState); }",
+        "step 4: a lock of type 3 before the size",
     ),
     edit("step4-now-never", NOW, "LockRule::LockNow => None,", "type 1 does not lock"),
     edit(
@@ -547,23 +546,13 @@ pub(super) const EDITS: &[Edit] = &[
          !APPEND) { return SetGround::OtherAttributes; } if request.is_deletion() { let Some((kind, place, _))",
         "step 6 before step 5",
     ),
-    edit("step6-nv-only", OTHERS, "(variable.attributes ^ attributes) & NV != 0)", "only NV is compared"),
-    edit("step6-not-rt", OTHERS, "(variable.attributes ^ attributes) & !RT != 0)", "RT is not compared"),
-    edit("step6-rt-added", OTHERS, "variable.attributes & !attributes != 0)", "attributes may be added"),
-    edit("step6-rt-dropped", OTHERS, "attributes & !variable.attributes != 0)", "attributes may be dropped"),
-    edit(
-        "step6-not-appends",
-        OTHERS,
-        "!append && variable.attributes != attributes)",
-        "an append is not asked for attributes",
-    ),
-    edit("step6-never", OTHERS, "false && variable.attributes != attributes)", "attributes are not compared"),
-    edit(
-        "step6-with-append",
-        OTHERS,
-        "variable.attributes != request.attributes)",
-        "append counts as another attribute",
-    ),
+    edit("step6-nv-only", OTHERS, "(stored ^ attributes) & NV != 0)", "only NV is compared"),
+    edit("step6-not-rt", OTHERS, "(stored ^ attributes) & !RT != 0)", "RT is not compared"),
+    edit("step6-rt-added", OTHERS, "stored & !attributes != 0)", "attributes may be added"),
+    edit("step6-rt-dropped", OTHERS, "attributes & !stored != 0)", "attributes may be dropped"),
+    edit("step6-not-appends", OTHERS, "!append && stored != attributes)", "an append is not asked for attributes"),
+    edit("step6-never", OTHERS, "false && stored != attributes)", "attributes are not compared"),
+    edit("step6-with-append", OTHERS, "stored != request.attributes)", "append counts as another attribute"),
     // Step 7.
     edit(
         "step7-before-4",
@@ -575,8 +564,8 @@ pub(super) const EDITS: &[Edit] = &[
     edit(
         "step7-before-6",
         OTHER_ATTRIBUTES,
-        "if append && request.payload.is_empty() { return SetGround::EmptyAppend; } if \
-         found.as_ref().is_some_and(|(_, _, variable)| variable.attributes != attributes) {",
+        "if append && request.payload.is_empty() { return SetGround::EmptyAppend; } if found.is_some_and(|(_, _, \
+         stored)| stored != attributes) {",
         "step 7 before step 6",
     ),
     edit(
@@ -610,20 +599,21 @@ pub(super) const EDITS: &[Edit] = &[
     edit(
         "step8-below",
         LONG,
-        "if payload.len() >= MAX_PAYLOAD { return SetGround::AppendTooLong;",
+        "if append && payload.len() >= MAX_PAYLOAD { return SetGround::AppendTooLong;",
         "an append to 1,024 is too long",
     ),
     edit(
         "step8-1025",
         LONG,
-        "if payload.len() > MAX_PAYLOAD + 1 { return SetGround::AppendTooLong;",
+        "if append && payload.len() > MAX_PAYLOAD + 1 { return SetGround::AppendTooLong;",
         "an append to 1,025 is stored",
     ),
     edit("step8-never", LONG, "if false { return SetGround::AppendTooLong;", "an append to any length is stored"),
     edit(
         "step8-cuts",
         LONG,
-        "payload.truncate(MAX_PAYLOAD); if payload.len() > MAX_PAYLOAD { return SetGround::AppendTooLong;",
+        "let mut payload = payload; payload.truncate(MAX_PAYLOAD); if append && payload.len() > MAX_PAYLOAD { \
+         return SetGround::AppendTooLong;",
         "an append is cut at 1,024",
     ),
     edit(
@@ -635,9 +625,8 @@ pub(super) const EDITS: &[Edit] = &[
     edit(
         "step8-before-6",
         OTHER_ATTRIBUTES,
-        "if append && found.as_ref().is_some_and(|(_, _, variable)| variable.payload.len() + request.payload.len() \
-         > MAX_PAYLOAD) { return SetGround::AppendTooLong; } if found.as_ref().is_some_and(|(_, _, variable)| \
-         variable.attributes != attributes) {",
+        "if append && payload_afterwards(pair, request, name).len() > MAX_PAYLOAD { return \
+         SetGround::AppendTooLong; } if found.is_some_and(|(_, _, stored)| stored != attributes) {",
         "step 8 before step 6",
     ),
     edit(
@@ -751,16 +740,20 @@ pub(super) const EDITS: &[Edit] = &[
         "let kind = if attributes & (NV | RT) != 0 { Kind::NonVolatile } else { Kind::Volatile };",
         "RT goes to the non-volatile store",
     ),
-    edit("step10-append-replaces", JOINED, "let mut payload = Vec::new();", "an append replaces"),
+    edit("step10-append-replaces", JOINED, "let payload = request.payload.to_vec();", "an append replaces"),
     edit(
         "step10-append-in-front",
         JOINED,
-        "let mut payload = Vec::new(); if append { payload.extend(request.payload); payload.extend(old.payload); \
-         if payload.len() > MAX_PAYLOAD { return SetGround::AppendTooLong; } pair.of_mut(kind)[place].payload = \
-         payload; return SetGround::AppendJoined; }",
+        "let mut payload = payload_afterwards(pair, request, name); payload.rotate_right(request.payload.len());",
         "an append goes before the old bytes",
     ),
-    edit("step10-write-appends", JOINED, "let mut payload = old.payload;", "every set appends"),
+    edit(
+        "step10-write-appends",
+        JOINED,
+        "let mut payload = pair.find(request.namespace, name).map_or(Vec::new(), |found| found.2.payload.clone()); \
+         payload.extend(request.payload);",
+        "every set appends",
+    ),
     edit(
         "step10-rewrite-moves",
         REWRITTEN,
