@@ -14,7 +14,8 @@ pub enum Call {
         /// Its name.
         name: Name,
     },
-    /// Sets a variable, by two requests in turn.
+    /// Sets a variable, by two requests in turn: first the second one, so that instructions, which are counted of the
+    /// second call made, are those of the first.
     Set {
         /// Its name.
         name: Name,

@@ -48,9 +48,9 @@ pub fn whole() -> Group {
     let (_, entries, name) = inputs::policies().swap_remove(1);
     let lent = inputs::with_short_stores(&entries);
     for (what, bytes) in [("append 20 bytes", 20), ("append nothing", 0)] {
-        let requests = [(PLAIN, vec![1]), (APPEND, vec![2; bytes])];
+        let requests = [(APPEND, vec![2; bytes]), (PLAIN, vec![1])];
         let call = Call::Set { name, requests, enabled: true };
-        case(format!("set, then {what}, 64 entries, last match"), call, &lent, 1.1);
+        case(format!("{what}, 64 entries, last match"), call, &lent, 1.1);
     }
     for units in [8, 41] {
         let mut entries = inputs::numbered(units);
