@@ -19,7 +19,7 @@ use Rattle.store.specs.RecordLaws.{recordLength-within, recordLength-local, rec
 use Rattle.store.specs.VariableLaws.{isOf-variable, sameVariable-sym, sameVariable-like}
 use Rattle.store.specs.Parts.{variable}
 use Rattle.store.specs.Store.{recordsOf, endOf}
-use Rattle.stores.specs.Filter.{hashOf, slotOf, fingerprintOf, keyOf, Marked, several, this, Filter, scanned}
+use Rattle.stores.specs.Filter.{slots, hashOf, slotOf, fingerprintOf, keyOf, Marked, several, this, Filter, scanned}
 use Rattle.stores.specs.declared.Scanned.the-variants.{End, Repeated}
 
 -- ---- the filter
@@ -141,7 +141,7 @@ module _ (nonVolatile : Bool) (at n : ℕ) (s : Bytes) (os : List Bytes) (t : By
           let q : getD t k 0 ≡ f → ⊥ = eqb-false _ _ (or-right-off (eqb (getD t k 0) 255) (eqb (getD t k 0) f) z) in
           clear t r (os ++ seen) (w .filter .marks) (rw slot-is at p) (λ y. q (ap (λ (i : ℕ). getD t i 0) slot-is ∙ y ∙ sym fingerprint-is))
 
-      pub seen-step : {x : ℕ} → x ≡ cond (eqb (getD t k 0) 0) f 255 → k < 8192 → contains (sameVariable r) (os ++ seen) ≡ false → Seen nonVolatile (at + n) s os (set t k x)
+      pub seen-step : {x : ℕ} → x ≡ cond (eqb (getD t k 0) 0) f 255 → k < slots → contains (sameVariable r) (os ++ seen) ≡ false → Seen nonVolatile (at + n) s os (set t k x)
       seen-step {x} d g u =
           let g′ : slotOf (keyOf r) < length t = rw (w .filter .room) (rw slot-is at g) in
           rw slot-is (seen-more x u g′ (rw (slot-is, fingerprint-is) at d))

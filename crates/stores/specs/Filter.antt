@@ -19,8 +19,11 @@ use Rattle.stores.specs.declared.Scanned.the-variants.{End, Repeated}
 unfoldable pub hashOf : Variable → ℕ
 hashOf v = hashFrom (hashFrom 0 (v .namespace)) (v .name) % 4294967296 * 2654435761
 
+abbrev pub slots : ℕ
+slots = 8192
+
 abbrev pub slotOf : ℕ → ℕ
-slotOf h = h / 524288 % 8192
+slotOf h = h / 524288 % slots
 
 abbrev pub fingerprintOf : ℕ → ℕ
 fingerprintOf h = h / 4294967296 % 254 + 1
@@ -36,7 +39,7 @@ pub data Marked (t r : Bytes) : Type 0 where
 
 -- a filter that has every record of the list
 pub record Filter (t : Bytes) (rs : List Bytes) : Type 0 where
-  pub room : length t ≡ 8192
+  pub room : length t ≡ slots
   pub marks : All (Marked t) rs
 
 -- what a scan of a store finds, behind the records os

@@ -1,5 +1,5 @@
 // The two lent stores together: the check that both are sound, in a time that grows with their bytes, and where a variable stands in them.
-// The check's filter has one byte for each of 8,192 slots of a hash; a record is searched for only where its slot does not rule out that its variable was seen.
+// The check's filter has one byte for each slot of a hash; a record is searched for only where its slot does not rule out that its variable was seen.
 ghost use mathlib.Core.Path.{_≡_};
 ghost use mathlib.Core.List.{_++_};
 ghost use mathlib.Core.Bool.{true, false, cond};
@@ -11,10 +11,13 @@ ghost use Rattle.store.specs.Record.{variableOf, isOf, sameVariable};
 ghost use Rattle.store.specs.Store.{recordsOf, endOf};
 ghost use Rattle.store.specs.Parts.{variable, HeaderFits};
 ghost use Rattle.stores.specs.Pair.{soundAlone, endsOf, pairCheck};
-ghost use Rattle.stores.specs.Filter.{hashOf, slotOf, fingerprintOf, Filter, scanned};
+ghost use Rattle.stores.specs.Filter.{slots, hashOf, slotOf, fingerprintOf, Filter, scanned};
 ghost use Rattle.stores.specs.Place.{placeIn, isSomewhere, attributesAt, payloadAt, boundsAt, Within};
 use store::Bounds;
 use store::Found;
+
+// The slots of the filter; `specs/Filter.antt` has the same for the proofs.
+const SLOTS: usize = 8192;
 
 // Where the records of two stores end.
 pub struct Ends {
@@ -46,9 +49,9 @@ pub fn hash(r: &[u8]) -> usize
 
 pub fn slot(h: usize) -> usize
     ensures { λ r. ⌜ r ≡ slotOf h ⌝ }
-    ensures { λ r. ⌜ r < 8192 ⌝ }
+    ensures { λ r. ⌜ r < slots ⌝ }
 {
-    h / 524288 % 8192
+    h / 524288 % SLOTS
 }
 
 // 1 to 254.
@@ -98,7 +101,7 @@ fn scan(
     o: &[u8],
     other: bool,
     oend: usize,
-    t: &mut [u8; 8192],
+    t: &mut [u8; SLOTS],
 ) -> Scanned
     requires { ⌜ (oend ≡ endOf other (now o)) × (distinct sameVariable (recordsOf other (now o)) ≡ true) × Filter (now t) (recordsOf other (now o)) ⌝ }
     ensures answer { λ r. ⌜ r ≡ scanned nonvolatile (now (s .entry)) (recordsOf other (now (o .entry))) ⌝ }
@@ -127,10 +130,10 @@ fn scan(
 }
 
 // A filter that has no record.
-fn empty() -> [u8; 8192]
-    ensures { λ r. ⌜ length r ≡ 8192 ⌝ }
+fn empty() -> [u8; SLOTS]
+    ensures { λ r. ⌜ length r ≡ slots ⌝ }
 {
-    [0u8; 8192]
+    [0u8; SLOTS]
 }
 
 // The check for 10 of both stores.
