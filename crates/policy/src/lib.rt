@@ -3,16 +3,19 @@ ghost use mathlib.Core.Path.{_≡_};
 ghost use mathlib.Core.List.{[], _∷_, _++_};
 ghost use mathlib.Core.Bool.{true, _||_, cond};
 ghost use Prim.Native.Nat.{_+_, _≤_, _<_};
-ghost use lib.ListN.{length, take, set};
+ghost use lib.ListN.{length, take};
 ghost use Rattle.limits.specs.Limits.{noRank, policyBytes};
 ghost use Rattle.slices.specs.Bytes.{overwrite};
 ghost use Rattle.slices.specs.Chunks.{flat, contains};
 ghost use Rattle.names.specs.Name.{units, matches, variable};
 ghost use Rattle.entry.specs.Entry.{wellFormed, nameIsEmpty, nameOf, rank, sameTarget};
 ghost use Rattle.policy.specs.Policy.{entryLength, entriesOf, sizesSum, packPolicy, emptyPolicy, policyValid, policyCheck};
-ghost use Rattle.policy.specs.Filter.{slots, slotOf, Marks};
+ghost use Rattle.policy.specs.Filter.{slots, keyOf, Marks, marksWith};
 ghost use Rattle.policy.specs.Choice.{choiceOf};
 ghost use Rattle.policy.specs.Best.{asChoice};
+
+// The slots of the filter; `specs/Filter.antt` has the same for the proofs.
+const SLOTS: usize = 2048;
 
 // What the check of a lent policy record finds: how many entries, and how many bytes they take; or that it is not valid.
 pub enum PolicyCheck {
@@ -65,35 +68,39 @@ fn is_among(policy: &[u8], count: usize, e: &[u8]) -> bool
     false
 }
 
-// The slot of an entry in the filter.
-fn slot(e: &[u8]) -> usize
+// The key of an entry, from which its slot in the filter and its fingerprint are taken.
+fn key(e: &[u8]) -> usize
     requires { ⌜ wellFormed (now e) ≡ true ⌝ }
-    ensures is { λ r. ⌜ r ≡ slotOf (now (e .entry)) ⌝ }
-    ensures bound { λ r. ⌜ r < slots ⌝ }
+    ensures { λ r. ⌜ r ≡ keyOf (now (e .entry)) ⌝ }
 {
     let h = slices::hash(slices::get32(e, limits::NAMESPACE_AT), entry::name_bytes(e));
     let product = h % 4294967296 * 2654435761;
-    (product % 4294967296 + product / 4294967296) / 2097152 % 2048
+    product % 4294967296 + product / 4294967296
 }
 
 // Whether one of the first count entries, which the filter has, has the namespace and the name of e; the filter then has e too.
-fn is_repeated(policy: &[u8], count: usize, e: &[u8], marks: &mut [u8; 2048]) -> bool
+fn is_repeated(policy: &[u8], count: usize, e: &[u8], marks: &mut [u8; SLOTS]) -> bool
     requires { ⌜ (count ≤ length (entriesOf (now policy))) × (wellFormed (now e) ≡ true) × Marks (now marks) (take count (entriesOf (now policy))) ⌝ }
     ensures answer { λ r. ⌜ r ≡ contains (sameTarget (now (e .entry))) (take count (entriesOf (now (policy .entry)))) ⌝ }
-    ensures marked { λ _. ⌜ now (marks .exit) ≡ set (now (marks .entry)) (slotOf (now (e .entry))) 1 ⌝ }
-    ensures bound { λ _. ⌜ slotOf (now (e .entry)) < slots ⌝ }
+    ensures marked { λ _. ⌜ now (marks .exit) ≡ marksWith (now (marks .entry)) (now (e .entry)) ⌝ }
 {
-    let k = slot(e);
-    let seen = marks[k];
-    marks[k] = 1;
+    let key = key(e);
+    let slot = key / 2097152 % SLOTS;
+    let fingerprint = (key / 8192 % 128 + 1) as u8;
+    let seen = marks[slot];
     if seen == 0 {
+        marks[slot] = fingerprint;
         return false;
     }
-    is_among(policy, count, e)
+    marks[slot] = 255;
+    if (seen == 255) | (seen == fingerprint) {
+        return is_among(policy, count, e);
+    }
+    false
 }
 
 // The check of a record of the right length, with a filter that has no entry.
-fn scan(policy: &[u8], marks: &mut [u8; 2048]) -> PolicyCheck
+fn scan(policy: &[u8], marks: &mut [u8; SLOTS]) -> PolicyCheck
     requires { ⌜ (length (now policy) ≡ policyBytes) × Marks (now marks) [] ⌝ }
     ensures { λ r. ⌜ r ≡ policyCheck (now (policy .entry)) ⌝ }
 {
@@ -119,10 +126,10 @@ fn scan(policy: &[u8], marks: &mut [u8; 2048]) -> PolicyCheck
 }
 
 // A filter that has no entry.
-fn no_marks() -> [u8; 2048]
+fn no_marks() -> [u8; SLOTS]
     ensures { λ r. ⌜ length r ≡ slots ⌝ }
 {
-    [0u8; 2048]
+    [0u8; SLOTS]
 }
 
 // The check of a lent policy record (RULES.md, 7).

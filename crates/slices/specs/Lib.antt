@@ -9,3 +9,5 @@ pub mod OverwriteLaws
 pub mod Chunks
 pub mod ChunksLaws
 pub mod ItemsLaws
+pub mod Filter
+pub mod FilterLaws

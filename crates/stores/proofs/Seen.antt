@@ -2,24 +2,25 @@
 use Prim.Native.Nat.{ℕ, _+_, _≤_, _<_}
 use mathlib.Core.Path.{_≡_, refl, sym, ap, _∙_}
 use mathlib.Core.List.{List, [], _∷_, _++_, append-assoc, append-nil}
-use mathlib.Core.Bool.{Bool, true, false, _||_, cond}
+use mathlib.Core.Bool.{Bool, true, false, _||_}
 use native.Mathlib.Omega.{arith}
 use lib.ListN.{length, getD, take, drop, set, length-set}
-use lib.Seq.{length-take-le, getD-set-same, getD-set-other, take-add, drop-drop}
+use lib.Seq.{length-take-le, take-add, drop-drop}
 use lib.Dec.{eqb}
-use borrow.Author.Tests.{eqb-true, eqb-false}
-use Rattle.slices.specs.TestLaws.{forced-off}
+use borrow.Author.Tests.{eqb-false}
 use Rattle.slices.specs.Bytes.{Bytes, part}
 use Rattle.slices.specs.PartLaws.{part-of}
+use Rattle.slices.specs.Filter.{joined}
+use Rattle.slices.specs.FilterLaws.{filter-met, filter-unmet}
 use Rattle.slices.specs.Chunks.{flat, chunks, chunksFrom, used, contains, distinct}
-use Rattle.slices.specs.ChunksLaws.{All, nil, more, flat-append, flat-one, chunks-stop, chunks-step, chunks-flat, chunks-items, item-first, at-within, used-here, used-again}
-use Rattle.slices.specs.ItemsLaws.{contains-append, all-append, all-map, or-left-off, or-right-off, distinct-append, distinct-repeated}
+use Rattle.slices.specs.ChunksLaws.{nil, more, flat-append, flat-one, chunks-stop, chunks-step, chunks-flat, chunks-items, item-first, at-within, used-here, used-again}
+use Rattle.slices.specs.ItemsLaws.{contains-append, all-append, or-left-off, or-right-off, distinct-append, distinct-repeated}
 use Rattle.store.specs.Record.{namespaceOf, nameOf, recordLength, variableOf, isOf, sameVariable}
 use Rattle.store.specs.RecordLaws.{recordLength-within, recordLength-local, recordLength-free}
 use Rattle.store.specs.VariableLaws.{isOf-variable, sameVariable-sym, sameVariable-like}
 use Rattle.store.specs.Parts.{variable}
 use Rattle.store.specs.Store.{recordsOf, endOf}
-use Rattle.stores.specs.Filter.{slots, hashOf, slotOf, fingerprintOf, keyOf, Marked, several, this, Filter, scanned}
+use Rattle.stores.specs.Filter.{slots, hashOf, slotOf, fingerprintOf, keyOf, Filter, scanned}
 use Rattle.stores.specs.declared.Scanned.the-variants.{End, Repeated}
 
 -- ---- the filter
@@ -28,43 +29,19 @@ unfolding keyOf
 key-like r q e = ap hashOf (sym (isOf-variable (variableOf r) q e))
 
 -- a slot that says neither its fingerprint nor several: the variable was not seen
-clear : (t r : Bytes) (rs : List Bytes) → All (Marked t) rs → (getD t (slotOf (keyOf r)) 0 ≡ 255 → ⊥) → (getD t (slotOf (keyOf r)) 0 ≡ fingerprintOf (keyOf r) → ⊥)
+clear : (t r : Bytes) (rs : List Bytes) → Filter t rs → (getD t (slotOf (keyOf r)) 0 ≡ 255 → ⊥) → (getD t (slotOf (keyOf r)) 0 ≡ fingerprintOf (keyOf r) → ⊥)
     → contains (sameVariable r) rs ≡ false
-unfolding contains
-clear t r [] nil a b = refl
-clear t r (q ∷ rs) (more m ms) a b = rw (forced-off (sameVariable r q) (λ e. absurd (hit m (key-like r q e)))) (clear t r rs ms a b)
-  where
-    hit : Marked t q → keyOf q ≡ keyOf r → ⊥
-    hit (several x) k = a (rw k at x)
-    hit (this x) k = b (rw k at x)
+clear t r rs f = filter-unmet (λ q. slotOf (keyOf q)) (λ q. fingerprintOf (keyOf q)) sameVariable
+    (λ x y e. (ap slotOf (key-like x y e), ap fingerprintOf (key-like x y e))) t r rs (f .marks)
 
 -- the filter after r was seen
-module _ (t r : Bytes) (x : ℕ) (h : slotOf (keyOf r) < length t) (e : x ≡ cond (eqb (getD t (slotOf (keyOf r)) 0) 0) (fingerprintOf (keyOf r)) 255) where
-  marked-self : Marked (set t (slotOf (keyOf r)) x) r
-  marked-self = go (eqb (getD t (slotOf (keyOf r)) 0) 0) refl
-    where
-      go : (b : Bool) → eqb (getD t (slotOf (keyOf r)) 0) 0 ≡ b → Marked (set t (slotOf (keyOf r)) x) r
-      go true q = this (getD-set-same t (slotOf (keyOf r)) x 0 h ∙ e ∙ rw q)
-      go false q = several (getD-set-same t (slotOf (keyOf r)) x 0 h ∙ e ∙ rw q)
-
-  marked-kept : (q : Bytes) → Marked t q → Marked (set t (slotOf (keyOf r)) x) q
-  marked-kept q m = go (eqb (slotOf (keyOf q)) (slotOf (keyOf r))) refl
-    where
-      same-slot : slotOf (keyOf q) ≡ slotOf (keyOf r) → (b : Bool) → eqb (getD t (slotOf (keyOf r)) 0) 0 ≡ b → Marked t q → Marked (set t (slotOf (keyOf r)) x) q
-      same-slot k true z (several y) = absurd (let w = eqb-true (getD t (slotOf (keyOf r)) 0) 0 z in let y′ = rw k at y in omega arith)
-      same-slot k true z (this y) = absurd (let w = eqb-true (getD t (slotOf (keyOf r)) 0) 0 z in let y′ = rw k at y in omega arith)
-      same-slot k false z m = several (ap (λ (i : ℕ). getD (set t (slotOf (keyOf r)) x) i 0) k ∙ getD-set-same t (slotOf (keyOf r)) x 0 h ∙ e ∙ rw z)
-
-      other-slot : (slotOf (keyOf q) ≡ slotOf (keyOf r) → ⊥) → Marked t q → Marked (set t (slotOf (keyOf r)) x) q
-      other-slot k (several y) = several (getD-set-other t (slotOf (keyOf r)) (slotOf (keyOf q)) x 0 k ∙ y)
-      other-slot k (this y) = this (getD-set-other t (slotOf (keyOf r)) (slotOf (keyOf q)) x 0 k ∙ y)
-
-      go : (b : Bool) → eqb (slotOf (keyOf q)) (slotOf (keyOf r)) ≡ b → Marked (set t (slotOf (keyOf r)) x) q
-      go true z = same-slot (eqb-true (slotOf (keyOf q)) (slotOf (keyOf r)) z) (eqb (getD t (slotOf (keyOf r)) 0) 0) refl m
-      go false z = other-slot (eqb-false (slotOf (keyOf q)) (slotOf (keyOf r)) z) m
-
-  filter-more : (rs : List Bytes) → Filter t rs → Filter (set t (slotOf (keyOf r)) x) (rs ++ (r ∷ []))
-  filter-more rs f = record { room = simp length-set (f .room); marks = all-append rs (r ∷ []) (all-map marked-kept rs (f .marks)) (more marked-self nil) }
+filter-more : (t r : Bytes) (rs : List Bytes) → slotOf (keyOf r) < length t → Filter t rs
+    → Filter (set t (slotOf (keyOf r)) (joined (getD t (slotOf (keyOf r)) 0) (fingerprintOf (keyOf r)))) (rs ++ (r ∷ []))
+filter-more t r rs h f =
+    record {
+      room = simp length-set (f .room);
+      marks = filter-met (λ q. slotOf (keyOf q)) (λ q. fingerprintOf (keyOf q)) (λ q. omega arith) t r rs h (f .marks);
+    }
 
 -- ---- a scan that has come to the index at, behind the records os
 pub record Seen (nonVolatile : Bool) (at : ℕ) (s : Bytes) (os : List Bytes) (t : Bytes) : Type 0 where
@@ -112,14 +89,14 @@ module _ (nonVolatile : Bool) (at n : ℕ) (s : Bytes) (os : List Bytes) (t : By
     one-more = ap (λ (rs : List Bytes). os ++ rs) grown ∙ sym (append-assoc os seen (r ∷ []))
 
     seen-more : (x : ℕ) → contains (sameVariable r) (os ++ seen) ≡ false → slotOf (keyOf r) < length t
-        → x ≡ cond (eqb (getD t (slotOf (keyOf r)) 0) 0) (fingerprintOf (keyOf r)) 255 → Seen nonVolatile (at + n) s os (set t (slotOf (keyOf r)) x)
+        → x ≡ joined (getD t (slotOf (keyOf r)) 0) (fingerprintOf (keyOf r)) → Seen nonVolatile (at + n) s os (set t (slotOf (keyOf r)) x)
     seen-more x a k q = record {
       within = at-within first (recordLength-within nonVolatile) at n s e (w .within);
       end = used-again first (recordLength-within nonVolatile) at n s e h (w .end);
       split = here-is ∙ sym (append-assoc seen (r ∷ []) (recordsOf nonVolatile (drop (at + n) s))) ∙ rw grown;
       whole = ap flat grown ∙ sym (bytes-one ∙ append-nil (flat (seen ++ (r ∷ []))));
       free = rw one-more (distinct-append sameVariable sameVariable-sym sameVariable-like r (os ++ seen) a (w .free));
-      filter = rw one-more (filter-more t r x k q (os ++ seen) (w .filter));
+      filter = rw (one-more, q) (filter-more t r (os ++ seen) k (w .filter));
     }
 
     -- ---- as the code says it
@@ -139,9 +116,9 @@ module _ (nonVolatile : Bool) (at n : ℕ) (s : Bytes) (os : List Bytes) (t : By
       unseen-filter z =
           let p : getD t k 0 ≡ 255 → ⊥ = eqb-false _ _ (or-left-off (eqb (getD t k 0) 255) (eqb (getD t k 0) f) z) in
           let q : getD t k 0 ≡ f → ⊥ = eqb-false _ _ (or-right-off (eqb (getD t k 0) 255) (eqb (getD t k 0) f) z) in
-          clear t r (os ++ seen) (w .filter .marks) (rw slot-is at p) (λ y. q (ap (λ (i : ℕ). getD t i 0) slot-is ∙ y ∙ sym fingerprint-is))
+          clear t r (os ++ seen) (w .filter) (rw slot-is at p) (λ y. q (ap (λ (i : ℕ). getD t i 0) slot-is ∙ y ∙ sym fingerprint-is))
 
-      pub seen-step : {x : ℕ} → x ≡ cond (eqb (getD t k 0) 0) f 255 → k < slots → contains (sameVariable r) (os ++ seen) ≡ false → Seen nonVolatile (at + n) s os (set t k x)
+      pub seen-step : {x : ℕ} → x ≡ joined (getD t k 0) f → k < slots → contains (sameVariable r) (os ++ seen) ≡ false → Seen nonVolatile (at + n) s os (set t k x)
       seen-step {x} d g u =
           let g′ : slotOf (keyOf r) < length t = rw (w .filter .room) (rw slot-is at g) in
           rw slot-is (seen-more x u g′ (rw (slot-is, fingerprint-is) at d))

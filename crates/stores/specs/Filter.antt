@@ -4,9 +4,10 @@ use Prim.Native.Nat.{ℕ, _+_, _*_, _/_, _%_}
 use mathlib.Core.Path.{_≡_}
 use mathlib.Core.List.{List, _++_}
 use mathlib.Core.Bool.{Bool, cond}
-use lib.ListN.{length, getD}
+use lib.ListN.{length}
 use Rattle.slices.specs.Bytes.{Bytes}
 use Rattle.slices.specs.Hash.{hashFrom}
+use Rattle.slices.specs.Filter.{Marked}
 use Rattle.slices.specs.Chunks.{distinct}
 use Rattle.slices.specs.ChunksLaws.{All}
 use Rattle.names.specs.Name.{Variable}
@@ -32,15 +33,10 @@ fingerprintOf h = h / 4294967296 % 254 + 1
 unfoldable pub keyOf : Bytes → ℕ
 keyOf r = hashOf (variableOf r)
 
--- the slot of the record says that its fingerprint, or several, were seen
-pub data Marked (t r : Bytes) : Type 0 where
-  several : getD t (slotOf (keyOf r)) 0 ≡ 255 → Marked t r
-  this : getD t (slotOf (keyOf r)) 0 ≡ fingerprintOf (keyOf r) → Marked t r
-
 -- a filter that has every record of the list
 pub record Filter (t : Bytes) (rs : List Bytes) : Type 0 where
   pub room : length t ≡ slots
-  pub marks : All (Marked t) rs
+  pub marks : All (λ r. Marked t (slotOf (keyOf r)) (fingerprintOf (keyOf r))) rs
 
 -- what a scan of a store finds, behind the records os
 unfoldable pub scanned : Bool → Bytes → List Bytes → Scanned

@@ -2,10 +2,10 @@
 // The check's filter has one byte for each slot of a hash; a record is searched for only where its slot does not rule out that its variable was seen.
 ghost use mathlib.Core.Path.{_≡_};
 ghost use mathlib.Core.List.{_++_};
-ghost use mathlib.Core.Bool.{true, false, cond};
+ghost use mathlib.Core.Bool.{true, false};
 ghost use Prim.Native.Nat.{_<_};
-ghost use lib.Dec.{eqb};
 ghost use lib.ListN.{length};
+ghost use Rattle.slices.specs.Filter.{joined};
 ghost use Rattle.slices.specs.Chunks.{contains, distinct};
 ghost use Rattle.store.specs.Record.{variableOf, isOf, sameVariable};
 ghost use Rattle.store.specs.Store.{recordsOf, endOf};
@@ -63,7 +63,7 @@ fn fingerprint(h: usize) -> u8
 
 // What a slot that held v holds after a record with this fingerprint: the fingerprint, or 255 for several.
 fn joined(v: u8, fingerprint: u8) -> u8
-    ensures { λ r. ⌜ r ≡ cond (eqb v 0) fingerprint 255 ⌝ }
+    ensures { λ r. ⌜ r ≡ joined v fingerprint ⌝ }
 {
     if v == 0 { fingerprint } else { 255 }
 }

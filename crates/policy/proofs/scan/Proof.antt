@@ -111,7 +111,7 @@ loop-again c =
     let g = Turn r in
     let l = g .loop in
     let found = r .is-repeated .ensures in (
-      checked-more (P g) (l .marks) (l .count) (l .used) (l .next) (l .inv .0) (l .inv .1) (found .0) (r .before .before .before .before .loop-test .taken) (r .before .before .before .if1 .left) (c .before .before .if2 .left) (found .1 .0) (found .1 .1),
+      checked-more (P g) (l .marks) (l .count) (l .used) (l .next) (l .inv .0) (l .inv .1) (found .0) (r .before .before .before .before .loop-test .taken) (r .before .before .before .if1 .left) (c .before .before .if2 .left) (found .1),
       sym (c .entry-length2 .ensures ∙ ap entryLength (part-rest (l .used + l .next) (length (P g)) (P g) (le-refl (length (P g))))),
     )
 

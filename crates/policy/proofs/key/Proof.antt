@@ -1,10 +1,10 @@
--- `policy::slot` meets its contract. Assumes nothing.
+-- `policy::key` meets its contract. Assumes nothing.
 use native.Mathlib.Omega.{arith}
 use Rattle.entry.specs.EntryLaws.{sized}
-use Rattle.policy.proofs.Marked.{slot-is, slot-bound}
+use Rattle.policy.proofs.Marked.{key-is}
 use borrow.Author.Needs.{needs}
-use Rattle.policy.proofs.slot.Statement.{statement}
-use Rattle.policy.proofs.slot.Tie as tie
+use Rattle.policy.proofs.key.Statement.{statement}
+use Rattle.policy.proofs.key.Tie as tie
 
 get32-requires : tie.Need-get32-requires
 get32-requires c κs =
@@ -24,9 +24,9 @@ add-result : tie.Need-add-result
 add-result c = search needs
 
 returns : tie.Need-returns
-returns c = (slot-is (c .before .before .before .before .args .e .now) (c .before .before .get32 .ensures .0) (c .before .name-bytes .ensures) (c .hash .ensures), slot-bound _)
+returns c = key-is (c .before .before .before .before .args .e .now) (c .before .before .get32 .ensures .0) (c .before .name-bytes .ensures) (c .hash .ensures)
 
-pub slot-spec : {M : Type 1} → statement M
-slot-spec =
+pub key-spec : {M : Type 1} → statement M
+key-spec =
     tie.close
     (tie.spec get32-requires name-bytes-requires hash-requires mul-product add-result returns)
