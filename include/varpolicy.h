@@ -5,7 +5,7 @@
 
   - a non-volatile and a volatile store of variables, 0 to 32,768 bytes each: records with EDK2's
     variable header (0x55AA, state 0x3F) end to end, then 0xFF;
-  - 8,192 bytes of policy record: packed entries end to end, then zeros;
+  - a policy record of VARPOLICY_POLICY_BYTES bytes: packed entries end to end, then zeros;
   - three switches, varpolicy_switches, in each byte of which every value has a meaning.
 
   A call checks all of each store and policy record that it is lent, and answers
@@ -82,8 +82,8 @@ extern "C" {
 #define VARPOLICY_ENTRY_VERSION   0x00010000U
 #define VARPOLICY_MIN_ENTRY_SIZE  44U    /* bytes of an entry without trigger and name */
 #define VARPOLICY_MAX_ENTRY_SIZE  322U   /* bytes of an entry with two names of 64 units */
-#define VARPOLICY_MAX_ENTRIES     64U    /* entries of an engine */
-#define VARPOLICY_POLICY_BYTES    8192U  /* bytes of the policy record, and most that the Sizes sum to */
+#define VARPOLICY_MAX_ENTRIES     128U   /* entries of an engine */
+#define VARPOLICY_POLICY_BYTES    16384U /* bytes of the policy record, and most that the Sizes sum to */
 #define VARPOLICY_MAX_STORE_BYTES 32768U /* bytes of a store */
 #define VARPOLICY_MAX_PAYLOAD     1024U  /* bytes of a payload */
 #define VARPOLICY_MAX_NAME_UNITS  64U    /* 16-bit units of a name */
@@ -200,8 +200,8 @@ varpolicy_restart (
   @retval VARPOLICY_WRITE_PROTECTED    The engine is locked.
   @retval VARPOLICY_INVALID_PARAMETER  The entry is malformed.
   @retval VARPOLICY_ALREADY_STARTED    An entry of the same namespace and name is registered.
-  @retval VARPOLICY_OUT_OF_RESOURCES   It would be the 65th entry, or the Sizes would sum to more than
-                                       VARPOLICY_POLICY_BYTES.
+  @retval VARPOLICY_OUT_OF_RESOURCES   VARPOLICY_MAX_ENTRIES are registered, or the Sizes would sum to more
+                                       than VARPOLICY_POLICY_BYTES.
   @retval VARPOLICY_SUCCESS            The entry stands behind the others.
 **/
 VARPOLICY_CALL uint32_t

@@ -4,3 +4,4 @@ pub mod MachineLaws
 pub mod UnambiguousLaws
 pub mod Demand3
 pub mod StoredSizes
+pub mod OldDumps

@@ -37,7 +37,7 @@ use Rattle.demand3.specs.Machine.{stateIn, answerIn, outcomeBy, kindOf, 
 use Rattle.demand3.specs.OrderLaws.{flat-length, length-flat, contains-perm, entries-perm, entries-left, entries-new, over-pack, overwrite-perm, overwrite-take}
 
 -- ---- another order of the entries: a state of the rules with the record of the entries o
-abbrev withEntries : State → List Bytes → State
+abbrev pub withEntries : State → List Bytes → State
 withEntries s o = stateOf (s .nv) (s .vol) (packPolicy o) (s .switches)
 
 register-same : (locked : Bool) (es o : List Bytes) (e : Bytes) → List·Permᴰ es o → registerStatus locked o e ≡ registerStatus locked es e
@@ -260,15 +260,15 @@ dump-holds s c k h = go (isSuccess (status s c)) refl (sym (outcome-status s c) 
     go false e i = absurd (granted-refused (sym i))
 
 -- well-formed entries end to end come apart in one way: their record has that list
-unique : {ds es : List Bytes} → All WellFormed ds → All WellFormed es → flat ds ≡ flat es → ds ≡ es
+pub unique : {ds es : List Bytes} → All WellFormed ds → All WellFormed es → flat ds ≡ flat es → ds ≡ es
 unfolding packed
 unique {ds} {es} p q h =
     sym (entriesOf-pack ds p) ∙ ap (λ (l : Bytes). entriesOf (padded policyBytes 0 l)) h ∙ entriesOf-pack es q
 
 -- ---- A REBUILD: a list of calls that all answer 0, and where it leads
-record Runs (s : State) (cs : List Call) (z : State) : Type 0 where
-  done : AllGranted machine s cs
-  ends : end machine s cs ≡ z
+pub record Runs (s : State) (cs : List Call) (z : State) : Type 0 where
+  pub done : AllGranted machine s cs
+  pub ends : end machine s cs ≡ z
 
 runs-nil : (s : State) → Runs s [] s
 runs-nil s = record { done = tt; ends = refl }
@@ -304,7 +304,7 @@ register-done es e fs a =
       le-leb (length (flat es) + length e) policyBytes room,
     )
 
-registers-run : (k : State) (es fs : List Bytes) → k .switches .locked ≡ false → Entries (es ++ fs) → Runs (withEntries k es) (map register fs) (withEntries k (es ++ fs))
+pub registers-run : (k : State) (es fs : List Bytes) → k .switches .locked ≡ false → Entries (es ++ fs) → Runs (withEntries k es) (map register fs) (withEntries k (es ++ fs))
 registers-run k es [] u a = rw (append-nil es) (runs-nil (withEntries k es))
 registers-run k es (e ∷ fs) u a =
     let b = entries-left es (e ∷ fs) a in

@@ -8,6 +8,7 @@ use mathlib.Core.Option.{none, some}
 use mathlib.Core.Logic.{inl, inr}
 use native.Mathlib.Omega.{arith}
 use lib.ListN.{take, replicate, getD}
+use Rattle.limits.specs.Limits.{policyBytes}
 use Rattle.lists.specs.Lists.{All, nil, more, RanksDiffer}
 use Rattle.slices.specs.Test.{_and_}
 use Rattle.slices.specs.TestLaws.{and-left, and-right}
@@ -65,7 +66,7 @@ setting v payload = set (record { variable = v; attributes = 3; payload = payloa
 
 -- before the power-on: an erased non-volatile store, a volatile one and a policy record that hold anything
 abbrev board : rules.State
-board = record { nv = replicate 128 255; vol = replicate 8 0; policy = replicate 8192 7; switches = freshSwitches false }
+board = record { nv = replicate 128 255; vol = replicate 8 0; policy = replicate policyBytes 7; switches = freshSwitches false }
 
 -- the entries in the order of the history, in another, in that with the third behind, and the third alone
 abbrev d₁₂ : List Bytes

@@ -129,8 +129,8 @@ pub fn restart(nv: &[u8], vol: &[u8], policy: &mut [u8], disabling_allowed: bool
 
 // Registers a policy entry behind those of the lent policy record.
 // VOLUME_CORRUPTED where the record is not valid; WRITE_PROTECTED where the engine is locked; INVALID_PARAMETER for a malformed
-// entry; ALREADY_STARTED where an entry of the same namespace and name is registered; OUT_OF_RESOURCES for a 65th entry or a
-// sum of Sizes over 8,192.
+// entry; ALREADY_STARTED where an entry of the same namespace and name is registered; OUT_OF_RESOURCES where there are as many
+// entries as the limit, or the sum of Sizes would be over it.
 pub fn register(policy: &mut [u8], switches: Switches, entry: &[u8]) -> Status
     ensures { λ r.
         ⌜ ((nv vol : Bytes) → step (stateOf nv vol (now (policy .entry)) switches) (register (now (entry .entry)))

@@ -77,11 +77,11 @@ maxEntryBytes = triggerNameAt + maxNameSize + maxNameSize
 
 -- the most entries of an engine
 abbrev pub maxEntries : ℕ
-maxEntries = 64
+maxEntries = 128
 
 -- the most that their Sizes sum to, which is the length of the policy record
 abbrev pub policyBytes : ℕ
-policyBytes = 8192
+policyBytes = 16384
 
 -- the attribute bits that a request may have
 abbrev pub knownAttributes : ℕ

@@ -48,10 +48,10 @@ pub const TRIGGER_VALUE_AT: usize = 60;
 pub const TRIGGER_NAME_AT: usize = 62;
 
 // The most entries that an engine holds.
-pub const MAX_ENTRIES: usize = 64;
+pub const MAX_ENTRIES: usize = 128;
 
 // The length of the policy record, which is the most that the Sizes of its entries sum to.
-pub const POLICY_BYTES: usize = 8192;
+pub const POLICY_BYTES: usize = 16384;
 
 // The attribute bits that a request may have.
 pub const KNOWN_ATTRIBUTES: u32 = 0x47;

@@ -1,15 +1,43 @@
 -- What holds of every call from every state. Assumes nothing.
 use Prim.Native.Nat.{ℕ}
-use mathlib.Core.Path.{_≡_, refl, sym, ap, subst⁻¹, _∙_}
+use mathlib.Core.Path.{_≡_, refl, sym, ap, subst, subst⁻¹, _∙_}
 use mathlib.Core.Bool.{Bool, true, false, not, cond}
-use lib.Dec.{eqb}
+use lib.ListN.{length}
+use lib.Dec.{eqb, leb}
+use borrow.Author.Tests.{ne-eqb}
+use Rattle.limits.specs.Limits.{policyBytes, maxStore}
+use Rattle.slices.specs.TestLaws.{and-no}
+use Rattle.slices.specs.Bytes.{Bytes}
+use Rattle.policy.specs.Policy.{policyValid}
+use Rattle.policy.specs.PolicyLaws.{policyValid-length}
+use Rattle.stores.specs.Pair.{sound, soundAlone}
 use Rattle.status.specs.declared.Status.{Status}
-use Rattle.status.specs.declared.Status.the-variants.{Success}
+use Rattle.status.specs.declared.Status.the-variants.{Success, VolumeCorrupted}
 use Rattle.status.specs.Status.{isSuccess, statusNumber}
 use Rattle.status.specs.StatusLaws.{success-only}
 use Rattle.rules.specs.Set.{Request}
-use Rattle.rules.specs.Engine.{State, Call, Answer, Parts, parts, uses, status, onlyStatus, given, refusal, answer, effect, step}
+use Rattle.rules.specs.Engine.{State, Call, Answer, Parts, parts, uses, powerOnStatus, restartStatus, status, onlyStatus, given, refusal, answer, effect, step}
 use Rattle.rules.specs.Engine.Call.{powerOn, restart, register, dump, lock, disable, query, read, set}
+
+-- ---- a policy record of another length than the limit
+
+abbrev OtherLength : Bytes → Type 0
+OtherLength p = length p ≡ policyBytes → ⊥
+
+power-on-length : (s : State) → OtherLength (s .policy) → powerOnStatus (s .nv) (s .vol) (s .policy) ≡ VolumeCorrupted
+unfolding powerOnStatus
+power-on-length s h = rw (ne-eqb (length (s .policy)) policyBytes h, and-no (leb (length (s .vol)) maxStore), and-no (soundAlone (s .nv)))
+
+restart-length : (s : State) → OtherLength (s .policy) → restartStatus (s .nv) (s .vol) (s .policy) ≡ VolumeCorrupted
+unfolding restartStatus
+restart-length s h = rw (ne-eqb (length (s .policy)) policyBytes h, and-no (sound (s .nv) (s .vol)))
+
+other-length : (p : Bytes) → OtherLength p → policyValid p ≡ false
+other-length p h = go (policyValid p) refl
+  where
+    go : (b : Bool) → policyValid p ≡ b → b ≡ false
+    go true e = absurd (h (policyValid-length p e))
+    go false e = refl
 
 -- ---- the rows
 
@@ -28,23 +56,25 @@ pub record SameParts (p : Parts) (s t : State) : Type 0 where
 abbrev pub Kept : Parts → State → State → Type 0
 Kept w s t = SameParts (parts (not (w .nv)) (not (w .vol)) (not (w .policy)) (not (w .switches))) t s
 
--- what holds of each call by its row: what it gives has the status 0; it keeps what it does not write; its answer depends on what it is lent
+-- what holds of each call by its row: what it gives has the status 0; it keeps what it does not write; its answer depends on what it is lent;
+-- if it is lent a policy record, one of another length is 10
 record ByRow (s : State) (c : Call) : Type 0 where
   done : given s c .status ≡ Success
   keeps : Kept (uses c .writes) s (effect s c)
   lent : (t : State) → SameParts (uses c .lent) s t → step s c .0 ≡ step t c .0
+  length10 : OtherLength (s .policy) → OnlyIf (uses c .lent .policy) (status s c ≡ VolumeCorrupted)
 
 by-row : (s : State) (c : Call) → ByRow s c
 unfolding step
-by-row s (powerOn allowed) = record { done = refl; keeps = record { nv = refl; vol = tt; policy = tt; switches = tt }; lent = λ t e. rw (e .nv, e .vol, e .policy) }
-by-row s (restart allowed) = record { done = refl; keeps = record { nv = refl; vol = refl; policy = tt; switches = tt }; lent = λ t e. rw (e .nv, e .vol, e .policy) }
-by-row s (register x) = record { done = refl; keeps = record { nv = refl; vol = refl; policy = tt; switches = refl }; lent = λ t e. rw (e .policy, e .switches) }
-by-row s (dump buffer) = record { done = refl; keeps = record { nv = refl; vol = refl; policy = refl; switches = refl }; lent = λ t e. rw (e .policy) }
-by-row s lock = record { done = refl; keeps = record { nv = refl; vol = refl; policy = refl; switches = tt }; lent = λ t e. rw (e .switches) }
-by-row s disable = record { done = refl; keeps = record { nv = refl; vol = refl; policy = refl; switches = tt }; lent = λ t e. rw (e .switches) }
-by-row s query = record { done = refl; keeps = record { nv = refl; vol = refl; policy = refl; switches = refl }; lent = λ t e. rw (e .switches) }
-by-row s (read v) = record { done = refl; keeps = record { nv = refl; vol = refl; policy = refl; switches = refl }; lent = λ t e. rw (e .nv, e .vol) }
-by-row s (set r) = record { done = refl; keeps = record { nv = tt; vol = tt; policy = refl; switches = refl }; lent = λ t e. rw (e .nv, e .vol, e .policy, e .switches) }
+by-row s (powerOn allowed) = record { done = refl; keeps = record { nv = refl; vol = tt; policy = tt; switches = tt }; lent = λ t e. rw (e .nv, e .vol, e .policy); length10 = power-on-length s }
+by-row s (restart allowed) = record { done = refl; keeps = record { nv = refl; vol = refl; policy = tt; switches = tt }; lent = λ t e. rw (e .nv, e .vol, e .policy); length10 = restart-length s }
+by-row s (register x) = record { done = refl; keeps = record { nv = refl; vol = refl; policy = tt; switches = refl }; lent = λ t e. rw (e .policy, e .switches); length10 = λ h. rw (other-length (s .policy) h) }
+by-row s (dump buffer) = record { done = refl; keeps = record { nv = refl; vol = refl; policy = refl; switches = refl }; lent = λ t e. rw (e .policy); length10 = λ h. rw (other-length (s .policy) h) }
+by-row s lock = record { done = refl; keeps = record { nv = refl; vol = refl; policy = refl; switches = tt }; lent = λ t e. rw (e .switches); length10 = λ h. tt }
+by-row s disable = record { done = refl; keeps = record { nv = refl; vol = refl; policy = refl; switches = tt }; lent = λ t e. rw (e .switches); length10 = λ h. tt }
+by-row s query = record { done = refl; keeps = record { nv = refl; vol = refl; policy = refl; switches = refl }; lent = λ t e. rw (e .switches); length10 = λ h. tt }
+by-row s (read v) = record { done = refl; keeps = record { nv = refl; vol = refl; policy = refl; switches = refl }; lent = λ t e. rw (e .nv, e .vol); length10 = λ h. tt }
+by-row s (set r) = record { done = refl; keeps = record { nv = tt; vol = tt; policy = refl; switches = refl }; lent = λ t e. rw (e .nv, e .vol, e .policy, e .switches); length10 = λ h. rw (other-length (s .policy) h, and-no (sound (s .nv) (s .vol))) }
 
 -- ---- the status, and a refusal
 
@@ -140,3 +170,8 @@ store-writer disable = noWriter refl refl
 store-writer query = noWriter refl refl
 store-writer (read v) = noWriter refl refl
 store-writer (set r) = sets r
+
+-- A POLICY RECORD OF ANOTHER LENGTH IS 10 IN EVERY CALL THAT IS LENT ONE, whatever else is wrong
+pub other-length-corrupted : (s : State) (c : Call) → uses c .lent .policy ≡ true → (length (s .policy) ≡ policyBytes → ⊥)
+    → step s c .0 .status ≡ VolumeCorrupted
+other-length-corrupted s c l h = step-status s c ∙ subst (λ b. OnlyIf b (status s c ≡ VolumeCorrupted)) l (by-row s c .length10 h)

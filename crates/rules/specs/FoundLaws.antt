@@ -96,7 +96,7 @@ packs-records : (b : Bool) (s : Bytes) (rs : List Bytes) → store.Packs b s rs 
 unfolding packed padded
 packs-records b s rs k = record { formed = k .records; small = k .small; room = k .fits; is = sym (k .is) }
 
-entries-packs : (p : Bytes) (es : List Bytes) → PolicyEntries p es → policy.Packs es p
+pub entries-packs : (p : Bytes) (es : List Bytes) → PolicyEntries p es → policy.Packs es p
 unfolding packed padded
 entries-packs p es k =
     record {

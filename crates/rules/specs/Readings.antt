@@ -5,6 +5,7 @@ use mathlib.Core.Path.{_≡_, refl}
 use mathlib.Core.List.{List, [], _∷_, _++_}
 use mathlib.Core.Bool.{true, false}
 use lib.ListN.{length, replicate, take}
+use Rattle.limits.specs.Limits.{policyBytes}
 use Rattle.lists.specs.Lists.{All, nil, more}
 use Rattle.slices.specs.Bytes.{Bytes, le16Bytes, le32Bytes, same}
 use Rattle.status.specs.Status.{statusNumber}
@@ -70,7 +71,7 @@ append us n = setting us 0x43 (replicate n 7)
 
 -- before the power-on: an erased non-volatile store of 128 bytes, a volatile one and a policy record that hold anything
 abbrev board : State
-board = record { nv = replicate 128 255; vol = replicate 128 0; policy = replicate 8192 7; switches = freshSwitches false }
+board = record { nv = replicate 128 255; vol = replicate 128 0; policy = replicate policyBytes 7; switches = freshSwitches false }
 
 -- the numbers of the statuses of calls one after the other
 abbrev statuses : State → List Call → List ℕ

@@ -102,12 +102,13 @@ pub fn move_within(bytes: &mut [u8], from: usize, to: usize, count: usize) {
 #[cfg(test)]
 mod tests {
     use super::*;
+    use varpolicy::POLICY_BYTES;
 
     const NOTHING: Numbers = Numbers { kind: 0, first: 0, second: 0 };
 
     #[test]
     fn what_is_not_sound_is_refused() {
-        let damaged = [1; 8192];
+        let damaged = [1; POLICY_BYTES];
         assert_eq!(check_policy(&damaged), NOTHING);
         assert_eq!(choose(&damaged, &[7; 16], b"A\0"), NOTHING);
         assert_eq!(check_stores(&damaged, &[]), NOTHING);

@@ -67,14 +67,14 @@ pub struct Group {
     pub ratios: &'static [&'static str],
     /// The cases.
     pub cases: Vec<Case>,
-    /// How much the library's figure may grow.
-    pub growth: Option<Growth>,
+    /// How much the library's figures may grow.
+    pub growth: Vec<Growth>,
 }
 
 /// The library's figure of one case is at most so many times that of another.
 pub struct Growth {
     /// The name in the table.
-    pub name: &'static str,
+    pub name: String,
     /// The places of the two cases, the smaller first.
     pub cases: [usize; 2],
     /// At most so many times.

@@ -2,10 +2,17 @@
 
 use crate::calls::Call;
 use crate::case::{Bar, Case, Group, Growth, Work};
-use crate::inputs::{self, VOLATILE, variable};
+use crate::inputs::{self, Policy, VOLATILE, variable};
 use crate::lent::Lent;
 use crate::parts::Part;
-use varpolicy::{Attributes, MAX_STORE_BYTES, Name};
+use varpolicy::{Attributes, MAX_ENTRIES, MAX_STORE_BYTES, MIN_ENTRY_SIZE, Name, POLICY_BYTES};
+
+/// How many entries a policy record holds, from a quarter of the most to the most.
+const COUNTS: [usize; 4] = [MAX_ENTRIES / 4, MAX_ENTRIES / 2, MAX_ENTRIES / 4 * 3, MAX_ENTRIES];
+
+/// How long the names of numbered entries are. With the second length the most entries fill the record.
+const UNITS: [usize; 2] = [8, 41];
+const _: () = assert!(MAX_ENTRIES * (MIN_ENTRY_SIZE + 2 * (UNITS[1] + 1)) == POLICY_BYTES);
 
 // ---- whole calls
 
@@ -15,65 +22,91 @@ const RATIOS: &[&str] = &["to std.", "to small"];
 const PLAIN: Attributes = Attributes(3);
 const APPEND: Attributes = Attributes(0x43);
 
-/// Sets of a variable under a policy of 64 entries.
+fn call(name: String, made: Call, lent: &Lent, most: f64) -> Case {
+    Case { bar: Some(Bar::AtMost(most)), ..Case::new(name, Work::Call(made), lent.clone()) }
+}
+
+/// Sets of a variable under a policy.
 fn set_under(name: Name, enabled: bool) -> Call {
     Call::Set { name, requests: [(PLAIN, vec![1]), (PLAIN, vec![2])], enabled }
 }
 
 /// Whole calls.
 pub fn whole() -> Group {
-    let mut cases = Vec::new();
-    let mut case = |name: String, call: Call, lent: &Lent, most: f64| {
-        let case = Case::new(name, Work::Call(call), lent.clone());
-        cases.push(Case { bar: Some(Bar::AtMost(most)), ..case });
+    let mut cases: Vec<Case> = [20, 100, 300, 819].into_iter().flat_map(over_records).collect();
+    cases.extend([COUNTS[1], COUNTS[3]].into_iter().flat_map(over_entries));
+    Group { title: "whole calls", columns: VERSIONS, ratios: RATIOS, cases, growth: Vec::new() }
+}
+
+/// Reads and sets over two stores of `count` records each.
+fn over_records(count: usize) -> Vec<Case> {
+    let stores = inputs::with_records(count);
+    let case = |what: &str, made: Call| call(format!("{what}, {count} records each"), made, &stores, 1.25);
+    let rewrite = |name, old: &[u8], new: &[u8]| {
+        let requests = [(PLAIN, old.to_vec()), (PLAIN, new.to_vec())];
+        Call::Set { name, requests, enabled: true }
     };
-    for count in [20, 100, 300, 819] {
-        let stores = inputs::with_records(count);
-        let mut case = |what: &str, call: Call| case(format!("{what}, {count} records each"), call, &stores, 1.25);
-        case("read the last", Call::Read { name: variable(VOLATILE + count - 1) });
-        case("read an absent one", Call::Read { name: variable(60000) });
-        let rewrite = |name, old: &[u8], new: &[u8]| {
-            let requests = [(PLAIN, old.to_vec()), (PLAIN, new.to_vec())];
-            Call::Set { name, requests, enabled: true }
-        };
-        case("set, same length", rewrite(variable(count - 1), &[1], &[2]));
-        if count < 819 {
-            case("set, first record longer, shorter", rewrite(variable(0), &[1], &[2; 20]));
-        }
+    let mut cases = vec![
+        case("read the last", Call::Read { name: variable(VOLATILE + count - 1) }),
+        case("read an absent one", Call::Read { name: variable(60000) }),
+        case("set, same length", rewrite(variable(count - 1), &[1], &[2])),
+    ];
+    if count < 819 {
+        cases.push(case("set, first record longer, shorter", rewrite(variable(0), &[1], &[2; 20])));
     }
-    for (what, entries, name) in inputs::policies() {
-        let lent = inputs::with_short_stores(&entries);
-        case(format!("set, 64 entries, {what}"), set_under(name, true), &lent, 1.1);
-    }
-    let (_, entries, name) = inputs::policies().swap_remove(1);
-    let lent = inputs::with_short_stores(&entries);
-    for (what, bytes) in [("append 20 bytes", 20), ("append nothing", 0)] {
+    cases
+}
+
+/// Sets, appends and a dump over `count` entries.
+fn over_entries(count: usize) -> Vec<Case> {
+    let policies = inputs::policies(count);
+    let set = |(what, entries, name): &Policy| {
+        let lent = inputs::with_short_stores(entries);
+        call(format!("set, {count} entries, {what}"), set_under(*name, true), &lent, 1.1)
+    };
+    let mut cases: Vec<Case> = policies.iter().map(set).collect();
+    let (what, entries, name) = &policies[1];
+    let lent = inputs::with_short_stores(entries);
+    for (append, bytes) in [("append 20 bytes", 20), ("append nothing", 0)] {
         let requests = [(APPEND, vec![2; bytes]), (PLAIN, vec![1])];
-        let call = Call::Set { name, requests, enabled: true };
-        case(format!("{what}, 64 entries, last match"), call, &lent, 1.1);
+        let made = Call::Set { name: *name, requests, enabled: true };
+        cases.push(call(format!("{append}, {count} entries, {what}"), made, &lent, 1.1));
     }
-    for units in [8, 41] {
-        let mut entries = inputs::numbered(units);
-        let last = entries.pop().expect("64 entries").pack().to_vec();
-        let lent = inputs::with_entries(&entries);
-        case(format!("register the 64th, names of {units} units"), Call::Register { entry: last }, &lent, 1.25);
-    }
-    let lent = inputs::with_entries(&inputs::numbered(41));
-    case(format!("dump, 64 entries, {} bytes", lent.policy_end), Call::Dump, &lent, 1.1);
-    Group { title: "whole calls", columns: VERSIONS, ratios: RATIOS, cases, growth: None }
+    let lent = inputs::with_entries(&inputs::numbered(count, UNITS[1]));
+    cases.push(call(format!("dump, {count} entries, {} bytes", lent.policy_end), Call::Dump, &lent, 1.1));
+    cases
+}
+
+/// The registration of one entry more.
+pub fn register() -> Group {
+    let case = |count: usize, units: usize| {
+        let mut entries = inputs::numbered(count, units);
+        let last = entries.pop().expect("an entry").pack().to_vec();
+        let name = format!("register as entry {count}, names of {units} units");
+        call(name, Call::Register { entry: last }, &inputs::with_entries(&entries), 1.25)
+    };
+    let cases = UNITS.into_iter().flat_map(|units| COUNTS.map(|count| case(count, units))).collect();
+    let title = "registering an entry";
+    Group { title, columns: &["library", "ordinary"], ratios: &["to ord."], cases, growth: Vec::new() }
 }
 
 /// The choice and what the chosen entry says: a set, less the same set with the engine disabled.
 pub fn choice_in_set() -> Group {
-    let cases = inputs::policies().into_iter().map(|(what, entries, name)| Case {
-        name: format!("choice in a set, 64 entries, {what}"),
+    let case = |count: usize, (what, entries, name): Policy| Case {
+        name: format!("choice in a set, {count} entries, {what}"),
         work: Work::Call(set_under(name, true)),
         without: Some(Work::Call(set_under(name, false))),
         lent: inputs::with_short_stores(&entries),
         bar: Some(Bar::AtMost(1.1)),
-    });
+    };
     let title = "the choice, with what the chosen entry says";
-    Group { title, columns: VERSIONS, ratios: RATIOS, cases: cases.collect(), growth: None }
+    Group { title, columns: VERSIONS, ratios: RATIOS, cases: over_policies(case), growth: Vec::new() }
+}
+
+/// A case for each policy of each count.
+fn over_policies(case: impl Fn(usize, Policy) -> Case) -> Vec<Case> {
+    let of_count = |count: usize| inputs::policies(count).into_iter().map(move |policy| (count, policy));
+    COUNTS.into_iter().flat_map(of_count).map(|(count, policy)| case(count, policy)).collect()
 }
 
 // ---- parts
@@ -88,17 +121,17 @@ fn case(name: String, part: Part, lent: Lent, bar: Bar) -> Case {
 
 /// A part that only the archive shows, beside one ordinary version.
 fn group(title: &'static str, cases: Vec<Case>) -> Group {
-    Group { title, columns: &["part", "ordinary"], ratios: &["to ord."], cases, growth: None }
+    Group { title, columns: &["part", "ordinary"], ratios: &["to ord."], cases, growth: Vec::new() }
 }
 
 /// The choice, without the check.
 pub fn choice() -> Group {
-    let cases = inputs::policies().into_iter().map(|(what, entries, name)| {
-        let name_of_case = format!("choice, 64 entries, {what}");
+    let cases = over_policies(|count, (what, entries, name)| {
+        let name_of_case = format!("choice, {count} entries, {what}");
         let case = case(name_of_case, Part::Choose(name), inputs::with_entries(&entries), Bar::AtMost(1.1));
         Case { without: Some(Work::Part(Part::Choose(Name::EMPTY))), ..case }
     });
-    group("the choice alone", cases.collect())
+    group("the choice alone", cases)
 }
 
 /// The comparison of names of 64 units.
@@ -121,11 +154,35 @@ pub fn comparison() -> Group {
 
 /// The check of the policy record.
 pub fn policy_check() -> Group {
-    let cases = [8, 41].map(|units| {
-        let lent = inputs::with_entries(&inputs::numbered(units));
-        case(format!("check, 64 entries, names of {units} units"), Part::CheckPolicy, lent, Bar::AtMost(1.25))
+    let case = |count: usize, units: usize| {
+        let lent = inputs::with_entries(&inputs::numbered(count, units));
+        case(format!("check, {count} entries, names of {units} units"), Part::CheckPolicy, lent, Bar::AtMost(1.25))
+    };
+    let growth = |(place, units): (usize, usize)| Growth {
+        name: format!("check, {} entries of {units} units, times that of {}", COUNTS[3], COUNTS[1]),
+        cases: [1, 3].map(|count| COUNTS.len() * place + count),
+        most: 2.2,
+    };
+    Group {
+        title: "the check of the policy record",
+        columns: &["library", "part", "ordinary"],
+        ratios: &["to ord."],
+        cases: UNITS.into_iter().flat_map(|units| COUNTS.map(|count| case(count, units))).collect(),
+        growth: UNITS.into_iter().enumerate().map(growth).collect(),
+    }
+}
+
+/// The same with names of one slot. No bar: the library's search is then quadratic.
+pub fn policy_check_of_one_slot() -> Group {
+    let cases = [COUNTS[1], COUNTS[3]].map(|count| {
+        let lent = inputs::with_entries(&inputs::entries_of_one_slot(count));
+        Case::new(format!("check, {count} entries, names of one slot"), Work::Part(Part::CheckPolicy), lent)
     });
-    Group { columns: &["library", "part", "ordinary"], ..group("the check of the policy record", cases.into()) }
+    Group {
+        columns: &["library", "part", "ordinary", "pairwise"],
+        ratios: &["to ord.", "to pair."],
+        ..group("the same, names crafted", cases.into())
+    }
 }
 
 /// The check of the two stores, also with names of one slot: those of `inputs::of_one_slot`.
@@ -141,7 +198,7 @@ pub fn pair_check(one_slot: &[u32]) -> Group {
         columns: &["library", "part", "pairwise", "small"],
         ratios: &["to pair.", "to small"],
         cases: numbered.into_iter().chain(crafted).collect(),
-        growth: Some(Growth { name: "check, 819 records each, times that of 100", cases: [1, 3], most: 6.0 }),
+        growth: vec![Growth { name: "check, 819 records each, times that of 100".into(), cases: [1, 3], most: 6.0 }],
     }
 }
 

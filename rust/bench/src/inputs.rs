@@ -71,7 +71,11 @@ fn record(name: &[u8], attributes: u32) -> Vec<u8> {
 
 /// A name of two units.
 fn two_units(number: u32) -> Name {
-    Name::from_units([0x100 + (number >> 14) as u16, 0x100 + (number & 0x3FFF) as u16]).expect("two units")
+    Name::from_units(units_of(number)).expect("two units")
+}
+
+fn units_of(number: u32) -> [u16; 2] {
+    [0x100 + (number >> 14) as u16, 0x100 + (number & 0x3FFF) as u16]
 }
 
 /// The numbers of `count` names of two units whose records have one slot in the filter of the library's check.
@@ -85,6 +89,25 @@ pub fn of_one_slot(count: usize) -> Vec<u32> {
     (0..).filter(has_slot).take(count).collect()
 }
 
+/// `count` entries with names of two units that have one slot in the filter of the library's check of a policy record.
+/// From the second on the slot stands for several, so each from the third on is compared with all before it.
+pub fn entries_of_one_slot(count: usize) -> Vec<Entry> {
+    let slot = entry_slot(units_of(0));
+    let numbers = (0..).filter(|number| entry_slot(units_of(*number)) == slot);
+    numbers.take(count).map(|number| Entry::new(OURS, two_units(number))).collect()
+}
+
+/// The slot of an entry with a name of two units, as crates/policy/specs/Filter.antt has it.
+fn entry_slot(name: [u16; 2]) -> u64 {
+    const FACTOR: u32 = 2_654_435_761;
+    let namespace = u32::from_le_bytes([OURS[0], OURS[1], OURS[2], OURS[3]]);
+    let word = u32::from(name[0]) | u32::from(name[1]) << 16;
+    let hash = namespace.wrapping_mul(FACTOR).wrapping_add(word);
+    let product = u64::from(hash) * u64::from(FACTOR);
+    let key = (product & 0xFFFF_FFFF) + (product >> 32);
+    key / 2_097_152 % 2048
+}
+
 /// A name of one unit.
 pub fn variable(number: usize) -> Name {
     Name::from_units([0x100 + number as u16]).expect("one unit")
@@ -95,19 +118,23 @@ pub fn text(name: &str) -> Name {
     Name::new(name).expect("at most 64 units")
 }
 
-/// 64 entries with names of `units` units that end in a number.
-pub fn numbered(units: usize) -> Vec<Entry> {
-    (0..64).map(|number| Entry::new(OURS, text(&format!("{}{number:04X}", "N".repeat(units - 4))))).collect()
+/// `count` entries with names of `units` units that end in a number.
+pub fn numbered(count: usize, units: usize) -> Vec<Entry> {
+    (0..count).map(|number| Entry::new(OURS, text(&format!("{}{number:04X}", "N".repeat(units - 4))))).collect()
 }
 
-/// Policies of 64 entries with the name of a variable to set.
-pub fn policies() -> Vec<(&'static str, Vec<Entry>, Name)> {
-    let wild = (0..64).map(|number| Entry::new(OURS, text(&format!("Boot{:02X}##", number)))).collect();
-    let mixed = (0..64).map(mixed_entry).collect();
+/// What a policy is, its entries, and the name of a variable to set.
+pub type Policy = (&'static str, Vec<Entry>, Name);
+
+/// Policies of `count` entries. Of the mixed one no entry matches.
+pub fn policies(count: usize) -> Vec<Policy> {
+    let last = count - 1;
+    let wild = (0..count).map(|number| Entry::new(OURS, text(&format!("Boot{number:02X}##")))).collect();
+    let mixed = (0..count).map(mixed_entry).collect();
     vec![
-        ("no match", numbered(8), text("NNNN9999")),
-        ("last match", numbered(8), text("NNNN003F")),
-        ("wildcards, last match", wild, text("Boot3F77")),
+        ("no match", numbered(count, 8), text("NNNN9999")),
+        ("last match", numbered(count, 8), text(&format!("NNNN{last:04X}"))),
+        ("wildcards, last match", wild, text(&format!("Boot{last:02X}77"))),
         ("mixed", mixed, text("Boot0041")),
     ]
 }

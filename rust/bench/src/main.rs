@@ -43,7 +43,7 @@ library: libvarpolicy.a. part: the same function in libbench_parts.a, compiled b
 over the same bytes. standard, small: with the standard library's hash table, or a small one on the stack. pairwise:
 every key compared with all before it. whole, by unit: a walk over the records that compares a name at once, or its
 first unit first. Every call checks all it is lent: two stores of 32,768 bytes with records of 40 bytes or, where there
-are 64 entries, one of 256 bytes. Names of one slot share a slot of the filter in the library's check.
+are entries, one of 256 bytes. Names of one slot share a slot of the filter in the library's check.
 A choice or a search trusts the check before it, so it is the difference of two calls of one function, with and without
 it: a set with the engine enabled and disabled, or a name and an empty one. Both run the same machine code, whatever the
 compiler inlined; the count of a function by its name would depend on that. The checks are calls that stop behind them.
@@ -52,12 +52,14 @@ pairwise. (memset and memmove are then told to use vector instructions: of `rep 
 ";
 
 /// The groups of cases. Each is made by itself, so that a run under valgrind makes only its own.
-const GROUPS: [fn(&[u32]) -> Group; 8] = [
+const GROUPS: [fn(&[u32]) -> Group; 10] = [
     |_| groups::whole(),
+    |_| groups::register(),
     |_| groups::choice_in_set(),
     |_| groups::choice(),
     |_| groups::comparison(),
     |_| groups::policy_check(),
+    |_| groups::policy_check_of_one_slot(),
     groups::pair_check,
     |_| groups::search(),
     |_| groups::moves(),

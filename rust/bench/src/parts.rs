@@ -50,7 +50,8 @@ impl Part {
                 let Numbers { kind, second, .. } = archive::check_policy(policy);
                 [kind as usize, second, 0, 0]
             }
-            (Part::CheckPolicy, _) => place(1, plain::check_policy(policy)),
+            (Part::CheckPolicy, 2) => place(1, plain::check_policy(policy)),
+            (Part::CheckPolicy, _) => place(1, plain::check_policy_pairwise(policy)),
             (Part::Choose(name), 0) => part(archive::choose(policy, &OURS, name)),
             (Part::Choose(name), _) => place(1, plain::choose(policy, &OURS, name)),
             (Part::CheckStores, 0) => read_nameless(nv, volatile),

@@ -55,9 +55,9 @@ pub fn print(
         print_row(&case.name, cells, ratios, &judged.unwrap_or_default());
         all.push(figures);
     }
-    if let Some(Growth { name, cases: [from, to], most }) = group.growth {
-        let times: Vec<f64> = all[to].iter().zip(&all[from]).map(|(to, from)| to / from).collect();
-        let judged = verdict.map(|verdict| verdict.judge(&format!("{most:.2}"), times[0] <= most));
+    for Growth { name, cases: [from, to], most } in &group.growth {
+        let times: Vec<f64> = all[*to].iter().zip(&all[*from]).map(|(to, from)| to / from).collect();
+        let judged = verdict.as_deref_mut().map(|verdict| verdict.judge(&format!("{most:.2}"), times[0] <= *most));
         let cells = times.iter().map(|times| format!("{times:.2}")).collect();
         print_row(name, cells, Vec::new(), &judged.unwrap_or_default());
     }

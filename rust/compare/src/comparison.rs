@@ -49,9 +49,7 @@ impl Comparison {
         if answer.status != Status::Success {
             check(sides.library == before, describe("a refused call has changed something"))?;
         }
-        if answer.status == Status::VolumeCorrupted {
-            inputs::count_unsound(&mut self.coverage, before.read_switches(), call);
-        }
+        inputs::count_answered(&mut self.coverage, &before, call, answer.status);
         check(self.coverage.answer(call.name(), answer.status, ground), describe("no such answer is possible"))?;
         Ok(answer)
     }

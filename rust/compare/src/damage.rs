@@ -1,9 +1,11 @@
 //! Damage to entries, stores and policy records. What results may still be sound: both
 //! implementations are asked.
 
+use crate::FORMER_POLICY_BYTES;
 use crate::make::{self, EntryFields, Pool};
 use crate::random::Random;
-use varpolicy::{MAX_STORE_BYTES, POLICY_BYTES};
+use reference::{MAX_ENTRIES, POLICY_BYTES};
+use varpolicy::MAX_STORE_BYTES;
 
 /// What can be done to an entry.
 pub const ENTRY: [&str; 20] = [
@@ -213,7 +215,7 @@ pub const POLICY: [&str; 8] = [
     "another length",
     "byte behind the entries",
     "entry repeated",
-    "65 entries",
+    "one entry over the limit",
     "gap between entries",
     "damaged entry at the end",
 ];
@@ -225,7 +227,8 @@ pub fn policy(random: &mut Random, pool: &Pool, record: &mut Vec<u8>) -> usize {
     let used: usize = sizes.iter().sum();
     match kind {
         2 => {
-            let len = random.pick(&[0, 43, 44, POLICY_BYTES - 1, POLICY_BYTES + 1, 2 * POLICY_BYTES]);
+            let len =
+                random.pick(&[0, 43, 44, POLICY_BYTES - 1, POLICY_BYTES + 1, 2 * POLICY_BYTES, FORMER_POLICY_BYTES]);
             record.resize(len, 0);
         }
         3 if used < record.len() => {
@@ -233,7 +236,7 @@ pub fn policy(random: &mut Random, pool: &Pool, record: &mut Vec<u8>) -> usize {
             record[place] = 1 + random.below(255) as u8;
         }
         5 => {
-            let entries: Vec<u8> = (0..65).flat_map(|number| make::entry_of_size(44, number)).collect();
+            let entries = make::entries_of_size(44, MAX_ENTRIES + 1).concat();
             record[..entries.len()].copy_from_slice(&entries);
         }
         6 if used + 4 <= record.len() && used > 0 => {

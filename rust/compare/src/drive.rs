@@ -11,9 +11,9 @@ use crate::coverage::Input;
 use crate::make::{Pool, packed};
 use crate::random::Random;
 use crate::state::State;
-use crate::{damage, make};
-use reference::{Entry, Policy};
-use varpolicy::{MAX_STORE_BYTES, POLICY_BYTES, Status, SwitchBytes};
+use crate::{FORMER_ENTRIES, damage, make};
+use reference::{Entry, MAX_ENTRIES, POLICY_BYTES, Policy};
+use varpolicy::{MAX_STORE_BYTES, Status, SwitchBytes};
 
 /// Adds at least `calls` calls to a comparison, or tells the first difference in words.
 pub fn run(comparison: &mut Comparison, calls: u64, seed: u64) -> Result<(), String> {
@@ -85,16 +85,8 @@ impl Run<'_> {
     /// Calls over a state that no history made: any entries, any switches, often damaged.
     fn unrelated_calls(&mut self) -> Result<(), String> {
         let (nv, volatile) = self.lent_stores();
-        let mut policy = Policy::default();
-        for _ in 0..self.random.pick(&[0, 1, 3, 10]) {
-            let entry =
-                Entry::decode(&self.pool.entry_fields(&mut self.random).pack()).ok_or("a made entry is malformed")?;
-            let fits = policy.encode().len() + entry.encode().len() <= POLICY_BYTES;
-            if fits && !policy.holds(&entry) {
-                policy.entries.push(entry);
-            }
-        }
-        let mut state = State::new(&nv, &volatile, &packed(&[policy.encode()]));
+        let entries = self.any_entries()?;
+        let mut state = State::new(&nv, &volatile, &packed(&entries));
         state.switches = self.switches();
         for _ in 0..1 + self.random.below(10) {
             if self.random.one_in(3) {
@@ -108,6 +100,22 @@ impl Run<'_> {
             }
         }
         Ok(())
+    }
+
+    /// Distinct entries of the pool, sometimes behind so many others that they come to the limit or to the former one.
+    fn any_entries(&mut self) -> Result<Vec<Vec<u8>>, String> {
+        let others = self.random.pick(&[0, 0, 0, 0, 0, 0, FORMER_ENTRIES - 3, MAX_ENTRIES - 3]);
+        let mut entries = make::entries_of_size(44, others);
+        let mut policy = Policy::default();
+        for _ in 0..self.random.pick(&[0, 1, 3, 10]) {
+            let bytes = self.pool.entry_fields(&mut self.random).pack();
+            let entry = Entry::decode(&bytes).ok_or("a made entry is malformed")?;
+            if entries.len() < MAX_ENTRIES && !policy.holds(&entry) {
+                policy.entries.push(entry);
+                entries.push(bytes);
+            }
+        }
+        Ok(entries)
     }
 
     /// Any switches, more often enabled and unlocked than not; one in eight has any byte in one place.
@@ -179,14 +187,24 @@ impl Run<'_> {
         self.comparison.exchange(&mut Sides::new(damaged), &call).map(|_| ())
     }
 
-    /// Registers entries until the engine holds no more, by number or by length.
+    /// Registers entries until the engine holds no more, by number or by length, some of the pool's among them. Where
+    /// the room that is left is the size of an entry, it is filled by one.
     fn fill_policy(&mut self, history: &mut History) -> Result<(), String> {
-        let size = self.random.pick(&[44, 44, 322, 142]);
-        for number in 0..66 {
-            let entry = make::entry_of_size(size, number);
+        let size = self.random.pick(&[44, 44, make::SHARE, 142, make::LONGEST]);
+        let mut refused = 0;
+        while refused < 2 {
+            if self.random.one_in(8) {
+                let entry = self.pool.entry_fields(&mut self.random).pack();
+                self.step(history, &Call::Register { entry })?;
+            }
+            let registered = history.order.len();
+            let left = POLICY_BYTES - history.order.iter().map(Vec::len).sum::<usize>();
+            let size = if make::is_entry_size(left) { left } else { size };
+            let entry = make::entry_of_size(size, registered);
             self.step(history, &Call::Register { entry })?;
+            refused += usize::from(history.order.len() == registered);
         }
-        Ok(())
+        if self.random.one_in(2) { self.rebuild(history) } else { Ok(()) }
     }
 
     /// A call of the history: on both sides, and on the state without rebuilds.
@@ -245,7 +263,7 @@ impl Run<'_> {
             check(history.sides.library == before, "a rebuild in order has changed the state")?;
         }
         history.order = entries;
-        self.comparison.coverage.input(Input::Rebuild, usize::from(is_older) + if reorder { 2 } else { 0 });
+        self.count_rebuild(&history.order, is_older, reorder);
         compare_states(history)
     }
 
@@ -274,6 +292,17 @@ impl Run<'_> {
         check(answer.status == Status::Success, refused)?;
         self.comparison.coverage.answer("rebuild", Status::Success, Ground::Status);
         Ok(answer)
+    }
+
+    fn count_rebuild(&mut self, entries: &[Vec<u8>], is_older: bool, reorder: bool) {
+        let coverage = &mut self.comparison.coverage;
+        coverage.input(Input::Rebuild, usize::from(is_older) + if reorder { 2 } else { 0 });
+        if entries.len() == MAX_ENTRIES {
+            coverage.input(Input::Rebuild, 4);
+        }
+        if entries.iter().map(Vec::len).sum::<usize>() == POLICY_BYTES {
+            coverage.input(Input::Rebuild, 5);
+        }
     }
 
     fn count_after_reorder(&mut self, call: &Call) {

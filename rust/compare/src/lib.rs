@@ -16,6 +16,11 @@ pub mod sweep;
 
 use comparison::Comparison;
 
+/// Most entries that an engine of the first edition held, before E5 (docs/RULES.md, 12.8).
+pub const FORMER_ENTRIES: usize = 64;
+/// Length of its policy record, and the most that the Sizes summed to.
+pub const FORMER_POLICY_BYTES: usize = 8192;
+
 /// Compares the calls of the sweep, then at least `calls` random ones. Tells what was hit, or the first
 /// difference in words, which begin with the number of the call.
 pub fn run(calls: u64, seed: u64) -> Result<Comparison, String> {

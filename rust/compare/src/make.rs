@@ -2,8 +2,9 @@
 
 use crate::call::Call;
 use crate::random::Random;
+use reference::{MAX_ENTRIES, POLICY_BYTES};
 use std::collections::BTreeSet;
-use varpolicy::{MAX_STORE_BYTES, Namespace, POLICY_BYTES};
+use varpolicy::{MAX_STORE_BYTES, Namespace};
 
 /// The namespace of the bench readings (docs/RULES.md, 13).
 pub const G: Namespace =
@@ -120,21 +121,46 @@ impl EntryFields {
     }
 }
 
-/// An entry of exactly `size` bytes whose namespace has the number `number` in it.
-pub fn entry_of_size(size: usize, number: usize) -> Vec<u8> {
+/// Bytes of the longest entry.
+pub const LONGEST: usize = 322;
+
+/// Bytes of entries that come to both limits at once.
+pub const SHARE: usize = POLICY_BYTES / MAX_ENTRIES / 2 * 2;
+
+/// Whether an entry can have this many bytes: the header alone, or a closed name or two besides, so an even number.
+pub fn is_entry_size(size: usize) -> bool {
+    size == 44 || ((48..=LONGEST).contains(&size) && size.is_multiple_of(2))
+}
+
+/// The namespace that has this number in it.
+pub fn numbered(number: usize) -> Namespace {
     let mut namespace = [0xEE; 16];
     namespace[..8].copy_from_slice(&(number as u64).to_le_bytes());
-    let name_units = match size {
-        44 => 0,
-        46..=174 => (size - 46) / 2,
-        _ => 64,
-    };
-    let fields = EntryFields::new(namespace, &vec![0x58; name_units]);
+    namespace
+}
+
+/// An entry of exactly this size in the namespace of this number.
+pub fn entry_of_size(size: usize, number: usize) -> Vec<u8> {
+    assert!(is_entry_size(size), "no entry has {size} bytes");
+    let entry = |units: usize| EntryFields::new(numbered(number), &vec![0x58; units]);
     if size <= 174 {
-        return fields.pack();
+        return entry(size.saturating_sub(46) / 2).pack();
     }
-    let trigger_units = (size - 174 - 20) / 2;
-    fields.with_trigger(G, &vec![0x54; trigger_units], 0).pack()
+    let units_of_both = (size - 66) / 2;
+    let name_units = 64.min(units_of_both - 1);
+    entry(name_units).with_trigger(G, &vec![0x54; units_of_both - name_units], 0).pack()
+}
+
+/// So many entries of this size, each of its own namespace.
+pub fn entries_of_size(size: usize, count: usize) -> Vec<Vec<u8>> {
+    (0..count).map(|number| entry_of_size(size, number)).collect()
+}
+
+/// Entries whose Sizes sum to exactly this: the longest, and one of what is left.
+pub fn entries_of_sum(sum: usize) -> Vec<Vec<u8>> {
+    let count = sum / LONGEST;
+    let last = entry_of_size(sum % LONGEST, count);
+    entries_of_size(LONGEST, count).into_iter().chain([last]).collect()
 }
 
 /// A policy record of these entries.
@@ -246,8 +272,8 @@ pub fn dump(random: &mut Random, needed: usize) -> Call {
         0 => 0,
         1 => needed.saturating_sub(1),
         2 => needed + 1,
-        3 => 8192,
-        4 => random.below(9000),
+        3 => POLICY_BYTES,
+        4 => random.below(POLICY_BYTES + 1000),
         _ => needed,
     };
     Call::Dump { buffer: vec![random.byte(); len] }

@@ -61,6 +61,8 @@ impl Workshop {
             fs::remove_dir_all(&copy).map_err(|error| format!("{}: {error}", copy.display()))?;
         }
         copy_folder(&workspace, &copy)?;
+        // The header, from which the crate of the library reads the limits, stands beside the workspace.
+        copy_folder(&workspace.join("../include"), &folder.join("include"))?;
         let library = match std::env::var_os("VARPOLICY_LIB_DIR") {
             Some(folder) => PathBuf::from(folder),
             None => workspace.join("../target/staticlib"),

@@ -50,9 +50,9 @@ pub enum RegisterGround {
     Malformed,
     /// An entry of the same namespace and name is registered.
     Repeated,
-    /// It would be the 65th entry.
+    /// As many entries as the limit are registered ([`MAX_ENTRIES`]).
     TooMany,
-    /// The Sizes would sum to more than 8,192.
+    /// The Sizes would sum to more than the limit ([`POLICY_BYTES`]).
     TooLong,
     /// Registered.
     Registered,

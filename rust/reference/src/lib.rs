@@ -26,9 +26,9 @@ pub use switches::{SwitchBytes, Switches, gives_leave};
 pub type Namespace = [u8; 16];
 
 /// Most entries that an engine holds.
-pub const MAX_ENTRIES: usize = 64;
+pub const MAX_ENTRIES: usize = 128;
 /// Length of the lent policy record, and the most that the Sizes of its entries sum to.
-pub const POLICY_BYTES: usize = 8192;
+pub const POLICY_BYTES: usize = 16384;
 /// Most bytes of a lent store.
 pub const MAX_STORE: usize = 32768;
 /// Most bytes of a payload.

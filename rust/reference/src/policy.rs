@@ -14,7 +14,7 @@ pub struct Policy {
 
 impl Policy {
     /// The entries of a lent policy record: distinct well-formed ones within the limits, then zeros,
-    /// in exactly 8,192 bytes. Nothing if the record is not so.
+    /// in exactly [`POLICY_BYTES`]. Nothing if the record is not so.
     pub fn decode(record: &[u8]) -> Option<Policy> {
         if record.len() != POLICY_BYTES {
             return None;

@@ -30,7 +30,7 @@ fn examples_print_what_is_expected() {
         assert!(output.status.success());
         run += 1;
     }
-    assert!(run >= 5);
+    assert!(run >= 6);
 }
 
 #[test]

@@ -45,7 +45,7 @@ pub struct Found<'a> {
 /// unlocked and empty.
 ///
 /// * VOLUME_CORRUPTED: `nv` is unsound, `volatile` has more than 32,768 bytes, or `policy` does not
-///   have 8,192.
+///   have [`POLICY_BYTES`](crate::POLICY_BYTES).
 pub fn power_on(nv: &[u8], volatile: &mut [u8], policy: &mut [u8], disabling_allowed: impl Into<u8>) -> Started {
     // SAFETY: each pointer and length is of one live slice, the mutable ones apart from all others.
     let answer = unsafe {
@@ -64,7 +64,8 @@ pub fn power_on(nv: &[u8], volatile: &mut [u8], policy: &mut [u8], disabling_all
 
 /// Restart: as power-on, but both stores must be sound and stay as they are.
 ///
-/// * VOLUME_CORRUPTED: the stores are unsound, or `policy` does not have 8,192 bytes.
+/// * VOLUME_CORRUPTED: the stores are unsound, or `policy` does not have
+///   [`POLICY_BYTES`](crate::POLICY_BYTES).
 pub fn restart(nv: &[u8], volatile: &[u8], policy: &mut [u8], disabling_allowed: impl Into<u8>) -> Started {
     // SAFETY: each pointer and length is of one live slice, the mutable one apart from all others.
     let answer = unsafe {
@@ -87,7 +88,8 @@ pub fn restart(nv: &[u8], volatile: &[u8], policy: &mut [u8], disabling_allowed:
 /// * WRITE_PROTECTED: the engine is locked.
 /// * INVALID_PARAMETER: the entry is malformed.
 /// * ALREADY_STARTED: an entry of the same namespace and name is registered.
-/// * OUT_OF_RESOURCES: it would be the 65th entry, or the Sizes would sum to more than 8,192.
+/// * OUT_OF_RESOURCES: [`MAX_ENTRIES`](crate::MAX_ENTRIES) are registered, or the Sizes would sum to more than
+///   [`POLICY_BYTES`](crate::POLICY_BYTES).
 pub fn register(policy: &mut [u8], switches: impl Into<SwitchBytes>, entry: &[u8]) -> Status {
     // SAFETY: each pointer and length is of one live slice, the mutable one apart from the other.
     let answer = unsafe {

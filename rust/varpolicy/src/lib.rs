@@ -1,7 +1,7 @@
 //! Safe calls of `libvarpolicy.a`, the proved engine for UEFI variable policy.
 //!
 //! The engine keeps no memory of its own. The caller lends it two stores of variables (non-volatile
-//! and volatile, 0 to 32,768 bytes each), a policy record of 8,192 bytes, and three switches. A call
+//! and volatile, 0 to [`MAX_STORE_BYTES`] each), a policy record of [`POLICY_BYTES`], and three switches. A call
 //! checks all of each store and policy record that it is lent; but of the volatile store at power-on,
 //! and of the policy record at power-on and restart, it checks the length alone. Of the switches every
 //! byte has a meaning. A call that is refused leaves everything as it was.
@@ -34,29 +34,18 @@ mod attributes;
 pub mod calls;
 mod engine;
 mod entry;
+mod limits;
 mod status;
 mod switches;
 
 pub use attributes::Attributes;
 pub use engine::{Engine, NotDumped, Variable};
 pub use entry::{Entry, Lock, Name, PackedEntry};
+pub use limits::{
+    MAX_ENTRIES, MAX_ENTRY_SIZE, MAX_NAME_UNITS, MAX_PAYLOAD_BYTES, MAX_STORE_BYTES, MIN_ENTRY_SIZE, POLICY_BYTES,
+};
 pub use status::Status;
 pub use switches::{SwitchBytes, Switches};
 
 /// The 16 bytes of a namespace, in the order in which they stand in an entry and in a record.
 pub type Namespace = [u8; 16];
-
-/// Most entries that an engine holds.
-pub const MAX_ENTRIES: usize = 64;
-/// Length of the lent policy record, and the most that the Sizes of its entries sum to.
-pub const POLICY_BYTES: usize = 8192;
-/// Least bytes of an entry.
-pub const MIN_ENTRY_SIZE: usize = 44;
-/// Most bytes of an entry.
-pub const MAX_ENTRY_SIZE: usize = 322;
-/// Most bytes of a lent store.
-pub const MAX_STORE_BYTES: usize = 32768;
-/// Most bytes of a payload.
-pub const MAX_PAYLOAD_BYTES: usize = 1024;
-/// Most units of a name.
-pub const MAX_NAME_UNITS: usize = 64;

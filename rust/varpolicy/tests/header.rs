@@ -28,6 +28,7 @@ fn header_and_crate_have_the_same_numbers() {
     for (place, name) in ["NO_LOCK", "LOCK_NOW", "LOCK_ON_CREATE", "LOCK_ON_VAR_STATE"].iter().enumerate() {
         expect(&format!("TYPE_{name}"), place);
     }
+    // The limits are read from the header; tests/limits.rs holds them to the library.
     expect("ENTRY_VERSION", 0x0001_0000);
     expect("MIN_ENTRY_SIZE", varpolicy::MIN_ENTRY_SIZE);
     expect("MAX_ENTRY_SIZE", varpolicy::MAX_ENTRY_SIZE);

@@ -3,7 +3,8 @@
 use super::index::{Index, Place, Small, Standard};
 use super::policy::{Entries, is_entry};
 use super::stores::{Key, Stores, record_len};
-use super::{APPEND, BS, HEADER, MAX_ENTRIES, MAX_PAYLOAD, NV, POLICY, RT, is_name, le16, le32};
+use super::{APPEND, BS, HEADER, NV, RT, is_name, le16, le32};
+use varpolicy::{MAX_ENTRIES, MAX_PAYLOAD_BYTES, POLICY_BYTES};
 
 pub const SUCCESS: u32 = 0;
 pub const INVALID_PARAMETER: u32 = 2;
@@ -36,7 +37,7 @@ pub fn register(policy: &mut [u8], switches: Switches, entry: &[u8]) -> u32 {
         return ALREADY_STARTED;
     }
     let end = entries.end();
-    if entries.count == MAX_ENTRIES || end + entry.len() > POLICY {
+    if entries.count == MAX_ENTRIES || end + entry.len() > POLICY_BYTES {
         return OUT_OF_RESOURCES;
     }
     policy[end..end + entry.len()].copy_from_slice(entry);
@@ -155,7 +156,7 @@ fn decide<'a, I: Index<'a>>(
     let stores = Stores::<I>::check(nv, volatile).ok_or(VOLUME_CORRUPTED)?;
     let entries = Entries::check(policy).ok_or(VOLUME_CORRUPTED)?;
     let Request { namespace, name, attributes, payload } = *request;
-    if !is_name(name) || payload.len() > MAX_PAYLOAD {
+    if !is_name(name) || payload.len() > MAX_PAYLOAD_BYTES {
         return Err(INVALID_PARAMETER);
     }
     if attributes & !(NV | BS | RT | APPEND) != 0 {
@@ -194,7 +195,7 @@ fn decide<'a, I: Index<'a>>(
     let kept = if append { old } else { 0 };
     let new = kept + payload.len();
     let len = |data| record_len(name.len() + 2, data);
-    if new > MAX_PAYLOAD || end - len(old) + len(new) > room {
+    if new > MAX_PAYLOAD_BYTES || end - len(old) + len(new) > room {
         return Err(OUT_OF_RESOURCES);
     }
     Ok((Edit::Rewrite { place, end, kept }, 0))

@@ -11,16 +11,15 @@ pub mod parts;
 mod policy;
 mod stores;
 
+use varpolicy::MAX_NAME_UNITS;
+
 const NV: u32 = 1;
 const BS: u32 = 2;
 const RT: u32 = 4;
 const APPEND: u32 = 0x40;
 
-const MAX_STORE: usize = 32768;
-const MAX_PAYLOAD: usize = 1024;
-const MAX_NAME: usize = 128;
-const POLICY: usize = 8192;
-const MAX_ENTRIES: usize = 64;
+/// Most bytes of a name.
+const MAX_NAME: usize = 2 * MAX_NAME_UNITS;
 const HEADER: usize = 32;
 const ENTRY_HEADER: usize = 44;
 
@@ -37,10 +36,17 @@ fn all_are(bytes: &[u8], value: u8) -> bool {
     bytes.chunks(2048).all(|block| block.iter().fold(0, |bits, byte| bits | (byte ^ value)) == 0)
 }
 
-/// Whether bytes are the units of a name: 1 to 64, none zero.
+/// Whether bytes are the units of a name: 1 to 64, none zero. Eight are tested at once, by one vector compare.
 fn is_name(bytes: &[u8]) -> bool {
-    let (units, odd) = bytes.as_chunks::<2>();
-    !units.is_empty() && bytes.len() <= MAX_NAME && odd.is_empty() && units.iter().all(|unit| *unit != [0, 0])
+    let mut rest = bytes;
+    while let Some((block, behind)) = rest.split_first_chunk::<16>() {
+        if block.as_chunks::<2>().0.iter().fold(false, |zero, unit| zero | (*unit == [0, 0])) {
+            return false;
+        }
+        rest = behind;
+    }
+    let (units, odd) = rest.as_chunks::<2>();
+    !bytes.is_empty() && bytes.len() <= MAX_NAME && odd.is_empty() && units.iter().all(|unit| *unit != [0, 0])
 }
 
 /// Whether bytes are a name and then a zero unit.

@@ -2,13 +2,25 @@
 //! check, and an empty name asks for the check alone.
 
 use super::index::{Seen, Small};
-use super::policy::Entries;
+use super::policy::{Entries, name_of, walk};
 use super::stores::{Stores, record_len};
 use super::{HEADER, le32};
+use varpolicy::MAX_ENTRIES;
 
 /// The bytes that the entries take.
 pub fn check_policy(policy: &[u8]) -> Option<usize> {
     Entries::check(policy).map(|entries| entries.end())
+}
+
+/// The same, by comparing each entry with all before it.
+pub fn check_policy_pairwise(policy: &[u8]) -> Option<usize> {
+    let mut known = Vec::with_capacity(MAX_ENTRIES);
+    walk(policy, |entry, _| {
+        let key = (name_of(entry), entry[8..].first_chunk::<16>());
+        let is_new = known.len() < MAX_ENTRIES && known.iter().all(|known| *known != key);
+        known.push(key);
+        is_new
+    })
 }
 
 /// The first byte of the chosen entry.

@@ -1,7 +1,8 @@
 //! The policy record: the check, and the choice.
 
 use super::index::Small;
-use super::{ENTRY_HEADER, MAX_ENTRIES, POLICY, all_are, is_closed_name, le16, le32};
+use super::{ENTRY_HEADER, all_are, is_closed_name, le16, le32};
+use varpolicy::{MAX_ENTRIES, POLICY_BYTES};
 
 /// Whether bytes are a well-formed entry.
 pub fn is_entry(bytes: &[u8]) -> bool {
@@ -25,54 +26,70 @@ pub fn is_entry(bytes: &[u8]) -> bool {
     lock_is_sound && (offset == bytes.len() || is_closed_name(&bytes[offset..]))
 }
 
-/// The checked policy record: where each entry ends.
+/// Walks a policy record: every entry must be well formed and, by what is told of it and of where it ends, new, and
+/// nothing but zeros may stand behind them. Answers where the entries end.
+pub fn walk<'a>(record: &'a [u8], mut is_new: impl FnMut(&'a [u8], usize) -> bool) -> Option<usize> {
+    if record.len() != POLICY_BYTES {
+        return None;
+    }
+    let mut at = 0;
+    while let Some(header) = record[at..].first_chunk::<ENTRY_HEADER>() {
+        let size = usize::from(le16(header, 4));
+        if size == 0 {
+            break;
+        }
+        let entry = record.get(at..at + size)?;
+        at += size;
+        if !is_entry(entry) || !is_new(entry, at) {
+            return None;
+        }
+    }
+    all_are(&record[at..], 0).then_some(at)
+}
+
+/// The name of an entry, with its zero unit.
+pub fn name_of(entry: &[u8]) -> &[u8] {
+    &entry[usize::from(le16(entry, 6))..]
+}
+
+/// The slots of the table. Of 256, 512 and 1,024 these cost fewest instructions at the most entries.
+const SLOTS: usize = 1024;
+
+/// The checked policy record: where each entry ends, and a table of the entries, whose slots are 0 or 1 + place.
 pub struct Entries<'a> {
     record: &'a [u8],
     ends: [u16; MAX_ENTRIES],
     pub count: usize,
-    table: [u8; 256],
+    table: [u8; SLOTS],
 }
 
 impl<'a> Entries<'a> {
     pub fn check(record: &'a [u8]) -> Option<Self> {
-        if record.len() != POLICY {
-            return None;
-        }
-        let mut entries = Entries { record, ends: [0; MAX_ENTRIES], count: 0, table: [0; 256] };
-        let mut at = 0;
-        while let Some(header) = record[at..].first_chunk::<ENTRY_HEADER>() {
-            let size = usize::from(le16(header, 4));
-            if size == 0 {
-                break;
-            }
-            let entry = record.get(at..at + size)?;
-            if entries.count == MAX_ENTRIES || !is_entry(entry) {
-                return None;
-            }
-            let slot = entries.slot(entry);
-            if entries.table[slot] != 0 {
-                return None;
-            }
-            at += size;
-            entries.ends[entries.count] = at as u16;
-            entries.count += 1;
-            entries.table[slot] = entries.count as u8;
-        }
-        all_are(&record[at..], 0).then_some(entries)
+        let mut entries = Entries { record, ends: [0; MAX_ENTRIES], count: 0, table: [0; SLOTS] };
+        walk(record, |entry, end| entries.insert(entry, end))?;
+        Some(entries)
     }
 
-    fn name(entry: &[u8]) -> &[u8] {
-        &entry[usize::from(le16(entry, 6))..]
+    /// Enters the next entry. False if there are too many, or its namespace and name are there already.
+    fn insert(&mut self, entry: &[u8], end: usize) -> bool {
+        let slot = self.slot(entry);
+        if self.count == MAX_ENTRIES || self.table[slot] != 0 {
+            return false;
+        }
+        self.ends[self.count] = end as u16;
+        self.count += 1;
+        self.table[slot] = self.count as u8;
+        true
     }
 
     /// The slot of an entry of the same namespace and name, or the free one where it belongs.
     fn slot(&self, entry: &[u8]) -> usize {
-        let (namespace, name) = (&entry[8..24], Self::name(entry));
+        let (namespace, name) = (&entry[8..24], name_of(entry));
         let hash = Small::hash(namespace) ^ Small::hash(name);
         let mut slot = hash % self.table.len();
         while self.table[slot] != 0 {
             let known = self.entry(usize::from(self.table[slot]) - 1);
-            if known[8..24] == *namespace && Self::name(known) == name {
+            if known[8..24] == *namespace && name_of(known) == name {
                 break;
             }
             slot = (slot + 1) % self.table.len();
@@ -108,7 +125,7 @@ impl<'a> Entries<'a> {
             if entry[8..24] != *namespace {
                 continue;
             }
-            let pattern = Self::name(entry);
+            let pattern = name_of(entry);
             let rank = match pattern.len() {
                 0 => Some(65),
                 len if len == name.len() + 2 => rank_of_match(&pattern[..name.len()], name),

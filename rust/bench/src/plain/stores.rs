@@ -1,7 +1,8 @@
 //! The two stores: the check of both, and what their records say.
 
 use super::index::{Index, Place, Seen};
-use super::{BS, HEADER, MAX_NAME, MAX_PAYLOAD, MAX_STORE, NV, RT, all_are, is_closed_name, le32};
+use super::{BS, HEADER, MAX_NAME, NV, RT, all_are, is_closed_name, le32};
+use varpolicy::{MAX_PAYLOAD_BYTES, MAX_STORE_BYTES};
 
 pub fn record_len(name_size: usize, data_size: usize) -> usize {
     (HEADER + name_size + data_size + 3) & !3
@@ -10,7 +11,7 @@ pub fn record_len(name_size: usize, data_size: usize) -> usize {
 /// Walks one store of the pair: validates every record and enters it. Answers where the records end.
 fn scan<'a, I: Seen<'a>>(bytes: [&'a [u8]; 2], non_volatile: bool, index: &mut I) -> Option<usize> {
     let store = bytes[usize::from(non_volatile)];
-    if store.len() > MAX_STORE {
+    if store.len() > MAX_STORE_BYTES {
         return None;
     }
     let wanted = BS | if non_volatile { NV } else { 0 };
@@ -22,7 +23,7 @@ fn scan<'a, I: Seen<'a>>(bytes: [&'a [u8]; 2], non_volatile: bool, index: &mut I
         let attributes = le32(header, 4);
         let name_size = le32(header, 8) as usize;
         let data_size = le32(header, 12) as usize;
-        if attributes & !RT != wanted || name_size > MAX_NAME + 2 || data_size == 0 || data_size > MAX_PAYLOAD {
+        if attributes & !RT != wanted || name_size > MAX_NAME + 2 || data_size == 0 || data_size > MAX_PAYLOAD_BYTES {
             return None;
         }
         let len = record_len(name_size, data_size);

@@ -1,11 +1,11 @@
-//! The bench readings (docs/RULES.md, 13), each run by the library and by the reference. The last three are
-//! not proved, and this program is what checks them.
+//! The bench readings (docs/RULES.md, 13), each run by the library and by the reference. The last five, from the
+//! store of 40 bytes on, are not proved, and this program is what checks them.
 
 use compare::call::{Answer, Call, Values, by_library, by_reference};
 use compare::make::{EntryFields, G, entry_of_size, unit_bytes, units};
-use compare::state::State;
+use compare::state::{Guarded, State};
+use reference::POLICY_BYTES;
 use std::process::ExitCode;
-use varpolicy::POLICY_BYTES;
 
 /// An implementation: makes a call on a state.
 type Implementation = fn(&mut State, &Call) -> Answer;
@@ -13,7 +13,7 @@ type Implementation = fn(&mut State, &Call) -> Answer;
 /// A reading: its text, what answers it, and the statuses expected.
 type Reading = (&'static str, fn(Implementation) -> Vec<u32>, &'static [u32]);
 
-const READINGS: [Reading; 16] = [
+const READINGS: [Reading; 18] = [
     ("an entry of 43 bytes, one of 44", least_entry, &[2, 0]),
     ("a name of no units, closed", zero_unit_name, &[2]),
     ("a trigger's name of no units, of one", trigger_name, &[2, 0]),
@@ -32,7 +32,9 @@ const READINGS: [Reading; 16] = [
     ("RT without BS; an unknown bit", attributes, &[2, 3]),
     ("disable and lock, lock and disable, disable twice", switches, &[0, 0, 0, 8, 0, 20]),
     ("an empty store of 40 bytes: a record of 40, one of 44", forty_bytes, &[0, 9]),
-    ("26 entries that sum to 8,192, and one more", full_record, &[0, 8192, 9]),
+    ("51 entries that sum to 16,384, and one more", full_record, &[0, 16384, 9]),
+    ("128 entries of 44 bytes, and one more", most_entries, &[0, 5632, 9]),
+    ("a policy record of 8,192 bytes: power-on, restart, register, dump, set", former_length, &[10, 10, 10, 10, 10]),
     ("the dump of two entries, 94 bytes", whole_dump, &[0, 94, 1]),
 ];
 
@@ -199,15 +201,31 @@ fn forty_bytes(implementation: Implementation) -> Vec<u32> {
     [4, 5].map(|len| Bench::new(implementation, 40).set("A", &vec![1; len])).to_vec()
 }
 
-/// The highest status of the 26, the sum of their Sizes, and the status of one more.
 fn full_record(implementation: Implementation) -> Vec<u32> {
+    filled(implementation, &[vec![322; 50], vec![284]].concat())
+}
+
+fn most_entries(implementation: Implementation) -> Vec<u32> {
+    filled(implementation, &[44; 128])
+}
+
+/// The highest status of entries of these sizes, the sum of the sizes, and the status of one more entry.
+fn filled(implementation: Implementation, sizes: &[usize]) -> Vec<u32> {
     let mut bench = Bench::new(implementation, 256);
-    let sizes = [vec![322; 25], vec![142]].concat();
-    let entries: Vec<Vec<u8>> = sizes.iter().enumerate().map(|(place, size)| entry_of_size(*size, place)).collect();
-    let sum: usize = entries.iter().map(Vec::len).sum();
-    let statuses = entries.into_iter().map(|entry| bench.call(&Call::Register { entry }));
-    let highest = statuses.max().unwrap_or(0);
-    vec![highest, sum as u32, bench.call(&Call::Register { entry: entry_of_size(44, 26) })]
+    let mut register = |size: usize, number: usize| bench.call(&Call::Register { entry: entry_of_size(size, number) });
+    let highest = sizes.iter().enumerate().map(|(number, size)| register(*size, number)).max();
+    let sum: usize = sizes.iter().sum();
+    vec![highest.unwrap_or(0), sum as u32, register(44, sizes.len())]
+}
+
+fn former_length(implementation: Implementation) -> Vec<u32> {
+    let mut bench = Bench::new(implementation, 256);
+    bench.state.policy = Guarded::new(&[0; 8192], 3);
+    let power_on = bench.call(&Call::PowerOn { disabling_allowed: 1 });
+    let restart = bench.call(&Call::Restart { disabling_allowed: 1 });
+    let register = bench.register(&entry("A"));
+    let dump = bench.call(&Call::Dump { buffer: vec![0; 8192] });
+    vec![power_on, restart, register, dump, bench.set("A", &[1])]
 }
 
 /// The status, the length, and 1 if the bytes are the expected ones, later bytes untouched.

@@ -3,15 +3,17 @@
 use std::fmt::Display;
 
 /// Starts, with the one thing that is wrong.
-pub const START: [&str; 18] = [
+pub const START: [&str; 22] = [
     "power-on, nothing wrong",
     "power-on, non-volatile store unsound",
     "power-on, volatile store unsound",
     "power-on, a variable in both stores",
     "power-on, non-volatile store over 32,768 bytes",
     "power-on, volatile store over 32,768 bytes",
-    "power-on, policy record of 8,191 bytes",
-    "power-on, policy record of 8,193 bytes",
+    "power-on, policy record a byte short of the limit",
+    "power-on, policy record a byte over the limit",
+    "power-on, policy record of the former length",
+    "power-on, policy record of another length",
     "power-on, policy record unsound",
     "restart, nothing wrong",
     "restart, non-volatile store unsound",
@@ -19,26 +21,50 @@ pub const START: [&str; 18] = [
     "restart, a variable in both stores",
     "restart, non-volatile store over 32,768 bytes",
     "restart, volatile store over 32,768 bytes",
-    "restart, policy record of 8,191 bytes",
-    "restart, policy record of 8,193 bytes",
+    "restart, policy record a byte short of the limit",
+    "restart, policy record a byte over the limit",
+    "restart, policy record of the former length",
+    "restart, policy record of another length",
     "restart, policy record unsound",
 ];
 
-/// Registrations at the limits, and with two grounds at once.
-pub const REGISTRATION: [&str; 12] = [
-    "64th entry",
-    "65th entry",
-    "to a sum of 8,190",
-    "to a sum of 8,192",
-    "to a sum of 8,194",
-    "repeat at 64 entries",
-    "repeat at a sum of 8,192",
-    "malformed at 64 entries",
-    "malformed at a sum of 8,192",
+/// Registrations at the limits, and with two grounds at once. Every Size is even, so that no sum is one byte off.
+pub const REGISTRATION: [&str; 15] = [
+    "to the limit of entries",
+    "to a sum two under the limit",
+    "to a sum at the limit",
+    "to a sum two over the limit",
+    "to both limits at once",
+    "one entry over the limit, the sum within",
+    "sum over the limit, the entries within",
+    "over both limits at once",
+    "repeat at the limit of entries",
+    "repeat at the limit of the sum",
+    "malformed at the limit of entries",
+    "malformed at the limit of the sum",
     "malformed repeat",
     "malformed, engine locked",
     "repeat, engine locked",
 ];
+
+/// What the limits before E5 would have refused or not come to.
+pub const BEYOND: [&str; 7] = [
+    "registered: one entry more",
+    "registered: to a longer sum",
+    "registered: both at once",
+    "dumped: a longer sum",
+    "not dumped: a longer sum into the former length",
+    "chosen: an entry at a later place",
+    "chosen: an entry at later bytes",
+];
+
+pub(super) const CALLS_ON_RECORD: [&str; 5] = ["power-on", "restart", "register", "dump", "set"];
+
+/// Every call that is lent the policy record, with what stands in it and the switches.
+pub fn former_length_labels() -> Vec<String> {
+    let contents = crossed(&["no entries", "entries"], &["open", "disabled", "locked"]);
+    crossed(&CALLS_ON_RECORD, &contents)
+}
 
 /// Names in packed entries.
 pub const PACKED_NAME: [&str; 8] = [
@@ -83,7 +109,7 @@ pub const CHOICE: [&str; 12] = [
     "equal ranks",
     "the lower rank first",
     "the lower rank later",
-    "the chosen one is the 64th",
+    "the chosen one is the last within the limit",
 ];
 
 /// Units under a '#', where all others match.

@@ -1,16 +1,19 @@
 //! Counts what the calls are given: the classes of inputs in which a slip of the one or the other
 //! implementation would hide.
 
+mod former;
 pub mod labels;
 mod set;
 
+use crate::FORMER_POLICY_BYTES;
 use crate::call::Call;
 use crate::coverage::{Coverage, Input};
+use crate::damage::entry_sizes;
 use crate::state::State;
 use crate::steps;
 use labels::{CALLS, CALLS_ON_BYTES, DATA_SIZES, NAME_SIZES, START};
-use reference::{Entry, MAX_ENTRIES, Pair, Policy, Switches};
-use varpolicy::{MAX_STORE_BYTES, POLICY_BYTES};
+use reference::{Entry, MAX_ENTRIES, POLICY_BYTES, Pair, Policy, Switches};
+use varpolicy::{MAX_STORE_BYTES, Status};
 
 /// Counts what a call is given.
 pub fn count(coverage: &mut Coverage, state: &State, call: &Call) {
@@ -34,8 +37,16 @@ pub fn count(coverage: &mut Coverage, state: &State, call: &Call) {
     }
 }
 
+/// Counts what a call was given that got this status.
+pub fn count_answered(coverage: &mut Coverage, lent: &State, call: &Call, status: Status) {
+    if status == Status::VolumeCorrupted {
+        count_unsound(coverage, lent.read_switches(), call);
+    }
+    former::count(coverage, lent, call, status);
+}
+
 /// Counts what else is wrong with a call that was lent something unsound.
-pub fn count_unsound(coverage: &mut Coverage, switches: Switches, call: &Call) {
+fn count_unsound(coverage: &mut Coverage, switches: Switches, call: &Call) {
     match call {
         Call::Register { entry } => {
             count_if(coverage, Input::Unsound, &[switches.locked, Entry::decode(entry).is_none()], 0);
@@ -86,6 +97,7 @@ fn count_start(coverage: &mut Coverage, state: &State, first_label: usize) {
     let long = |store: &[u8]| store.len() > MAX_STORE_BYTES;
     let (nv_sound, volatile_sound) = (alone(nv, &[]), alone(&[], volatile));
     let length = state.policy.len();
+    let known_lengths = [POLICY_BYTES, POLICY_BYTES - 1, POLICY_BYTES + 1, FORMER_POLICY_BYTES];
     let wrong = [
         !nv_sound && !long(nv),
         !volatile_sound && !long(volatile),
@@ -94,6 +106,8 @@ fn count_start(coverage: &mut Coverage, state: &State, first_label: usize) {
         long(volatile),
         length == POLICY_BYTES - 1,
         length == POLICY_BYTES + 1,
+        length == FORMER_POLICY_BYTES,
+        !known_lengths.contains(&length),
         length == POLICY_BYTES && Policy::decode(&state.policy).is_none(),
     ];
     let mut places = wrong.iter().enumerate().filter(|(_, wrong)| **wrong).map(|(place, _)| place + 1);
@@ -112,19 +126,23 @@ fn count_registration(coverage: &mut Coverage, state: &State, entry: &[u8]) {
         return;
     };
     let entries = policy.entries.len();
-    let sum: usize = policy.entries.iter().map(|entry| entry.encode().len()).sum();
+    let sum: usize = entry_sizes(&state.policy).iter().sum();
+    let (many, long) = (entries == MAX_ENTRIES, sum + entry.len() > POLICY_BYTES);
     let malformed = decoded.is_none();
     let repeat = decoded.is_some_and(|entry| policy.holds(&entry));
     let fresh = !malformed && !repeat && !locked;
     let holds = [
         fresh && entries == MAX_ENTRIES - 1,
-        fresh && entries == MAX_ENTRIES,
         fresh && sum + entry.len() == POLICY_BYTES - 2,
         fresh && sum + entry.len() == POLICY_BYTES,
         fresh && sum + entry.len() == POLICY_BYTES + 2,
-        repeat && !locked && entries == MAX_ENTRIES,
+        fresh && entries == MAX_ENTRIES - 1 && sum + entry.len() == POLICY_BYTES,
+        fresh && many && !long,
+        fresh && long && !many,
+        fresh && many && long,
+        repeat && !locked && many,
         repeat && !locked && sum == POLICY_BYTES,
-        malformed && !locked && entries == MAX_ENTRIES,
+        malformed && !locked && many,
         malformed && !locked && sum == POLICY_BYTES,
         malformed && !locked && with_sizes_in_order(entry).is_some_and(|entry| policy.holds(&entry)),
         malformed && locked,
@@ -179,10 +197,10 @@ fn packed_name(bytes: &[u8]) -> Option<usize> {
 }
 
 fn count_dump(coverage: &mut Coverage, record: &[u8], len: usize) {
-    let Some(policy) = Policy::decode(record) else {
+    if Policy::decode(record).is_none() {
         return;
-    };
-    let needed = policy.encode().len();
+    }
+    let needed = entry_sizes(record).iter().sum();
     let label = match len {
         0 if needed == 0 => 0,
         0 => 1,

@@ -1,7 +1,7 @@
 //! Counts what a set is given and what it meets in the stores and the policy.
 
-use super::count_if;
 use super::labels::SIZE_VALUES;
+use super::{count_if, former};
 use crate::coverage::{Coverage, Input};
 use crate::state::State;
 use crate::steps::{Met, is_within};
@@ -36,6 +36,7 @@ pub(super) fn count(
         return;
     }
     count_choice(coverage, &policy, namespace, &met);
+    former::count_choice(coverage, &state.policy, &policy, met.chosen);
     count_deletion(coverage, &met);
     if let Some(entry) = met.chosen {
         count_chosen(coverage, &met, entry);
@@ -120,8 +121,8 @@ fn count_choice(coverage: &mut Coverage, policy: &Policy, namespace: &Namespace,
         coverage.input(Input::Choice, label);
         return;
     };
-    let is_64th = policy.entries.get(MAX_ENTRIES - 1) == Some(chosen);
-    count_if(coverage, Input::Choice, &[is_64th], 11);
+    let is_last = policy.entries.get(MAX_ENTRIES - 1) == Some(chosen);
+    count_if(coverage, Input::Choice, &[is_last], 11);
     let targeting: Vec<&Entry> = policy.entries.iter().filter(|entry| entry.targets(namespace, &met.name)).collect();
     let others = targeting.iter().filter(|entry| entry.name != chosen.name);
     let place = |entry: &Entry| targeting.iter().position(|other| other.name == entry.name);

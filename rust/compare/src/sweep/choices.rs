@@ -2,8 +2,8 @@
 
 use super::{ERASED, Outcome, Sweep, delete, engine, entry, locking, read, set, state};
 use crate::call::Call;
-use crate::make::{EntryFields, G, entry_of_size, record, unit_bytes, units};
-use varpolicy::MAX_ENTRIES;
+use crate::make::{EntryFields, G, LONGEST, entries_of_size, record, unit_bytes, units};
+use reference::{MAX_ENTRIES, POLICY_BYTES};
 
 pub(super) fn run(sweep: &mut Sweep) -> Outcome {
     orders(sweep)?;
@@ -47,17 +47,22 @@ fn ranks(sweep: &mut Sweep) -> Outcome {
     Ok(())
 }
 
-/// An entry at each place of a record of 64, beside the whole namespace at the start or the end.
+/// An entry at each place of a record of the most entries and of one of the longest: alone, and beside the whole
+/// namespace or an entry of equal rank at the start or the end.
 fn at_each_place(sweep: &mut Sweep) -> Outcome {
-    let others = |count: usize| (0..count).map(|number| entry_of_size(44, number));
-    for place in 0..MAX_ENTRIES {
-        let mut alone: Vec<Vec<u8>> = others(MAX_ENTRIES - 1).collect();
-        alone.insert(place, locking(G, &units("A")));
-        sweep.each(&engine(&alone), ["A", "B"].map(|name| delete(&units(name))))?;
-        let mut beside = alone.clone();
-        let other_end = if place < MAX_ENTRIES / 2 { MAX_ENTRIES - 1 } else { 0 };
-        beside[other_end] = entry("").pack();
-        sweep.each(&engine(&beside), ["A", "B"].map(|name| delete(&units(name))))?;
+    let calls = || ["A", "B"].map(|name| delete(&units(name)));
+    for others in [entries_of_size(44, MAX_ENTRIES - 1), entries_of_size(LONGEST, POLICY_BYTES / LONGEST)] {
+        for place in 0..=others.len() {
+            let mut entries = others.clone();
+            entries.insert(place, locking(G, &units("A")));
+            sweep.each(&engine(&entries), calls())?;
+            let other_end = if place <= others.len() / 2 { others.len() } else { 0 };
+            entries[other_end] = entry("").pack();
+            sweep.each(&engine(&entries), calls())?;
+            entries[place] = locking(G, &units("#1"));
+            entries[other_end] = entry("0#").pack();
+            sweep.each(&engine(&entries), [delete(&units("01"))])?;
+        }
     }
     Ok(())
 }

@@ -2,11 +2,13 @@
 
 use super::{ERASED, Outcome, Sweep, delete, engine, entry, locking, one_of_each_type, read, register, set};
 use super::{full, store};
+use crate::FORMER_POLICY_BYTES;
 use crate::call::Call;
-use crate::make::{EntryFields, G, entry_of_size, packed, record, units};
+use crate::make::{EntryFields, G, SHARE, entries_of_size, packed, record, units};
 use crate::state::State;
+use reference::{MAX_ENTRIES, POLICY_BYTES};
 use std::slice::from_ref;
-use varpolicy::{MAX_STORE_BYTES, POLICY_BYTES, SwitchBytes};
+use varpolicy::{MAX_STORE_BYTES, SwitchBytes};
 
 pub(super) fn run(sweep: &mut Sweep) -> Outcome {
     switches(sweep)?;
@@ -77,8 +79,8 @@ fn starts(sweep: &mut Sweep) -> Outcome {
         long(MAX_STORE_BYTES + 1),
     ];
     let entries = packed(&one_of_each_type());
-    let policies =
-        [entries, vec![0x77; POLICY_BYTES], vec![0; POLICY_BYTES - 1], vec![0; POLICY_BYTES + 1], Vec::new()];
+    let lengths = [POLICY_BYTES - 1, POLICY_BYTES + 1, FORMER_POLICY_BYTES, 0].map(|len| vec![0; len]);
+    let policies = [vec![entries, vec![0x77; POLICY_BYTES]], lengths.to_vec()].concat();
     for nv in &nv {
         for volatile in &volatile {
             let heavy = nv.len() + volatile.len() > MAX_STORE_BYTES;
@@ -95,7 +97,7 @@ fn starts(sweep: &mut Sweep) -> Outcome {
 
 /// Dumps into buffers around the needed length.
 fn dumps(sweep: &mut Sweep) -> Outcome {
-    let whole: Vec<Vec<u8>> = (0..64).map(|number| entry_of_size(128, number)).collect();
+    let whole = entries_of_size(SHARE, MAX_ENTRIES);
     let reserved = EntryFields { reserved: [1, 2, 3], ..entry("A") }.pack();
     let mut triggered = entry("C").with_trigger(G, &units("T"), 0);
     triggered.trigger[17] = 0x99;
@@ -108,6 +110,7 @@ fn dumps(sweep: &mut Sweep) -> Outcome {
             needed,
             needed + 1,
             needed + 100,
+            POLICY_BYTES,
             2 * POLICY_BYTES,
             1 << 16,
             (1 << 16) + 1,

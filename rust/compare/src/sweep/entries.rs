@@ -1,12 +1,14 @@
-//! Entries to register, field by field and at the limits of the policy record, and policy records bit by bit.
+//! Entries to register, field by field, and policy records bit by bit.
 
 use super::{Outcome, Sweep, boundaries, delete, engine, entry, one_of_each_type, packed_names, register, set};
 use super::{locking, with_each_bit_changed};
+use crate::FORMER_POLICY_BYTES;
 use crate::call::Call;
 use crate::make::{EntryFields, G, entry_of_size, packed, units};
 use crate::state::{Guarded, State};
+use reference::POLICY_BYTES;
 use std::slice::from_ref;
-use varpolicy::{MAX_ENTRIES, POLICY_BYTES, SwitchBytes};
+use varpolicy::SwitchBytes;
 
 pub(super) fn run(sweep: &mut Sweep) -> Outcome {
     bits(sweep)?;
@@ -15,10 +17,8 @@ pub(super) fn run(sweep: &mut Sweep) -> Outcome {
     names(sweep)?;
     sizes_and_attributes(sweep)?;
     namespaces(sweep)?;
-    limits(sweep)?;
     record_bits(sweep)?;
-    record_ends(sweep)?;
-    record_limits(sweep)
+    record_ends(sweep)
 }
 
 /// Each bit of an entry changed, beside nothing and beside the entry as it was.
@@ -110,69 +110,33 @@ fn namespaces(sweep: &mut Sweep) -> Outcome {
     Ok(())
 }
 
-/// Entries of this size, as many, each of its own namespace.
-fn filling(size: usize, count: usize) -> Vec<Vec<u8>> {
-    (0..count).map(|number| entry_of_size(size, number)).collect()
+/// An entry that no record of the sweep holds.
+pub(super) fn fresh(size: usize) -> Vec<u8> {
+    entry_of_size(size, usize::MAX)
 }
 
-/// Registrations where the record is full, or nearly: new entries, repeats and malformed ones, the engine
-/// locked or not.
-fn limits(sweep: &mut Sweep) -> Outcome {
-    let nearly = filling(322, 25);
-    let with = |size: usize| [nearly.clone(), vec![entry_of_size(size, 25)]].concat();
-    let records = [
-        filling(44, MAX_ENTRIES - 2),
-        filling(44, MAX_ENTRIES - 1),
-        filling(44, MAX_ENTRIES),
-        filling(128, MAX_ENTRIES - 1),
-        filling(128, MAX_ENTRIES),
-        filling(130, MAX_ENTRIES - 1),
-        with(98),
-        with(140),
-        with(142),
-        nearly,
-    ];
-    for entries in records {
-        let mut state = engine(&entries);
-        for locked in [false, true] {
-            state.switches.locked = locked.into();
-            let fresh = [44, 48, 50, 52, 98, 126, 128, 130, 138, 140, 142, 144, 146, 322];
-            let fresh = fresh.map(|size| entry_of_size(size, MAX_ENTRIES));
-            let malformed = entries.iter().chain(&fresh).map(|entry| malformed(entry));
-            let calls = entries.iter().chain(&fresh).cloned().chain(malformed);
-            sweep.each(&state, calls.map(register))?;
-        }
-    }
-    Ok(())
-}
-
-/// The entry with MinSize over MaxSize.
-fn malformed(entry: &[u8]) -> Vec<u8> {
-    let mut bytes = entry.to_vec();
-    bytes[24..32].copy_from_slice(&[1, 0, 0, 0, 0, 0, 0, 0]);
-    bytes
-}
-
-/// The calls that are lent a policy record, those refused on other grounds among them.
-fn lent_record() -> [Call; 6] {
+/// The calls that look into a policy record, those refused on other grounds among them.
+pub(super) fn lent_record() -> [Call; 7] {
     let long = vec![0; 1025];
     [
         Call::Dump { buffer: vec![0x5A; POLICY_BYTES] },
         Call::Dump { buffer: Vec::new() },
-        register(entry_of_size(44, 99)),
+        register(fresh(44)),
         register(vec![0; 44]),
         delete(&units("AB")),
+        set(&units("AB"), 3, vec![1]),
         set(&units("AB"), 8, long),
     ]
 }
 
-fn over_record(sweep: &mut Sweep, record: &[u8]) -> Outcome {
+/// Those calls over a record, the engine locked and disabled too.
+pub(super) fn over_record(sweep: &mut Sweep, record: &[u8]) -> Outcome {
     let state = State { policy: Guarded::new(record, 3), ..engine(&[]) };
     sweep.each(&state, lent_record())?;
     let locked = State { switches: SwitchBytes { locked: 1, ..state.switches }, ..state.clone() };
-    sweep.each(&locked, [register(entry_of_size(44, 99))])?;
+    sweep.each(&locked, [register(fresh(44))])?;
     let disabled = State { switches: SwitchBytes { enabled: 0, ..state.switches }, ..state };
-    sweep.each(&disabled, [delete(&units("AB")), register(entry_of_size(44, 99))])
+    sweep.each(&disabled, [delete(&units("AB")), register(fresh(44))])
 }
 
 /// A record of one entry of each type with each bit changed.
@@ -196,8 +160,9 @@ fn record_ends(sweep: &mut Sweep) -> Outcome {
         let state = State { policy: Guarded::new(&bytes, 3), ..engine(&[]) };
         sweep.each(&state, [dump()])?;
     }
-    let more = [POLICY_BYTES + 1, 2 * POLICY_BYTES, (1 << 16) + POLICY_BYTES];
-    for len in [0, 1, 43, 44, used, POLICY_BYTES - 1].into_iter().chain(more) {
+    let former = [FORMER_POLICY_BYTES - 1, FORMER_POLICY_BYTES, FORMER_POLICY_BYTES + 1];
+    let near = [POLICY_BYTES - 1, POLICY_BYTES + 1, 2 * POLICY_BYTES, (1 << 16) + POLICY_BYTES];
+    for len in [0, 1, 43, 44, used].into_iter().chain(former).chain(near) {
         let mut bytes = record.clone();
         bytes.resize(len, 0);
         over_record(sweep, &bytes)?;
@@ -205,28 +170,4 @@ fn record_ends(sweep: &mut Sweep) -> Outcome {
         over_record(sweep, &bytes)?;
     }
     Ok(())
-}
-
-/// Records with too many entries, with an entry that the end cuts, with a gap, and with a repeat.
-fn record_limits(sweep: &mut Sweep) -> Outcome {
-    let [a, b, c, d] = one_of_each_type();
-    let repeat = EntryFields { max_size: 9, reserved: [1, 2, 3], ..entry("AB") }.pack();
-    let mut records = vec![
-        packed(&filling(44, MAX_ENTRIES)),
-        packed(&filling(44, MAX_ENTRIES + 1)),
-        packed(&filling(128, MAX_ENTRIES)),
-        packed(&[filling(322, 25), filling(144, 1)].concat())[..POLICY_BYTES].to_vec(),
-        packed(&[vec![0; 4], a.clone()]),
-        packed(&[a.clone(), vec![0; 44], b.clone()]),
-        packed(&[a.clone(), vec![0; 4], b.clone()]),
-    ];
-    for place in 1..=3 {
-        let mut entries = vec![a.clone(), b.clone(), c.clone(), d.clone()];
-        entries.insert(place, repeat.clone());
-        records.push(packed(&entries));
-        let last = entries.last().cloned().expect("an entry");
-        entries[place] = last;
-        records.push(packed(&entries));
-    }
-    records.iter().try_for_each(|record| over_record(sweep, record))
 }

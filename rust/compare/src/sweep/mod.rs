@@ -4,6 +4,7 @@
 mod choices;
 mod engine;
 mod entries;
+mod limits;
 mod names;
 mod sets;
 mod stores;
@@ -26,7 +27,7 @@ type Outcome = Result<(), String>;
 
 type Part = (&'static str, fn(&mut Sweep) -> Outcome);
 
-const PARTS: [Part; 8] = [
+const PARTS: [Part; 9] = [
     ("entries", entries::run),
     ("engine", engine::run),
     ("choices", choices::run),
@@ -35,6 +36,7 @@ const PARTS: [Part; 8] = [
     ("names", names::run),
     ("switches", switches::run),
     ("sums", sums::run),
+    ("limits", limits::run),
 ];
 
 struct Sweep<'a> {

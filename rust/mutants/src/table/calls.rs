@@ -3,16 +3,18 @@
 use super::{Edit, edit};
 
 const REFUSED: &str = "Switches { enabled: true, locked: true, disabling_allowed: false });";
-const POWER_ON: &str = "if !sound || volatile.len() > MAX_STORE || policy.len() != POLICY_BYTES {";
-const RESTART: &str = "if Pair::decode(non_volatile, volatile).is_none() || policy.len() != POLICY_BYTES {";
+pub(super) const POWER_ON: &str = "if !sound || volatile.len() > MAX_STORE || policy.len() != POLICY_BYTES {";
+pub(super) const RESTART: &str = "if Pair::decode(non_volatile, volatile).is_none() || policy.len() != POLICY_BYTES {";
 const STARTED: &str = "Switches { enabled: true, locked: false, disabling_allowed })";
 const REGISTER_LOCKED: &str =
     "if switches.locked {\n        return RegisterGround::Locked;\n    }\n    let Some(decoded)";
 const REPEATED: &str = "if policy.holds(&decoded) {\n        return RegisterGround::Repeated;";
-const TOO_MANY: &str = "if policy.entries.len() == MAX_ENTRIES {\n        return RegisterGround::TooMany;\n    }";
-const REGISTER_RECORD: &str = "    let Some(mut policy) = Policy::decode(record) else {";
-const DUMP: &str = "match buffer.get_mut(..bytes.len()) {";
-const DUMP_SHORT: &str = "None => (Status::BufferTooSmall, bytes.len()),";
+pub(super) const TOO_MANY: &str =
+    "if policy.entries.len() == MAX_ENTRIES {\n        return RegisterGround::TooMany;\n    }";
+pub(super) const TOO_LONG: &str = "if bytes.len() > POLICY_BYTES {\n        return RegisterGround::TooLong;";
+pub(super) const REGISTER_RECORD: &str = "    let Some(mut policy) = Policy::decode(record) else {";
+pub(super) const DUMP: &str = "match buffer.get_mut(..bytes.len()) {";
+pub(super) const DUMP_SHORT: &str = "None => (Status::BufferTooSmall, bytes.len()),";
 const DISABLED: &str = "if !switches.enabled {\n        return Status::AlreadyStarted;\n    }";
 const DISABLE: &str = "if switches.locked || !switches.disabling_allowed {";
 
@@ -86,6 +88,12 @@ pub(super) const EDITS: &[Edit] = &[
         "power-on over a longer policy record",
     ),
     edit(
+        "power-on-shorter-record",
+        POWER_ON,
+        "if !sound || volatile.len() > MAX_STORE || policy.len() > POLICY_BYTES {",
+        "power-on over a shorter policy record",
+    ),
+    edit(
         "power-on-sound-volatile",
         POWER_ON,
         "if Pair::decode(non_volatile, volatile).is_none() || policy.len() != POLICY_BYTES {",
@@ -128,6 +136,18 @@ pub(super) const EDITS: &[Edit] = &[
         RESTART,
         "if Pair::decode(non_volatile, volatile).is_none() {",
         "restart over a policy record of any length",
+    ),
+    edit(
+        "restart-longer-record",
+        RESTART,
+        "if Pair::decode(non_volatile, volatile).is_none() || policy.len() < POLICY_BYTES {",
+        "restart over a longer policy record",
+    ),
+    edit(
+        "restart-shorter-record",
+        RESTART,
+        "if Pair::decode(non_volatile, volatile).is_none() || policy.len() > POLICY_BYTES {",
+        "restart over a shorter policy record",
     ),
     edit(
         "restart-sound-record",
@@ -207,16 +227,53 @@ pub(super) const EDITS: &[Edit] = &[
     edit("register-repeats", REPEATED, "if false { return RegisterGround::Repeated;", "a repeat is registered"),
     edit("register-any-count", TOO_MANY, "", "any number of entries is registered"),
     edit(
+        "register-count-more",
+        TOO_MANY,
+        "if policy.entries.len() > MAX_ENTRIES { return RegisterGround::TooMany; }",
+        "one entry over the limit is registered",
+    ),
+    edit(
+        "register-count-less",
+        TOO_MANY,
+        "if policy.entries.len() >= MAX_ENTRIES - 1 { return RegisterGround::TooMany; }",
+        "one entry under the limit is the last that is registered",
+    ),
+    edit(
+        "register-count-and-sum",
+        TOO_MANY,
+        "if policy.entries.len() == MAX_ENTRIES && policy.encode().len() + entry.len() > POLICY_BYTES { return \
+         RegisterGround::TooMany; }",
+        "an entry over the limit is registered where the sum is within its own",
+    ),
+    edit(
         "register-any-sum",
-        "if bytes.len() > POLICY_BYTES {\n        return RegisterGround::TooLong;",
+        TOO_LONG,
         "if bytes.len() > 2 * POLICY_BYTES { return RegisterGround::TooLong;",
         "any sum is registered",
     ),
     edit(
+        "register-sum-more",
+        TOO_LONG,
+        "if bytes.len() > POLICY_BYTES + 2 { return RegisterGround::TooLong;",
+        "a sum two bytes over the limit is registered",
+    ),
+    edit(
         "register-sum-below",
-        "if bytes.len() > POLICY_BYTES {\n        return RegisterGround::TooLong;",
+        TOO_LONG,
         "if bytes.len() >= POLICY_BYTES { return RegisterGround::TooLong;",
-        "a sum of 8,192 is refused",
+        "a sum at the limit is refused",
+    ),
+    edit(
+        "register-sum-before",
+        TOO_LONG,
+        "if bytes.len() - entry.len() >= POLICY_BYTES { return RegisterGround::TooLong;",
+        "an entry is registered while the sum before it is under the limit",
+    ),
+    edit(
+        "register-sum-and-count",
+        TOO_LONG,
+        "if bytes.len() > POLICY_BYTES && policy.entries.len() == MAX_ENTRIES { return RegisterGround::TooLong;",
+        "a sum over the limit is registered where the entries are under theirs",
     ),
     edit(
         "register-in-front",

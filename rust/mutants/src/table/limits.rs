@@ -3,10 +3,25 @@
 use super::{Edit, edit};
 
 pub(super) const EDITS: &[Edit] = &[
-    edit("limit-entries-63", "MAX_ENTRIES: usize = 64", "MAX_ENTRIES: usize = 63", "63 entries at most"),
-    edit("limit-entries-65", "MAX_ENTRIES: usize = 64", "MAX_ENTRIES: usize = 65", "65 entries at most"),
-    edit("limit-record-8190", "POLICY_BYTES: usize = 8192", "POLICY_BYTES: usize = 8190", "a policy record of 8,190"),
-    edit("limit-record-8194", "POLICY_BYTES: usize = 8192", "POLICY_BYTES: usize = 8194", "a policy record of 8,194"),
+    edit(
+        "limit-entries-less",
+        "MAX_ENTRIES: usize = 128",
+        "MAX_ENTRIES: usize = 127",
+        "one entry under the limit at most",
+    ),
+    edit("limit-entries-more", "MAX_ENTRIES: usize = 128", "MAX_ENTRIES: usize = 129", "one entry over the limit"),
+    edit(
+        "limit-record-less",
+        "POLICY_BYTES: usize = 16384",
+        "POLICY_BYTES: usize = 16382",
+        "a policy record two bytes under the limit",
+    ),
+    edit(
+        "limit-record-more",
+        "POLICY_BYTES: usize = 16384",
+        "POLICY_BYTES: usize = 16386",
+        "a policy record two bytes over the limit",
+    ),
     edit("limit-store-32767", "MAX_STORE: usize = 32768", "MAX_STORE: usize = 32767", "stores of 32,767 at most"),
     edit("limit-store-32769", "MAX_STORE: usize = 32768", "MAX_STORE: usize = 32769", "stores of 32,769 at most"),
     edit("limit-payload-1023", "MAX_PAYLOAD: usize = 1024", "MAX_PAYLOAD: usize = 1023", "payloads of 1,023 at most"),

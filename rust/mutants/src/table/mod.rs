@@ -4,12 +4,14 @@
 //! No edit makes an equivalent program. The obvious ones that would, and are missing for that reason: step 1's
 //! name after its payload, step 4's size after its attributes, and step 8 after step 9 (one status each, and
 //! nothing written); a deletion asked for BS alone instead of BS and RT (step 3 has refused RT without BS);
-//! the volatile store searched before the other (no variable stands twice); a limit of 8,193 on the sum of
-//! Sizes (every Size is even); the length that an append makes in 16 bits (it is 2,048 at most); MaxSize asked of
-//! an append's own length too (the sum is no shorter); MinSize less the stored length, 0 at least, asked of it.
+//! the volatile store searched before the other (no variable stands twice); a limit on the sum of Sizes that is one
+//! byte higher (every Size is even); 7 bits of an entry's place (no place has more); the length that an append makes
+//! in 16 bits (it is 2,048 at most); MaxSize asked of an append's own length too (the sum is no shorter); MinSize less
+//! the stored length, 0 at least, asked of it.
 
 mod calls;
 mod entry;
+mod former;
 mod limits;
 mod name;
 mod policy;
@@ -45,14 +47,17 @@ impl Edit {
 }
 
 /// The edits of each file in `reference/src`.
-const FILES: [(&str, &[Edit]); 10] = [
+const FILES: [(&str, &[Edit]); 13] = [
     ("lib.rs", limits::EDITS),
+    ("lib.rs", former::LIMIT_EDITS),
     ("cursor.rs", limits::CURSOR_EDITS),
     ("name.rs", name::EDITS),
     ("entry.rs", entry::EDITS),
     ("policy.rs", policy::EDITS),
+    ("policy.rs", former::POLICY_EDITS),
     ("store.rs", store::EDITS),
     ("engine.rs", calls::EDITS),
+    ("engine.rs", former::EDITS),
     ("engine.rs", set::EDITS),
     ("engine.rs", sums::EDITS),
     ("switches.rs", switches::EDITS),

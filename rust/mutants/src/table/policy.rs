@@ -3,11 +3,12 @@
 use super::{Edit, edit};
 
 const LENGTH: &str = "record.len() != POLICY_BYTES";
-const LONGER: &str = "if record.len() != POLICY_BYTES {";
-const ZEROS: &str = "while *rest != ZEROS[..rest.len()] {";
-const LIMITS: &str = "policy.entries.len() == MAX_ENTRIES || policy.holds(&entry)";
-const HOLDS: &str = "self.entries.iter().any(|known| known.repeats(entry))";
-const CHOICE: &str = "targeting.min_by_key(|entry| entry.rank())";
+pub(super) const LONGER: &str = "if record.len() != POLICY_BYTES {";
+pub(super) const ZEROS: &str = "while *rest != ZEROS[..rest.len()] {";
+pub(super) const LIMITS: &str = "policy.entries.len() == MAX_ENTRIES || policy.holds(&entry)";
+pub(super) const HOLDS: &str = "self.entries.iter().any(|known| known.repeats(entry))";
+pub(super) const TARGETING: &str = "self.entries.iter().filter(|entry| entry.targets(namespace, name))";
+pub(super) const CHOICE: &str = "targeting.min_by_key(|entry| entry.rank())";
 
 pub(super) const EDITS: &[Edit] = &[
     edit(
@@ -41,7 +42,25 @@ pub(super) const EDITS: &[Edit] = &[
         "while rest[..rest.len().saturating_sub(1)] != ZEROS[..rest.len().saturating_sub(1)] {",
         "the last byte of the record is not looked at",
     ),
-    edit("record-65-entries", LIMITS, "policy.holds(&entry)", "a record may hold more than 64 entries"),
+    edit("record-any-count", LIMITS, "policy.holds(&entry)", "a record may hold any number of entries"),
+    edit(
+        "record-count-more",
+        LIMITS,
+        "policy.entries.len() > MAX_ENTRIES || policy.holds(&entry)",
+        "a record may hold one entry over the limit",
+    ),
+    edit(
+        "record-count-less",
+        LIMITS,
+        "policy.entries.len() == MAX_ENTRIES - 1 || policy.holds(&entry)",
+        "a record holds one entry under the limit at most",
+    ),
+    edit(
+        "record-not-full",
+        LIMITS,
+        "behind.is_empty() || policy.entries.len() == MAX_ENTRIES || policy.holds(&entry)",
+        "a record that is full by the sum is not valid",
+    ),
     edit("record-repeats", LIMITS, "policy.entries.len() == MAX_ENTRIES", "a record may hold an entry twice"),
     edit(
         "record-next-repeats",
@@ -62,10 +81,10 @@ pub(super) const EDITS: &[Edit] = &[
         "only the first entry is compared",
     ),
     edit(
-        "holds-63",
+        "holds-not-the-last",
         HOLDS,
-        "self.entries.iter().take(63).any(|known| known.repeats(entry))",
-        "the 64th entry is not compared",
+        "self.entries.iter().take(MAX_ENTRIES - 1).any(|known| known.repeats(entry))",
+        "the last entry within the limit is not compared",
     ),
     edit(
         "choice-last-of-equals",
@@ -82,10 +101,10 @@ pub(super) const EDITS: &[Edit] = &[
     ),
     edit("choice-last", CHOICE, "targeting.last()", "the last registered speaks, whatever its rank"),
     edit(
-        "choice-of-63",
-        "self.entries.iter().filter(|entry| entry.targets",
-        "self.entries.iter().take(63).filter(|entry| entry.targets",
-        "the 64th entry never speaks",
+        "choice-not-the-last",
+        TARGETING,
+        "self.entries.iter().take(MAX_ENTRIES - 1).filter(|entry| entry.targets(namespace, name))",
+        "the last entry within the limit never speaks",
     ),
     edit(
         "record-reversed",

@@ -3,7 +3,7 @@
 use super::{Edit, edit};
 
 const DELETION: &str = "!self.has(APPEND) && (self.payload.is_empty() || !self.has(BS | RT))";
-const LOOKS_AT_RECORD: &str =
+pub(super) const LOOKS_AT_RECORD: &str =
     "    let Some(policy) = Policy::decode(record) else {\n        return SetGround::BadRecord;\n    };\n";
 const LOOKS_AT_STORES: &str = "    let Some(mut pair) = Pair::decode(non_volatile, volatile) else {";
 const STEPS_1_TO_3: &str = "    let name = match well_formed(&request) {";
