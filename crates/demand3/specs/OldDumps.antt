@@ -1,31 +1,27 @@
 -- DUMPS OF THE FIRST EDITION (RULES.md, 12.8): the entries of each of its policy records register in order after a power-on that answered 0.
 -- Assumes nothing but that the power-on answered 0.
-use Prim.Native.Nat.{ℕ, _≤_}
-use mathlib.Core.Path.{_≡_, refl, sym, ap, subst⁻¹, _∙_}
+use Prim.Native.Nat.{_≤_}
+use mathlib.Core.Path.{_≡_, refl, sym, subst⁻¹, _∙_}
 use mathlib.Core.List.{List, [], map}
 use mathlib.Core.Bool.{Bool, true}
 use mathlib.Core.Option.{none}
 use native.Mathlib.Omega.{arith}
-use lib.ListN.{length, drop}
-use lib.Dec.{eqb, leb}
-use borrow.Author.Tests.{le-leb, eqb-true, leb-true}
+use lib.ListN.{length}
+use borrow.Author.Tests.{le-leb}
 use Rattle.limits.specs.Limits.{policyBytes}
 use Rattle.limits.specs.FirstEdition.{firstMaxEntries, firstPolicyBytes}
 use Rattle.lists.specs.Lists.{All}
-use Rattle.slices.specs.Test.{_and_}
-use Rattle.slices.specs.TestLaws.{and-left, and-right}
-use Rattle.slices.specs.Bytes.{Bytes, allAre, overwrite, padded}
-use Rattle.slices.specs.Chunks.{flat, packed, distinct}
-use Rattle.slices.specs.ChunksLaws.{packed-chunks}
-use Rattle.entry.specs.Entry.{wellFormed, sameTarget}
-use Rattle.policy.specs.Policy.{entryLength, entriesOf, sizesSum, packPolicy}
-use Rattle.policy.specs.PolicyLaws.{packs-policy, packs-only, entriesOf-formed, sizesSum-flat, sizesSum-within, entryLength-within}
+use Rattle.slices.specs.Bytes.{Bytes, overwrite, padded}
+use Rattle.slices.specs.Chunks.{flat, packed}
+use Rattle.entry.specs.Entry.{wellFormed}
+use Rattle.policy.specs.Policy.{entriesOf, packPolicy, validWithin}
+use Rattle.policy.specs.PolicyLaws.{valid-packs, packs-policy, packs-only}
 use Rattle.status.specs.Status.{isSuccess}
 use Rattle.status.specs.declared.Status.the-variants.{Success, VolumeCorrupted}
 use Rattle.rules.specs.Engine.{State, Call, stateOf, uses, dumpStatus, effect, step}
 use Rattle.rules.specs.Engine.Call.{powerOn, register, dump}
 use Rattle.rules.specs.Grounds.{EntriesWithin, PolicyEntries}
-use Rattle.rules.specs.FoundLaws.{entries-packs, distinct-pairs, tells-target}
+use Rattle.rules.specs.FoundLaws.{entries-packs, packs-entries}
 use Rattle.rules.specs.EngineLaws.{granted-effect, other-length-corrupted}
 use Rattle.history.specs.History.{AllGranted, end}
 use Rattle.demand3.specs.Machine.{machine}
@@ -38,28 +34,9 @@ use Rattle.demand3.specs.Demand3.{poweredOn}
 abbrev pub FirstEditionEntries : Bytes → List Bytes → Type 0
 FirstEditionEntries old es = EntriesWithin firstMaxEntries firstPolicyBytes old es
 
--- its test of a policy record: that of today (`policyValid`) with its numbers
-unfoldable pub firstPolicyValid : Bytes → Bool
-firstPolicyValid p =
-    eqb (length p) firstPolicyBytes
-    and leb (length (entriesOf p)) firstMaxEntries
-    and allAre 0 (drop (sizesSum p) p)
-    and distinct sameTarget (entriesOf p)
-
--- every record that it took has such entries
-pub first-valid : (p : Bytes) → firstPolicyValid p ≡ true → FirstEditionEntries p (entriesOf p)
-unfolding firstPolicyValid packed padded
-first-valid p v =
-    let l : length p ≡ firstPolicyBytes = eqb-true (length p) firstPolicyBytes (and-left _ _ v) in
-    let v₁ = and-right _ _ v in
-    let v₂ = and-right _ _ v₁ in
-    record {
-      formed = entriesOf-formed p;
-      few = omega (arith, leb-true (length (entriesOf p)) firstMaxEntries (and-left _ _ v₁));
-      apart = distinct-pairs sameTarget _ tells-target (entriesOf p) (and-right _ _ v₂);
-      room = omega (arith, sizesSum-flat p, sizesSum-within p);
-      is = sym (ap (λ (n : ℕ). packed n 0 (entriesOf p)) (sym l) ∙ packed-chunks entryLength entryLength-within 0 p (and-left _ _ v₂));
-    }
+-- every record that the first edition took as valid has such entries
+pub first-valid : (p : Bytes) → validWithin firstMaxEntries firstPolicyBytes p ≡ true → FirstEditionEntries p (entriesOf p)
+first-valid p v = packs-entries p (entriesOf p) (valid-packs firstMaxEntries firstPolicyBytes p v)
 
 -- ---- what registering them does
 

@@ -23,7 +23,7 @@ use Rattle.slices.specs.ItemsLaws.{or-off, or-left-off, or-right-off, contains-
 use Rattle.entry.specs.Entry.{namespaceOf, nameOf, sameTarget}
 use Rattle.entry.specs.EntryLaws.{sameTarget-same, sameTarget-sym, sameTarget-alike}
 use Rattle.policy.specs.declared.PolicyCheck.the-variants.{Valid, Invalid}
-use Rattle.policy.specs.Policy.{entryLength, entriesOf, sizesSum, policyValid, policyCheck}
+use Rattle.policy.specs.Policy.{entryLength, entriesOf, sizesSum, validWithin, policyValid, policyCheck}
 use Rattle.policy.specs.Filter.{slots, keyAt, keyOf, slotOf, fingerprintOf, Marks, marksWith}
 use Rattle.policy.proofs.Walk.{At, at-start, at-next, all-met, sum-met, count-met, more-left, whole, grown}
 
@@ -101,15 +101,15 @@ unfolding policyCheck
 invalid p e = rw e
 
 pub invalid-length : (p : Bytes) → (length p ≡ policyBytes → ⊥) → Invalid ≡ policyCheck p
-unfolding policyCheck policyValid _and_
+unfolding policyCheck validWithin _and_
 invalid-length p h = rw (ne-eqb (length p) policyBytes h)
 
 many : (p : Bytes) → maxEntries < length (entriesOf p) → policyValid p ≡ false
-unfolding policyValid _and_
+unfolding validWithin _and_
 many p h = rw (lt-leb (length (entriesOf p)) maxEntries h) (and-no (eqb (length p) policyBytes))
 
 double : (p : Bytes) → distinct sameTarget (entriesOf p) ≡ false → policyValid p ≡ false
-unfolding policyValid
+unfolding validWithin
 double p h = rw (h, and-no (allAre 0 (drop (sizesSum p) p)), and-no (leb (length (entriesOf p)) maxEntries)) (and-no (eqb (length p) policyBytes))
 
 -- ---- a check that has come to the entry at index i, whose first byte is at
@@ -152,7 +152,7 @@ module _ (p : Bytes) (t : Bytes) (i at n : ℕ) (w : Checked p t i at) (e : entr
   -- no entry is left
   module _ (z : n ≡ 0) (l : length p ≡ policyBytes) where
     valid-is : policyValid p ≡ allAre 0 (drop at p)
-    unfolding policyValid _and_
+    unfolding validWithin _and_
     valid-is =
         let k = e ∙ z in
         let d : distinct sameTarget (entriesOf p) ≡ true = ap (distinct sameTarget) (all-met p i at (w .walk) k) ∙ w .apart in

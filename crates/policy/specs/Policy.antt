@@ -33,13 +33,17 @@ packPolicy es = packed policyBytes 0 es
 abbrev pub emptyPolicy : Bytes
 emptyPolicy = packPolicy []
 
--- valid (RULES.md, 7): not a ground for 10
-unfoldable pub policyValid : Bytes → Bool
-policyValid p =
-    eqb (length p) policyBytes
-    and leb (length (entriesOf p)) maxEntries
+-- valid under limits: a record of `bytes` bytes, at most `most` entries
+unfoldable pub validWithin : ℕ → ℕ → Bytes → Bool
+validWithin most bytes p =
+    eqb (length p) bytes
+    and leb (length (entriesOf p)) most
     and allAre 0 (drop (sizesSum p) p)
     and distinct sameTarget (entriesOf p)
+
+-- valid (RULES.md, 7): not a ground for 10
+abbrev pub policyValid : Bytes → Bool
+policyValid p = validWithin maxEntries policyBytes p
 
 unfoldable pub policyCheck : Bytes → PolicyCheck
 policyCheck p = cond (policyValid p) (Valid (length (entriesOf p)) (sizesSum p)) Invalid

@@ -35,7 +35,7 @@ use Rattle.slices.specs.ItemsLaws.{distinct-append}
 use Rattle.entry.specs.Entry.{sizeField, wellFormed, sameTarget}
 use Rattle.entry.specs.EntryLaws.{sized, sameTarget-sym, sameTarget-alike}
 use Rattle.policy.specs.declared.PolicyCheck.the-variants.{Valid, Invalid}
-use Rattle.policy.specs.Policy.{entryLength, entriesOf, sizesSum, packPolicy, policyValid, policyCheck}
+use Rattle.policy.specs.Policy.{entryLength, entriesOf, sizesSum, packPolicy, validWithin, policyValid, policyCheck}
 
 -- ---- the entry that a list of bytes begins with
 pub record Begins (p : Bytes) (n : ℕ) : Type 0 where
@@ -135,45 +135,57 @@ items es a = all-map entry-item es a
 pub entriesOf-pack : (es : List Bytes) → All WellFormed es → entriesOf (packPolicy es) ≡ es
 entriesOf-pack es a = chunks-packed entryLength entryLength-within 0 entryLength-zeros policyBytes es (items es a)
 
--- ---- a valid record
-pub record Entries (es : List Bytes) : Type 0 where
+-- ---- a valid record, under the limits of an edition and under today's
+pub record EntriesUnder (most bytes : ℕ) (es : List Bytes) : Type 0 where
   pub formed : All WellFormed es
-  pub few : length es ≤ maxEntries
-  pub room : length (flat es) ≤ policyBytes
+  pub few : length es ≤ most
+  pub room : length (flat es) ≤ bytes
   pub apart : distinct sameTarget es ≡ true
 
--- what packs to p: entries as a valid record has them
-pub record Packs (es : List Bytes) (p : Bytes) : Type 0 where
-  pub entries : Entries es
-  pub packs : packPolicy es ≡ p
+abbrev pub Entries : List Bytes → Type 0
+Entries es = EntriesUnder maxEntries policyBytes es
 
-pub policyValid-length : (p : Bytes) → policyValid p ≡ true → length p ≡ policyBytes
-unfolding policyValid
-policyValid-length p v = eqb-true (length p) policyBytes (and-left _ _ v)
+-- what packs to p: entries as a valid record has them
+pub record PacksUnder (most bytes : ℕ) (es : List Bytes) (p : Bytes) : Type 0 where
+  pub entries : EntriesUnder most bytes es
+  pub packs : packed bytes 0 es ≡ p
+
+abbrev pub Packs : List Bytes → Bytes → Type 0
+Packs es p = PacksUnder maxEntries policyBytes es p
+
+valid-length : (most bytes : ℕ) (p : Bytes) → validWithin most bytes p ≡ true → length p ≡ bytes
+unfolding validWithin
+valid-length most bytes p v = eqb-true (length p) bytes (and-left _ _ v)
 
 -- a valid record is that of its own entries
-pub policy-entries : (p : Bytes) → policyValid p ≡ true → Packs (entriesOf p) p
-unfolding policyValid
-policy-entries p v =
-    let l = policyValid-length p v in
+pub valid-packs : (most bytes : ℕ) (p : Bytes) → validWithin most bytes p ≡ true → PacksUnder most bytes (entriesOf p) p
+unfolding validWithin
+valid-packs most bytes p v =
+    let l = valid-length most bytes p v in
     let v₁ = and-right _ _ v in
     let v₂ = and-right _ _ v₁ in
     record {
       entries = record {
         formed = entriesOf-formed p;
-        few = leb-true (length (entriesOf p)) maxEntries (and-left _ _ v₁);
+        few = leb-true (length (entriesOf p)) most (and-left _ _ v₁);
         room = omega (arith, sizesSum-flat p, sizesSum-within p);
         apart = and-right _ _ v₂;
       };
       packs = ap (λ (n : ℕ). packed n 0 (entriesOf p)) (sym l) ∙ packed-chunks entryLength entryLength-within 0 p (and-left _ _ v₂);
     }
 
+pub policyValid-length : (p : Bytes) → policyValid p ≡ true → length p ≡ policyBytes
+policyValid-length = valid-length maxEntries policyBytes
+
+pub policy-entries : (p : Bytes) → policyValid p ≡ true → Packs (entriesOf p) p
+policy-entries = valid-packs maxEntries policyBytes
+
 pub pack-entriesOf : (p : Bytes) → policyValid p ≡ true → packPolicy (entriesOf p) ≡ p
 pack-entriesOf p v = policy-entries p v .packs
 
 -- a record of such entries is valid
 pub entries-policy : (es : List Bytes) → Entries es → policyValid (packPolicy es) ≡ true
-unfolding policyValid
+unfolding validWithin
 entries-policy es a =
     let l : length (packPolicy es) ≡ policyBytes = length-packed policyBytes 0 es (a .room) in
     let q = entriesOf-pack es (a .formed) in

@@ -1,6 +1,6 @@
 -- What a state holds, by the tests of the rules and by the propositions of Grounds.antt: soundness, the entries, a variable's record,
 -- and a store's records with one written. Assumes nothing.
-use Prim.Native.Nat.{_+_}
+use Prim.Native.Nat.{ℕ, _+_}
 use mathlib.Core.Path.{_≡_, refl, sym, ap, ap₂, subst, subst⁻¹, _∙_}
 use mathlib.Core.List.{List, [], _∷_, _++_}
 use mathlib.Core.Bool.{Bool, true, false, _||_, cond, or-true, true≢false, false≢true}
@@ -26,7 +26,7 @@ use Rattle.stores.specs.Pair.{allRecords, sound, soundAlone, lookup}
 use Rattle.stores.specs.PairLaws.{sound-nv, sound-vol, sound-distinct, sound-of}
 use Rattle.rules.specs.Set.{exists}
 use Rattle.rules.specs.Engine.{State, entriesLength}
-use Rattle.rules.specs.Grounds.{Not, PolicyEntries, HasEntries, sumOfSizes, StoreRecords, Apart, PairRecords, SoundStores, SoundAlone, RecordOf, Absent, Put}
+use Rattle.rules.specs.Grounds.{Not, EntriesWithin, HasEntries, sumOfSizes, StoreRecords, Apart, PairRecords, SoundStores, SoundAlone, RecordOf, Absent, Put}
 use Rattle.rules.specs.Effects.{Taken}
 use Rattle.rules.specs.ConditionLaws.{Tells, tells-off, off-tells}
 
@@ -96,7 +96,7 @@ packs-records : (b : Bool) (s : Bytes) (rs : List Bytes) → store.Packs b s rs 
 unfolding packed padded
 packs-records b s rs k = record { formed = k .records; small = k .small; room = k .fits; is = sym (k .is) }
 
-pub entries-packs : (p : Bytes) (es : List Bytes) → PolicyEntries p es → policy.Packs es p
+pub entries-packs : {most bytes : ℕ} (p : Bytes) (es : List Bytes) → EntriesWithin most bytes p es → policy.PacksUnder most bytes es p
 unfolding packed padded
 entries-packs p es k =
     record {
@@ -104,7 +104,7 @@ entries-packs p es k =
       packs = sym (k .is);
     }
 
-pub packs-entries : (p : Bytes) (es : List Bytes) → policy.Packs es p → PolicyEntries p es
+pub packs-entries : {most bytes : ℕ} (p : Bytes) (es : List Bytes) → policy.PacksUnder most bytes es p → EntriesWithin most bytes p es
 unfolding packed padded
 packs-entries p es k =
     record {
