@@ -308,7 +308,9 @@ varpolicy_read (
   attributes are not compared. With APPEND the payload is joined to the stored one or, unless it is
   empty, creates the variable. MinSize and MaxSize measure the payload as it would be afterwards. The
   entry chosen for a variable is the one with the fewest '#' among those that target it, the first
-  registered among equals, and a whole-namespace entry only if there is no other.
+  registered among equals, and a whole-namespace entry only if there is no other. '#' in an entry's
+  name stands for a hex digit (0-9, A-F, a-f) and nothing else, so a variable with '#' in its own name
+  is targeted by whole-namespace entries alone.
 
   @param[in,out] nv                  The non-volatile store.
   @param[in]     nv_len              Its length.

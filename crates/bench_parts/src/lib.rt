@@ -48,14 +48,15 @@ pub extern "C" fn bench_check_policy(policy: &[u8]) -> Numbers
 pub extern "C" fn bench_choose(policy: &[u8], namespace: &[u8; 16], name: &[u8]) -> Numbers
     ensures { λ r. ⌜ r ≡ chosenIn (now (policy .entry)) (variable (now (namespace .entry)) (now (name .entry))) ⌝ }
 {
-    let checked = policy::check(policy);
+    let mut ends = policy::no_ends();
+    let checked = policy::check_noting(policy, &mut ends);
     let PolicyCheck::Valid { count, used: _ } = checked else {
         return answer(0, 0, 0);
     };
     if name.len() == 0 {
         return answer(0, 0, 0);
     }
-    let choice = policy::choose(policy, count, namespace, name);
+    let choice = policy::choose(policy, count, &ends, namespace, name);
     match choice {
         Choice::Chosen { index: _, at, rank } => answer(1, at, rank),
         Choice::Nothing => answer(0, 0, 0),

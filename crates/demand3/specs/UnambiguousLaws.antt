@@ -9,7 +9,7 @@ use mathlib.Core.Bool.{Bool, true, false, _||_, false≢true}
 use mathlib.Core.Logic.{_⊎_, inl, inr}
 use native.Mathlib.Omega.{arith}
 use lib.ListN.{length}
-use borrow.Author.Tests.{eq-eqb, eqb-true}
+use borrow.Author.Tests.{eq-eqb}
 use Rattle.limits.specs.Limits.{namespaceBytes, wholeNamespaceRank}
 use Rattle.lists.specs.Lists.{All, nil, more, Pairs, RanksDiffer}
 use Rattle.lists.specs.ListsLaws.{all-here, all-rest, all-map}
@@ -19,7 +19,7 @@ use Rattle.slices.specs.Bytes.{Bytes, AreBytes, pairwise}
 use Rattle.slices.specs.BytesLaws.{pairwise-length, same-eq}
 use Rattle.slices.specs.PartLaws.{bytes-part}
 use Rattle.names.specs.Name.{Variable, units, noZero, isName, named, unitMatches}
-use Rattle.names.specs.NameLaws.{isName-length, named-namespace, named-name, units-length, wildcards-le, unit-cases}
+use Rattle.names.specs.NameLaws.{isName-length, isName-even, named-namespace, named-name, units-length, wildcards-le, unit-cases}
 use Rattle.entry.specs.Entry.{offsetToName, namespaceOf, nameIsEmpty, nameOf, targets, rank}
 use Rattle.history.specs.History.{Unambiguous}
 use Rattle.demand3.specs.Machine.{machine}
@@ -83,10 +83,6 @@ spell (a ∷ b ∷ p) (c ∷ d ∷ s) (more ha (more hb h)) e m =
 abbrev respelled : Variable → Bytes → Variable
 respelled v name = record { namespace = v .namespace; name = name }
 
-name-even : (s : Bytes) → isName s ≡ true → length s % 2 ≡ 0
-unfolding isName
-name-even s h = eqb-true _ _ (and-left _ _ h)
-
 named-respelled : (v : Variable) (r : Spelled (v .name)) → named (respelled v (r .bytes)) ≡ named v
 unfolding named isName
 named-respelled v r = rw (r .sameUnits, r .sameLength)
@@ -124,7 +120,7 @@ module _ (e f : Bytes) (v : Variable) (h : AreBytes e) (n : named v ≡ true) (p
   unfolding targets
   by-name z =
       let m : pairwise unitMatches (units (nameOf e)) (units (v .name)) ≡ true = rw z at (and-right _ _ p) in
-      let r = spell (nameOf e) (v .name) (bytes-name e h) (name-even (v .name) (named-name v n)) m in
+      let r = spell (nameOf e) (v .name) (bytes-name e h) (isName-even (v .name) (named-name v n)) m in
       differ (respelled v (r .bytes)) (record { namespace = namespace-bytes; name = r .areBytes; taken = named-respelled v r ∙ n })
       (targets-respelled e v r ∙ p) (targets-respelled f v r ∙ q) k
 

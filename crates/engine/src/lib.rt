@@ -314,7 +314,8 @@ pub fn set(
     let PairCheck::Sound(ends) = checked else {
         return Status::VolumeCorrupted;
     };
-    let entries = policy::check(policy);
+    let mut entry_ends = policy::no_ends();
+    let entries = policy::check_noting(policy, &mut entry_ends);
     let PolicyCheck::Valid { count, used: _ } = entries else {
         return Status::VolumeCorrupted;
     };
@@ -322,6 +323,7 @@ pub fn set(
     let known = Known { ends, count, place };
     let decided = set::decide(
         policy,
+        &entry_ends,
         switches.enabled,
         nv,
         vol,

@@ -1,8 +1,8 @@
 -- Laws of well-formed entries. Assumes nothing.
-use Prim.Native.Nat.{ℕ, _+_, _-_, _≤_}
-use mathlib.Core.Path.{_≡_, refl, sym, ap, ap₂}
+use Prim.Native.Nat.{ℕ, _+_, _-_, _%_, _≤_}
+use mathlib.Core.Path.{_≡_, refl, sym, ap, ap₂, _∙_}
 use mathlib.Core.List.{[]}
-use mathlib.Core.Bool.{Bool, true, false, cond, _||_}
+use mathlib.Core.Bool.{Bool, true, false, cond, _||_, false≢true}
 use mathlib.Core.Logic.{_⊎_, inl, inr}
 use native.Mathlib.Omega.{arith}
 use native.Mathlib.Nat.{le-refl}
@@ -10,15 +10,16 @@ use lib.ListN.{length, take, drop, length-drop}
 use lib.Seq.{take-take}
 use lib.Dec.{eqb, leb}
 use borrow.Author.Tests.{eq-eqb, ne-eqb, leb-true, eqb-true}
+use Rattle.lists.specs.Lists.{Among}
 use Rattle.limits.specs.Limits.{maxNameBytes, maxNameSize, wholeNamespaceRank, entryHeader, triggerNameAt, maxEntryBytes}
 use Rattle.slices.specs.Test.{_and_}
 use Rattle.slices.specs.TestLaws.{and-left, and-right, and-intro}
 use Rattle.slices.specs.Bytes.{Bytes, part, same}
 use Rattle.slices.specs.BytesLaws.{same-eq, same-sym, same-of}
 use Rattle.slices.specs.PartLaws.{length-part, part-none, part-rest}
-use Rattle.names.specs.Name.{isName, isTerminated, units, wildcards}
-use Rattle.names.specs.NameLaws.{isName-length, isTerminated-length, isTerminated-name, units-length, wildcards-le}
-use Rattle.entry.specs.Entry.{headerOk, lockOk, nameOk, wellFormed, sizeField, offsetToName, lockPolicyType, nameIsEmpty, nameOf, namespaceOf, rank, sameTarget}
+use Rattle.names.specs.Name.{isName, isTerminated, units, Variable, numberSign, matches, wildcards}
+use Rattle.names.specs.NameLaws.{isName-length, isName-even, isTerminated-length, isTerminated-name, units-length, wildcards-le, sign-in-name}
+use Rattle.entry.specs.Entry.{headerOk, lockOk, nameOk, wellFormed, sizeField, offsetToName, lockPolicyType, nameIsEmpty, nameOf, namespaceOf, targets, rank, sameTarget}
 
 -- ---- lengths and places
 pub record Sized (e : Bytes) : Type 0 where
@@ -94,6 +95,18 @@ nameOf-none e w = go (nameIsEmpty e) refl
     go true q = sym (eq-eqb _ 0 (ap length (part-none (offsetToName e) (length e - 2) e (omega (arith, eqb-true (offsetToName e) (length e) q)))))
     go false q = sym (ne-eqb (length (part (offsetToName e) (length e - 2) e)) 0 (λ z. omega (arith, name-least e w q, length-part (offsetToName e) (length e - 2) e (omega arith))))
 
+-- a name that is not empty and its zero unit go to the entry's end
+pub nameOf-closed : (e : Bytes) → wellFormed e ≡ true → nameIsEmpty e ≡ false → length (nameOf e) + 2 ≡ length e - offsetToName e
+unfolding nameOf
+nameOf-closed e w q = omega (arith, name-least e w q, length-part (offsetToName e) (length e - 2) e (omega arith))
+
+pub nameOf-even : (e : Bytes) → wellFormed e ≡ true → length (nameOf e) % 2 ≡ 0
+nameOf-even e w = go (nameOf-name e w)
+  where
+    go : (nameOf e ≡ []) ⊎ (isName (nameOf e) ≡ true) → length (nameOf e) % 2 ≡ 0
+    go (inl h) = rw h
+    go (inr h) = isName-even (nameOf e) h
+
 pub nameOf-most : (e : Bytes) → wellFormed e ≡ true → length (nameOf e) ≤ maxNameBytes
 nameOf-most e w = go (nameOf-name e w)
   where
@@ -109,6 +122,15 @@ rank-most e w = go (nameIsEmpty e)
     go : (t : Bool) → cond t wholeNamespaceRank (wildcards (units (nameOf e))) ≤ wholeNamespaceRank
     go true = omega arith
     go false = omega (arith, wildcards-le (units (nameOf e)), units-length (nameOf e), nameOf-most e w)
+
+-- A VARIABLE WITH '#' IN ITS NAME IS TARGETED BY NO ENTRY WITH A NAME, only by one for its whole namespace
+pub guarded-by-namespace : (e : Bytes) (v : Variable) → Among numberSign (units (v .name)) → targets e v ≡ true → nameIsEmpty e ≡ true
+unfolding targets
+guarded-by-namespace e v h t = go (nameIsEmpty e) (and-right _ _ t)
+  where
+    go : (b : Bool) → (b || matches (units (nameOf e)) (units (v .name))) ≡ true → b ≡ true
+    go true k = refl
+    go false k = absurd (false≢true (sym (sign-in-name (units (nameOf e)) (units (v .name)) h) ∙ k))
 
 -- ---- the trigger of a type 3 entry
 module _ (e : Bytes) (w : wellFormed e ≡ true) (q : leb (lockPolicyType e) 2 ≡ false) where

@@ -2,7 +2,7 @@
 -- Assumes nothing: these are definitions.
 use Prim.Native.Nat.{ℕ, _+_, _-_, _*_, _%_}
 use mathlib.Core.List.{List, [], _∷_}
-use mathlib.Core.Bool.{Bool, true, false, not, _||_}
+use mathlib.Core.Bool.{Bool, true, false, not, _||_, cond}
 use lib.ListN.{length, getD, take}
 use lib.Dec.{eqb, leb}
 use Rattle.limits.specs.Limits.{maxNameBytes, namespaceBytes}
@@ -57,9 +57,9 @@ hexDigits =
     ∷ 0x41 ∷ 0x42 ∷ 0x43 ∷ 0x44 ∷ 0x45 ∷ 0x46
     ∷ 0x61 ∷ 0x62 ∷ 0x63 ∷ 0x64 ∷ 0x65 ∷ 0x66 ∷ []
 
--- one unit of an entry's name against one of a variable's: equal, or '#' over a hex digit
+-- one unit of an entry's name against one of a variable's: '#' matches a hex digit and nothing else, any other unit itself
 unfoldable pub unitMatches : ℕ → ℕ → Bool
-unitMatches p u = eqb p u || eqb p numberSign and isHexDigit u
+unitMatches p u = cond (eqb p numberSign) (isHexDigit u) (eqb p u)
 
 -- an entry's name against a variable's: as many units, each matching
 abbrev pub matches : List ℕ → List ℕ → Bool

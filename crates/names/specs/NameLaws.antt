@@ -1,24 +1,22 @@
 -- Laws of names, which proofs cite instead of the definitions' text. Assumes nothing.
-use Prim.Native.Nat.{ℕ, zero, suc, _+_, _-_, _*_, _/_, _≤_, _<_}
+use Prim.Native.Nat.{ℕ, zero, suc, _+_, _-_, _*_, _/_, _%_, _≤_, _<_}
 use mathlib.Core.Path.{_≡_, refl, sym, ap, ap₂, _∙_}
 use mathlib.Core.List.{List, [], _∷_, _++_}
-use mathlib.Core.Bool.{Bool, true, false, not, _||_, _&&_, false≢true}
+use mathlib.Core.Bool.{Bool, true, false, not, _||_, _&&_, cond, false≢true}
 use mathlib.Core.Logic.{_↔_, _⊎_, inl, inr}
 use native.Mathlib.Omega.{arith}
-use native.Mathlib.Nat.{add-zero}
-use native.Mathlib.Numerals.{add-one}
 use lib.ListN.{length, getD, take, drop, drop-of-length-le, length-append, length-drop, length-take, take-append-drop}
-use lib.Seq.{drop-cons, getD-append-add, getD-append-seam, take-append-seam}
+use lib.Seq.{getD-append-add, getD-append-seam, take-append-seam}
 use lib.Dec.{eqb, leb}
 use borrow.Author.Tests.{eq-eqb, ne-eqb, le-leb, leb-true, eqb-true, eqb-false}
 use Rattle.limits.specs.Limits.{maxNameBytes, namespaceBytes}
 use Rattle.lists.specs.Lists.{All, nil, more, Among}
 use Rattle.lists.specs.ListsLaws.{all-among, among-left, among-right}
 use Rattle.slices.specs.Test.{_and_}
-use Rattle.slices.specs.TestLaws.{or-cases, and-left, and-right, and-intro, and-assoc, and-eager}
+use Rattle.slices.specs.TestLaws.{or-cases, and-left, and-right, and-intro, and-no, and-off, and-assoc, and-eager}
 use Rattle.slices.specs.Bytes.{Bytes, le16, pairwise}
-use Rattle.slices.specs.BytesLaws.{pairwise-hit, same-eq}
-use Rattle.slices.specs.PartLaws.{drop-step, getD-middle}
+use Rattle.slices.specs.BytesLaws.{pairwise-later, same-eq, same-of}
+use Rattle.slices.specs.PartLaws.{drop-step}
 use Rattle.names.specs.Name.{units, noZero, isName, isTerminated, Variable, named, hexDigits, isHexDigit, unitMatches, wildcards, numberSign, oneIf}
 
 pub units-length : (s : Bytes) → length (units s) ≡ length s / 2
@@ -38,13 +36,29 @@ units-at (a ∷ b ∷ rest) (suc k) h =
     let e₁ : 2 * suc k + 1 ≡ suc (suc (2 * k + 1)) = omega arith in
     rw (e₁, e) (units-at rest k (omega arith))
 
+-- the bytes of the whole units have all the units
+pub units-whole : (k : ℕ) (s : Bytes) → k ≡ length (units s) → units (take (2 * k) s) ≡ units s
+unfolding units
+units-whole zero [] e = refl
+units-whole zero (a ∷ []) e = refl
+units-whole zero (a ∷ b ∷ s) e = absurd (omega arith)
+units-whole (suc k) [] e = absurd (omega arith)
+units-whole (suc k) (a ∷ []) e = absurd (omega arith)
+units-whole (suc k) (a ∷ b ∷ s) e =
+    let n : 2 * suc k ≡ suc (suc (2 * k)) = omega arith in
+    rw (n, units-whole k s (omega arith))
+
 -- one turn of a loop over the bytes of the units
 module _ (s : Bytes) (i : ℕ) (h : i + 2 ≤ length s) where
-  pub noZero-step : noZero (units (drop i s)) ≡ (not (eqb (le16 s i) 0) and noZero (units (drop (i + 2) s)))
-  unfolding units noZero le16
-  noZero-step =
+  units-step : units (drop i s) ≡ le16 s i ∷ units (drop (i + 2) s)
+  unfolding units le16
+  units-step =
       let e : i + 1 + 1 ≡ i + 2 = omega arith in
       rw (drop-step s i (omega arith), drop-step s (i + 1) (omega arith), e)
+
+  noZero-step : noZero (units (drop i s)) ≡ (not (eqb (le16 s i) 0) and noZero (units (drop (i + 2) s)))
+  unfolding noZero
+  noZero-step = rw units-step
 
   pub noZero-hit : le16 s i ≡ 0 → noZero (units (drop i s)) ≡ false
   unfolding _and_
@@ -61,29 +75,34 @@ noZero-more ok s i j h e v =
     let n : i + (j + 2) ≡ i + j + 2 = omega arith in
     e ∙ rw (v, n, and-eager, noZero-step s (i + j) h) (sym (and-assoc ok (not (eqb (le16 s (i + j)) 0)) (noZero (units (drop (i + j + 2) s)))))
 
-pub noZero-end : (s : Bytes) (i : ℕ) → length s < i + 2 → noZero (units (drop i s)) ≡ true
-unfolding units noZero
-noZero-end s i h = go (drop i s) (omega (arith, length-drop i s))
+-- no whole unit is left
+units-end : (s : Bytes) (i : ℕ) → length s < i + 2 → units (drop i s) ≡ []
+unfolding units
+units-end s i h = go (drop i s) (omega (arith, length-drop i s))
   where
-    go : (t : Bytes) → length t < 2 → noZero (units t) ≡ true
+    go : (t : Bytes) → length t < 2 → units t ≡ []
     go [] k = refl
     go (a ∷ []) k = refl
     go (a ∷ b ∷ t) k = absurd (omega arith)
 
--- one turn of a loop over the units
-pub wildcards-step : (us : List ℕ) (k : ℕ) → k < length us → wildcards (drop k us) ≡ oneIf (eqb (getD us k 0) numberSign) + wildcards (drop (k + 1) us)
+pub noZero-end : (s : Bytes) (i : ℕ) → length s < i + 2 → noZero (units (drop i s)) ≡ true
+unfolding noZero
+noZero-end s i h = rw (units-end s i h)
+
+module _ (s : Bytes) (i : ℕ) (h : i + 2 ≤ length s) where
+  wildcards-step : wildcards (units (drop i s)) ≡ oneIf (eqb (le16 s i) numberSign) + wildcards (units (drop (i + 2) s))
+  unfolding wildcards
+  wildcards-step = rw (units-step s i h)
+
+  pub wildcards-hit : le16 s i ≡ numberSign → wildcards (units (drop i s)) ≡ 1 + wildcards (units (drop (i + 2) s))
+  wildcards-hit e = wildcards-step ∙ rw (eq-eqb (le16 s i) numberSign e)
+
+  pub wildcards-miss : (le16 s i ≡ numberSign → ⊥) → wildcards (units (drop i s)) ≡ wildcards (units (drop (i + 2) s))
+  wildcards-miss e = wildcards-step ∙ rw (ne-eqb (le16 s i) numberSign e) (omega arith)
+
+pub wildcards-end : (s : Bytes) (i : ℕ) → length s < i + 2 → wildcards (units (drop i s)) ≡ 0
 unfolding wildcards
-wildcards-step us k h = rw (add-one, drop-cons us k 0)
-
-pub wildcards-end : (us : List ℕ) (k : ℕ) → length us ≤ k → wildcards (drop k us) ≡ 0
-unfolding wildcards
-wildcards-end us k h = rw drop-of-length-le
-
-pub wildcards-hit : (us : List ℕ) (k : ℕ) → k < length us → getD us k 0 ≡ numberSign → wildcards (drop k us) ≡ 1 + wildcards (drop (k + 1) us)
-wildcards-hit us k h e = wildcards-step us k h ∙ rw (eq-eqb (getD us k 0) numberSign e)
-
-pub wildcards-miss : (us : List ℕ) (k : ℕ) → k < length us → (getD us k 0 ≡ numberSign → ⊥) → wildcards (drop k us) ≡ wildcards (drop (k + 1) us)
-wildcards-miss us k h e = wildcards-step us k h ∙ rw (ne-eqb (getD us k 0) numberSign e) (omega arith)
+wildcards-end s i h = rw (units-end s i h)
 
 -- no more '#' than units
 pub wildcards-le : (us : List ℕ) → wildcards us ≤ length us
@@ -102,6 +121,10 @@ unfolding isName
 isName-length s e =
     let e₁ = and-right _ _ e in
     (leb-true 2 (length s) (and-left _ _ e₁), leb-true (length s) maxNameBytes (and-left _ _ (and-right _ _ e₁)))
+
+pub isName-even : (s : Bytes) → isName s ≡ true → length s % 2 ≡ 0
+unfolding isName
+isName-even s e = eqb-true _ _ (and-left _ _ e)
 
 -- a terminated name is a name and two bytes more
 pub isTerminated-name : (s : Bytes) → isTerminated s ≡ true → isName (take (length s - 2) s) ≡ true
@@ -146,11 +169,6 @@ named-namespace v e = eqb-true _ _ (and-left _ _ e)
 pub named-name : (v : Variable) → named v ≡ true → isName (v .name) ≡ true
 unfolding named
 named-name v e = and-right _ _ e
-
--- equal units match, '#' or not
-unitMatches-same : (u w : ℕ) → u ≡ w → unitMatches u w ≡ true
-unfolding unitMatches
-unitMatches-same u w e = rw (eq-eqb u w e)
 
 -- ---- which units are hex digits
 
@@ -205,33 +223,148 @@ hex-small u h = go (or-cases (leb 0x30 u and leb u 0x39) (leb 0x41 u and leb u 0
     go (inl k) = omega (arith, leb-true u 0x39 (and-right _ _ k))
     go (inr k) = letter (or-cases (leb 0x41 u and leb u 0x46) (leb 0x61 u and leb u 0x66) k)
 
+-- ---- what '#' and other units match
+
+-- '#' MATCHES EXACTLY THE 22 HEX DIGITS
+pub sign-matches : (u : ℕ) → unitMatches numberSign u ≡ true ↔ Among u hexDigits
+unfolding unitMatches
+sign-matches u = hex-digits u
+
+plain-unit : (p u : ℕ) → eqb p numberSign ≡ false → unitMatches p u ≡ eqb p u
+unfolding unitMatches
+plain-unit p u h = rw h
+
+-- no unit matches '#'
+unit-over-sign : (p : ℕ) → unitMatches p numberSign ≡ false
+unfolding unitMatches isHexDigit _and_
+unit-over-sign p = go (eqb p numberSign)
+  where
+    go : (b : Bool) → cond b false b ≡ false
+    go true = refl
+    go false = refl
+
+plain-same : (ps us : List ℕ) → wildcards ps ≡ 0 → pairwise unitMatches ps us ≡ pairwise eqb ps us
+unfolding pairwise wildcards
+plain-same [] [] h = refl
+plain-same [] (u ∷ us) h = refl
+plain-same (p ∷ ps) [] h = refl
+plain-same (p ∷ ps) (u ∷ us) h = go (eqb p numberSign) refl h (plain-same ps us)
+  where
+    go : (b : Bool) → eqb p numberSign ≡ b → oneIf b + wildcards ps ≡ 0 → (wildcards ps ≡ 0 → pairwise unitMatches ps us ≡ pairwise eqb ps us)
+        → (unitMatches p u and pairwise unitMatches ps us) ≡ (eqb p u and pairwise eqb ps us)
+    go true e z f = absurd (omega arith)
+    go false e z f = ap₂ _and_ (plain-unit p u e) (f (omega arith))
+
+-- A PATTERN WITHOUT '#' MATCHES EXACTLY THE NAME THAT IS SPELLED LIKE IT
+pub plain-matches : (ps us : List ℕ) → wildcards ps ≡ 0 → pairwise unitMatches ps us ≡ true ↔ ps ≡ us
+plain-matches ps us h = ((λ e. same-eq ps us (sym (plain-same ps us h) ∙ e)), λ e. plain-same ps us h ∙ same-of ps us e)
+
+-- A NAME WITH '#' IS MATCHED BY NO PATTERN
+pub sign-in-name : (ps us : List ℕ) → Among numberSign us → pairwise unitMatches ps us ≡ false
+unfolding pairwise
+sign-in-name [] (u ∷ us) h = refl
+sign-in-name (p ∷ ps) (u ∷ us) (inl e) = rw (← e, unit-over-sign p) (and-off (pairwise unitMatches ps us))
+sign-in-name (p ∷ ps) (u ∷ us) (inr h) = rw (sign-in-name ps us h) (and-no (unitMatches p u))
+
 -- a unit that an entry's unit matches is that unit, or a hex digit
 pub unit-cases : (p u : ℕ) → unitMatches p u ≡ true → (p ≡ u) ⊎ (u < 256)
 unfolding unitMatches
-unit-cases p u h = go (or-cases (eqb p u) (eqb p numberSign and isHexDigit u) h)
+unit-cases p u h = go (eqb p numberSign) h
   where
-    go : (eqb p u ≡ true) ⊎ ((eqb p numberSign and isHexDigit u) ≡ true) → (p ≡ u) ⊎ (u < 256)
-    go (inl k) = inl (eqb-true p u k)
-    go (inr k) = inr (hex-small u (and-right _ _ k))
+    go : (b : Bool) → cond b (isHexDigit u) (eqb p u) ≡ true → (p ≡ u) ⊎ (u < 256)
+    go true k = inr (hex-small u k)
+    go false k = inl (eqb-true p u k)
 
--- r is the comparison of the eight bytes of the four units from k on: equal units match
-module _ {r : Bool} (p v : Bytes) (k : ℕ) (h : k + 4 ≤ length (units p)) (g : k + 4 ≤ length (units v)) (e : r ≡ pairwise eqb (take 8 (drop (2 * k) p)) (take 8 (drop (2 * k) v)))
-    (t : r ≡ true) where
-  same-unit : (j : ℕ) → j < 4 → getD (units p) (k + j) 0 ≡ getD (units v) (k + j) 0
-  same-unit j n =
-      let low : 2 * k + 2 * j ≡ 2 * (k + j) = omega arith in
-      let high : 2 * k + (2 * j + 1) ≡ 2 * (k + j) + 1 = omega arith in
-      let at : (i : ℕ) → i < 8 → getD p (2 * k + i) 0 ≡ getD v (2 * k + i) 0 = λ i m.
-      sym (getD-middle p (2 * k) 8 i m) ∙ ap (λ (l : Bytes). getD l i 0) (same-eq _ _ (sym e ∙ t)) ∙ getD-middle v (2 * k) 8 i m in
-      units-at p (k + j) (omega (arith, units-length p))
-      ∙ ap₂ (λ (a b : ℕ). a + 256 * b) (rw low at (at (2 * j) (omega arith))) (rw high at (at (2 * j + 1) (omega arith)))
-      ∙ sym (units-at v (k + j) (omega (arith, units-length v)))
+-- ---- the comparison, as loops make it
 
-  same-units : (j : ℕ) → j ≤ 4 → pairwise unitMatches (drop k (units p)) (drop k (units v)) ≡ pairwise unitMatches (drop (k + j) (units p)) (drop (k + j) (units v))
-  same-units zero n = rw add-zero
-  same-units (suc j) n =
-      let m : k + suc j ≡ k + j + 1 = omega arith in
-      same-units j (omega arith) ∙ rw m (pairwise-hit unitMatches (units p) (units v) (k + j) (omega arith) (omega arith) (unitMatches-same _ _ (same-unit j (omega arith))))
+-- the code's tests of a unit
+pub unit-tests : (p u : ℕ) → ((eqb p u && not (eqb p numberSign)) || (eqb p numberSign && isHexDigit u)) ≡ unitMatches p u
+unfolding unitMatches
+unit-tests p u = go (eqb p numberSign) (eqb p u)
+  where
+    go : (s b : Bool) → ((b && not s) || (s && isHexDigit u)) ≡ cond s (isHexDigit u) b
+    go true true = refl
+    go true false = refl
+    go false true = refl
+    go false false = refl
 
-  pub matches-eight : pairwise unitMatches (drop k (units p)) (drop k (units v)) ≡ pairwise unitMatches (drop (k + 4) (units p)) (drop (k + 4) (units v))
-  matches-eight = same-units 4 (omega arith)
+-- units that match are equal, or the pattern's is '#'
+pub unit-nears : (p u : ℕ) → unitMatches p u ≡ true → (eqb p u || eqb p numberSign) ≡ true
+unfolding unitMatches
+unit-nears p u h = go (eqb p numberSign) (eqb p u) h
+  where
+    go : (s b : Bool) → cond s (isHexDigit u) b ≡ true → (b || s) ≡ true
+    go true true k = refl
+    go true false k = refl
+    go false b k = rw k
+
+-- the comparison from byte i on
+abbrev pub matchesFrom : Bytes → Bytes → ℕ → Bool
+matchesFrom p v i = pairwise unitMatches (units (drop i p)) (units (drop i v))
+
+-- one turn of a loop over the bytes of both, where a and b are the units from byte i on
+module _ (p v : Bytes) (i : ℕ) (h : i + 2 ≤ length p) (g : i + 2 ≤ length v) {a b : ℕ} (ea : a ≡ le16 p i) (eb : b ≡ le16 v i) where
+  matches-step : matchesFrom p v i ≡ (unitMatches a b and matchesFrom p v (i + 2))
+  unfolding pairwise
+  matches-step = rw (units-step p i h, units-step v i g, ea, eb)
+
+  pub matches-hit : unitMatches a b ≡ true → matchesFrom p v i ≡ matchesFrom p v (i + 2)
+  unfolding _and_
+  matches-hit e = matches-step ∙ rw e
+
+  pub matches-miss : unitMatches a b ≡ false → matchesFrom p v i ≡ false
+  unfolding _and_
+  matches-miss e = matches-step ∙ rw e
+
+  pub matches-first : matchesFrom p v i ≡ true → unitMatches a b ≡ true
+  matches-first e = and-left _ _ (sym matches-step ∙ e)
+
+-- no whole unit is left of either
+pub matches-end : (p v : Bytes) (i : ℕ) → length p < i + 2 → length v < i + 2 → matchesFrom p v i ≡ true
+unfolding pairwise
+matches-end p v i h g = rw (units-end p i h, units-end v i g)
+
+-- one turn of a loop that goes on to its end, j bytes behind i
+module _ (p v : Bytes) (i j : ℕ) (h : i + j + 2 ≤ length p) (g : i + j + 2 ≤ length v) {a b : ℕ} (ea : a ≡ le16 p (i + j)) (eb : b ≡ le16 v (i + j)) where
+  behind : i + (j + 2) ≡ i + j + 2
+  behind = omega arith
+
+  pub matches-more : {x r : Bool} (ok : Bool) → x ≡ (ok and matchesFrom p v (i + j)) → r ≡ unitMatches a b → x ≡ ((ok && r) and matchesFrom p v (i + (j + 2)))
+  matches-more ok e q =
+      e ∙ rw (q, behind, and-eager, matches-step p v (i + j) h g ea eb) (sym (and-assoc ok (unitMatches a b) (matchesFrom p v (i + j + 2))))
+
+  -- a unit that is the same in both, and no '#'
+  pub matches-plain : {x : Bool} (ok : Bool) → (ok ≡ true → x ≡ matchesFrom p v (i + j)) → (ok && (eqb a b && not (eqb a numberSign))) ≡ true
+      → x ≡ matchesFrom p v (i + (j + 2))
+  matches-plain true f e = f refl ∙ matches-hit p v (i + j) h g ea eb (plain (eqb a b) (eqb a numberSign) refl refl e) ∙ rw behind
+    where
+      plain : (s t : Bool) → eqb a b ≡ s → eqb a numberSign ≡ t → (s && not t) ≡ true → unitMatches a b ≡ true
+      plain true false y z k = plain-unit a b z ∙ y
+      plain true true y z k = absurd (false≢true k)
+      plain false t y z k = absurd (false≢true k)
+  matches-plain false f e = absurd (false≢true e)
+
+  -- what holds as long as all before match
+  pub matches-near : {x r : Bool} (ok : Bool) → (x ≡ true → (ok ≡ true) × (matchesFrom p v (i + j) ≡ true)) → (unitMatches a b ≡ true → r ≡ true)
+      → x ≡ true → ((ok && r) ≡ true) × (matchesFrom p v (i + (j + 2)) ≡ true)
+  matches-near {x} {r} ok f q t =
+      let m : (unitMatches a b and matchesFrom p v (i + j + 2)) ≡ true = sym (matches-step p v (i + j) h g ea eb) ∙ f t .1 in
+      (and-eager ok r ∙ and-intro ok r (f t .0) (q (and-left _ _ m)), rw behind (and-right _ _ m))
+
+units-later : (k : ℕ) (s : Bytes) → units (drop (2 * k) s) ≡ drop k (units s)
+unfolding units
+units-later zero s = refl
+units-later (suc k) [] = let n : 2 * suc k ≡ suc (suc (2 * k)) = omega arith in rw n
+units-later (suc k) (a ∷ []) = let n : 2 * suc k ≡ suc (suc (2 * k)) = omega arith in rw n
+units-later (suc k) (a ∷ b ∷ s) = let n : 2 * suc k ≡ suc (suc (2 * k)) = omega arith in rw n (units-later k s)
+
+-- names that match do so from each later unit on
+pub matches-later : (k : ℕ) (p v : Bytes) → pairwise unitMatches (units p) (units v) ≡ true
+    → pairwise unitMatches (units (drop (2 * k) p)) (units (drop (2 * k) v)) ≡ true
+matches-later k p v e = rw (units-later k p, units-later k v) (pairwise-later unitMatches k (units p) (units v) e)
+
+-- and in their last n bytes, if they are as long as each other and of whole units
+pub matches-last : (p v : Bytes) → length v % 2 ≡ 0 → pairwise unitMatches (units p) (units v) ≡ true → (n : ℕ) → n ≤ length v → n % 2 ≡ 0 → matchesFrom p v (length v - n) ≡ true
+matches-last p v even m n h e =
+    let k : 2 * ((length v - n) / 2) ≡ length v - n = omega arith in
+    rw k at (matches-later ((length v - n) / 2) p v m)

@@ -1,10 +1,12 @@
 // Names of variables, entries and triggers: bytes of 16-bit little-endian units.
 ghost use mathlib.Core.Path.{_≡_};
-ghost use Prim.Native.Nat.{_+_, _≤_};
-ghost use lib.ListN.{length, getD, drop};
+ghost use mathlib.Core.Bool.{true};
+ghost use Prim.Native.Nat.{_+_, _%_, _≤_, _<_};
+ghost use lib.ListN.{length, drop};
 ghost use Rattle.limits.specs.Limits.{namespaceBytes};
 ghost use Rattle.slices.specs.Test.{_and_};
-ghost use Rattle.slices.specs.Bytes.{same};
+ghost use Rattle.slices.specs.Bytes.{le16, same};
+ghost use Rattle.names.specs.Tail.{unitMask, maskAt, TailOf};
 ghost use Rattle.names.specs.Name.{units, noZero, isName, isTerminated, isHexDigit, unitMatches, matches, wildcards};
 
 // The number of whole units.
@@ -14,17 +16,14 @@ fn unit_count(s: &[u8]) -> usize
     s.len() / 2
 }
 
-// The unit at index k, and 0 past the end.
-pub fn unit_at(s: &[u8], k: usize) -> u16
-    ensures { λ r. ⌜ r ≡ getD (units (now (s .entry))) k 0 ⌝ }
+// The unit from byte i on.
+fn unit(s: &[u8], i: usize) -> u16
+    requires { ⌜ i + 2 ≤ length (now s) ⌝ }
+    ensures { λ r. ⌜ r ≡ le16 (now (s .entry)) i ⌝ }
 {
-    if k < s.len() / 2 {
-        let low = s[2 * k] as u16;
-        let high = s[2 * k + 1] as u16;
-        low + 256 * high
-    } else {
-        0
-    }
+    let low = s[i] as u16;
+    let high = s[i + 1] as u16;
+    low + 256 * high
 }
 
 // Whether none of the eight units from byte i on is zero. No exit before the end: it is compiled to one wide compare.
@@ -103,85 +102,206 @@ pub fn is_terminated(s: &[u8]) -> bool
     is_name(&s[..n - 2])
 }
 
-// Whether the unit is a hex digit: 0 to 9, A to F or a to f.
+// Whether the unit is a hex digit: 0 to 9, A to F or a to f. Without a branch, so that eight units are tested at once.
 pub fn is_hex_digit(u: u16) -> bool
     ensures { λ r. ⌜ r ≡ isHexDigit u ⌝ }
 {
-    if u < 0x30 {
-        return false;
-    }
-    if u <= 0x39 {
-        return true;
-    }
-    if u < 0x41 {
-        return false;
-    }
-    if u <= 0x46 {
-        return true;
-    }
-    if u < 0x61 {
-        return false;
-    }
-    u <= 0x66
+    let digit = (0x30 <= u) & (u <= 0x39);
+    let upper = (0x41 <= u) & (u <= 0x46);
+    let lower = (0x61 <= u) & (u <= 0x66);
+    digit | (upper | lower)
 }
 
-// One unit of an entry's name against one of a variable's: equal, or '#' over a hex digit.
+// One unit of an entry's name against one of a variable's: '#' over a hex digit, or another unit over itself.
 pub fn unit_matches(p: u16, u: u16) -> bool
     ensures { λ r. ⌜ r ≡ unitMatches p u ⌝ }
 {
-    if p == u {
-        return true;
-    }
-    if p == 0x23 {
-        return is_hex_digit(u);
-    }
-    false
+    let itself = (p == u) & (p != 0x23);
+    let wildcard = (p == 0x23) & is_hex_digit(u);
+    itself | wildcard
 }
 
-// Whether the units from one index up to another match.
-fn units_match(p: &[u8], v: &[u8], from: usize, to: usize) -> bool
-    requires { ⌜ (from ≤ to) × (to ≤ length (units (now p))) × (to ≤ length (units (now v))) ⌝ }
-    ensures { λ r. ⌜ matches (drop from (units (now (p .entry)))) (drop from (units (now (v .entry))))
-        ≡ (r and matches (drop to (units (now (p .entry)))) (drop to (units (now (v .entry))))) ⌝ }
+// The same, as far as the entry's unit tells by itself: '#', or equal. Where not, the units do not match.
+fn unit_near(p: u16, u: u16) -> bool
+    ensures { λ r. ⌜ (unitMatches p u ≡ true → r ≡ true) ⌝ }
 {
-    let mut k = from;
-    while k < to {
-        if !unit_matches(unit_at(p, k), unit_at(v, k)) {
-            return false;
-        }
-        k += 1;
+    (p == u) | (p == 0x23)
+}
+
+// Whether the eight units from byte i on are the same in both and no '#': then they match. No exit before the end, here and in
+// the next two: they are compiled to wide compares.
+fn eight_plain(p: &[u8], v: &[u8], i: usize) -> bool
+    requires { ⌜ (i + 16 ≤ length (now p)) × (i + 16 ≤ length (now v)) ⌝ }
+    ensures { λ r. ⌜ (r ≡ true → matches (units (drop i (now (p .entry)))) (units (drop i (now (v .entry))))
+        ≡ matches (units (drop (i + 16) (now (p .entry)))) (units (drop (i + 16) (now (v .entry))))) ⌝ }
+{
+    let mut ok = true;
+    let mut j = 0;
+    while j < 16 {
+        let own = unit(p, i + j);
+        ok = ok & ((own == unit(v, i + j)) & (own != 0x23));
+        j += 2;
+    }
+    ok
+}
+
+// Whether the eight units from byte i on match, each '#' looked at.
+fn eight_wild(p: &[u8], v: &[u8], i: usize) -> bool
+    requires { ⌜ (i + 16 ≤ length (now p)) × (i + 16 ≤ length (now v)) ⌝ }
+    ensures { λ r. ⌜ matches (units (drop i (now (p .entry)))) (units (drop i (now (v .entry))))
+        ≡ (r and matches (units (drop (i + 16) (now (p .entry)))) (units (drop (i + 16) (now (v .entry))))) ⌝ }
+{
+    let mut ok = true;
+    let mut j = 0;
+    while j < 16 {
+        ok = ok & unit_matches(unit(p, i + j), unit(v, i + j));
+        j += 2;
+    }
+    ok
+}
+
+// The same, for what most names have there first.
+fn eight_match(p: &[u8], v: &[u8], i: usize) -> bool
+    requires { ⌜ (i + 16 ≤ length (now p)) × (i + 16 ≤ length (now v)) ⌝ }
+    ensures { λ r. ⌜ matches (units (drop i (now (p .entry)))) (units (drop i (now (v .entry))))
+        ≡ (r and matches (units (drop (i + 16) (now (p .entry)))) (units (drop (i + 16) (now (v .entry))))) ⌝ }
+{
+    if eight_plain(p, v, i) {
+        return true;
+    }
+    eight_wild(p, v, i)
+}
+
+// Whether the eight units from byte i on are near. Where not, the names do not match.
+fn eight_near(p: &[u8], v: &[u8], i: usize) -> bool
+    requires { ⌜ (i + 16 ≤ length (now p)) × (i + 16 ≤ length (now v)) ⌝ }
+    ensures { λ r. ⌜ (matches (units (drop i (now (p .entry)))) (units (drop i (now (v .entry)))) ≡ true → r ≡ true) ⌝ }
+{
+    let mut ok = true;
+    let mut j = 0;
+    while j < 16 {
+        ok = ok & unit_near(unit(p, i + j), unit(v, i + j));
+        j += 2;
+    }
+    ok
+}
+
+// The bits of a unit that an entry's unit must have to match it: of a hex digit those that '#' has too, of another unit all.
+fn unit_mask(u: u16) -> usize
+    ensures is { λ r. ⌜ r ≡ unitMask u ⌝ }
+    ensures bound { λ r. ⌜ r < 65536 ⌝ }
+{
+    if is_hex_digit(u) {
+        return 65535 - (u ^ 0x23) as usize;
+    }
+    65535
+}
+
+// The masks of the four units from byte i on.
+fn mask_at(v: &[u8], i: usize) -> usize
+    requires { ⌜ i + 8 ≤ length (now v) ⌝ }
+    ensures { λ r. ⌜ r ≡ maskAt (now (v .entry)) i ⌝ }
+{
+    let first = unit_mask(unit(v, i));
+    let second = unit_mask(unit(v, i + 2));
+    let third = unit_mask(unit(v, i + 4));
+    let fourth = unit_mask(unit(v, i + 6));
+    first + 65536 * (second + 65536 * (third + 65536 * fourth))
+}
+
+// The last four units of a variable's name, for a walk over many entries: their masks, and the bits that count of these.
+pub struct Tail {
+    pub mask: usize,
+    pub shown: usize,
+}
+
+pub fn tail_of(v: &[u8]) -> Tail
+    ensures { λ r. ⌜ TailOf (now (v .entry)) (r .mask) (r .shown) ⌝ }
+{
+    if v.len() < 8 {
+        return Tail { mask: 0, shown: 0 };
+    }
+    let last = v.len() - 8;
+    let mask = mask_at(v, last);
+    let shown = slices::get64(v, last) & mask;
+    Tail { mask, shown }
+}
+
+// Whether an entry's name, not empty and as long as the variable's, is near in its first units: the first, and of eight and more
+// the first eight. Where not, the names do not match. This is for a walk over many names, behind the test of their last units.
+pub fn may_match(p: &[u8], v: &[u8]) -> bool
+    requires { ⌜ (length (now p) ≡ length (now v)) × (2 ≤ length (now v)) ⌝ }
+    ensures { λ r. ⌜ (matches (units (now (p .entry))) (units (now (v .entry))) ≡ true → r ≡ true) ⌝ }
+{
+    if !unit_near(unit(p, 0), unit(v, 0)) {
+        return false;
+    }
+    if 16 <= v.len() {
+        return eight_near(p, v, 0);
     }
     true
 }
 
-// Whether the four units from index k on match: equal ones are found by one compare of words.
-fn four_match(p: &[u8], v: &[u8], k: usize) -> bool
-    requires { ⌜ (k + 4 ≤ length (units (now p))) × (k + 4 ≤ length (units (now v))) ⌝ }
-    ensures { λ r. ⌜ matches (drop k (units (now (p .entry)))) (drop k (units (now (v .entry))))
-        ≡ (r and matches (drop (k + 4) (units (now (p .entry)))) (drop (k + 4) (units (now (v .entry))))) ⌝ }
+// Whether the first unit and the last are near, of names that are not empty and as long. Where not, the names do not match.
+fn ends_near(p: &[u8], v: &[u8]) -> bool
+    requires { ⌜ (length (now p) ≡ length (now v)) × (length (now v) % 2 ≡ 0) × (2 ≤ length (now v)) ⌝ }
+    ensures { λ r. ⌜ (matches (units (now (p .entry))) (units (now (v .entry))) ≡ true → r ≡ true) ⌝ }
 {
-    if slices::eight(p, v, 2 * k) {
-        return true;
+    if !unit_near(unit(p, 0), unit(v, 0)) {
+        return false;
     }
-    units_match(p, v, k, k + 4)
+    let last = v.len() - 2;
+    unit_near(unit(p, last), unit(v, last))
 }
 
-// The one comparison of a name with a pattern: an entry's name against a variable's, as many units, each matching.
+// Whether as many units match, unit by unit: for a few units.
+fn few_match(p: &[u8], v: &[u8]) -> bool
+    requires { ⌜ length (now p) ≡ length (now v) ⌝ }
+    ensures { λ r. ⌜ r ≡ matches (units (now (p .entry))) (units (now (v .entry))) ⌝ }
+{
+    let mut i = 0;
+    while 2 <= v.len() - i {
+        if !unit_matches(unit(p, i), unit(v, i)) {
+            return false;
+        }
+        i += 2;
+    }
+    true
+}
+
+// Whether as many units match.
+fn units_match(p: &[u8], v: &[u8]) -> bool
+    requires { ⌜ length (now p) ≡ length (now v) ⌝ }
+    ensures { λ r. ⌜ r ≡ matches (units (now (p .entry))) (units (now (v .entry))) ⌝ }
+{
+    let mut i = 0;
+    while 16 <= v.len() - i {
+        if !eight_match(p, v, i) {
+            return false;
+        }
+        i += 16;
+    }
+    few_match(&p[i..], &v[i..])
+}
+
+// The one comparison of a name with a pattern: an entry's name against a variable's, as many units, each matching. The first and
+// the last are looked at before the others.
 pub fn matches(p: &[u8], v: &[u8]) -> bool
     ensures { λ r. ⌜ r ≡ matches (units (now (p .entry))) (units (now (v .entry))) ⌝ }
 {
-    let n = unit_count(p);
-    if n != unit_count(v) {
+    let n = 2 * unit_count(p);
+    if n != 2 * unit_count(v) {
         return false;
     }
-    let mut k = 0;
-    while 4 <= n - k {
-        if !four_match(p, v, k) {
-            return false;
-        }
-        k += 4;
+    if n == 0 {
+        return true;
     }
-    units_match(p, v, k, n)
+    let own = &p[..n];
+    let name = &v[..n];
+    if !ends_near(own, name) {
+        return false;
+    }
+    units_match(own, name)
 }
 
 // Whether two names as long hold the same bytes, left at the first that differs: for a few bytes.
@@ -241,14 +361,13 @@ pub fn same_namespace(a: &[u8], b: &[u8]) -> bool
 pub fn wildcards(s: &[u8]) -> usize
     ensures { λ r. ⌜ r ≡ wildcards (units (now (s .entry))) ⌝ }
 {
-    let n = unit_count(s);
     let mut h = 0;
-    let mut k = 0;
-    while k < n {
-        if unit_at(s, k) == 0x23 {
+    let mut i = 0;
+    while 2 <= s.len() - i {
+        if unit(s, i) == 0x23 {
             h += 1;
         }
-        k += 1;
+        i += 2;
     }
     h
 }

@@ -1,20 +1,18 @@
 -- How the choice moves on as the code walks: the best so far as three numbers (`asChoice`) says what `better` says, entry by entry, and one turn of the
--- walk is one of `on-other`, `on-zero`, `on-lower` and `on-kept`. Assumes nothing.
-use Prim.Native.Nat.{ℕ, _+_, _-_, _≤_, _<_}
+-- walk is one of `pass`, `on-zero`, `on-lower` and `on-kept`. Assumes nothing.
+use Prim.Native.Nat.{ℕ, _+_, _≤_, _<_}
 use mathlib.Core.Path.{_≡_, refl, sym, ap, _∙_}
 use mathlib.Core.List.{List, [], _∷_}
-use mathlib.Core.Bool.{Bool, true, false, cond, _||_}
+use mathlib.Core.Bool.{Bool, true, false, cond}
 use native.Mathlib.Omega.{arith}
 use lib.ListN.{length, take, drop, drop-of-length-le}
-use lib.Seq.{drop-drop}
 use lib.Dec.{eqb, ltb}
 use borrow.Author.Tests.{ne-eqb, lt-ltb, le-ltb, eqb-true}
-use Rattle.limits.specs.Limits.{wholeNamespaceRank, noRank, namespaceBytes, namespaceAt, minSizeAt, entryHeader}
+use Rattle.limits.specs.Limits.{wholeNamespaceRank, noRank}
 use Rattle.slices.specs.Test.{_and_}
-use Rattle.slices.specs.Bytes.{Bytes, part, same}
-use Rattle.slices.specs.PartLaws.{part-take, part-of}
-use Rattle.names.specs.Name.{Variable, variable, units, matches}
-use Rattle.entry.specs.Entry.{namespaceOf, nameIsEmpty, nameOf, targets, rank}
+use Rattle.slices.specs.Bytes.{Bytes, part}
+use Rattle.names.specs.Name.{Variable}
+use Rattle.entry.specs.Entry.{targets, rank}
 use Rattle.entry.specs.EntryLaws.{rank-most}
 use Rattle.policy.specs.declared.Choice.{Choice}
 use Rattle.policy.specs.declared.Choice.the-variants.{Chosen, Nothing}
@@ -22,7 +20,8 @@ use Rattle.policy.specs.Policy.{entryLength, entriesOf}
 use Rattle.policy.specs.PolicyLaws.{WellFormed}
 use Rattle.policy.specs.Choice.{beats, better, choiceFrom, choiceOf}
 use Rattle.policy.specs.Best.{asChoice}
-use Rattle.policy.proofs.Walk.{At, begins, entry-length, split, behind}
+use Rattle.policy.specs.Walk.{At, Passed}
+use Rattle.policy.proofs.Walk.{Hand, begins, entry-length, split, behind}
 
 pub asChoice-some : (b i at : ℕ) → (b ≡ noRank → ⊥) → Chosen i at b ≡ asChoice b i at
 unfolding asChoice
@@ -37,38 +36,33 @@ beats-number r b i at h k = go (eqb b noRank) refl
     go true q = sym (lt-ltb r b (omega (arith, eqb-true b noRank q)))
     go false q = refl
 
--- whether an entry of the namespace has a name that speaks for the variable
-abbrev pub named : Bytes → Bytes → Bool
-named e name = nameIsEmpty e || matches (units (nameOf e)) (units name)
+-- an entry that does not target the variable leaves the best so far
+pub stays : (v : Variable) (best : Choice) (index here : ℕ) (e : Bytes) → targets e v ≡ false → better best index here e v ≡ best
+unfolding better _and_
+stays v best index here e q = rw q
 
-module _ (namespace name e : Bytes) (w : WellFormed e) (b i at index here : ℕ) (most : b ≤ noRank) where
-  -- of another namespace
-  pub stays : same (namespaceOf e) namespace ≡ false → better (asChoice b i at) index here e (variable namespace name) ≡ asChoice b i at
-  unfolding better targets _and_
-  stays q = rw q
+module _ (v : Variable) (e : Bytes) (w : WellFormed e) (b i at index here : ℕ) (most : b ≤ noRank) (r : ℕ) (s : r ≡ cond (targets e v) (rank e) noRank) where
+  better-by : (t : Bool) → targets e v ≡ t → better (asChoice b i at) index here e v ≡ cond (t and ltb (rank e) b) (Chosen index here (rank e)) (asChoice b i at)
+  unfolding better _and_
+  better-by true k = rw (k, beats-number (rank e) b i at (rank-most e w) most)
+  better-by false k = rw k
 
-  module _ (q : same (namespaceOf e) namespace ≡ true) (r : ℕ) (s : r ≡ cond (named e name) (rank e) noRank) where
-    better-by : (t : Bool) → named e name ≡ t → better (asChoice b i at) index here e (variable namespace name) ≡ cond (t and ltb (rank e) b) (Chosen index here (rank e)) (asChoice b i at)
-    unfolding better targets _and_
-    better-by true k = rw (q, k, beats-number (rank e) b i at (rank-most e w) most)
-    better-by false k = rw (q, k)
+  -- lower than the best so far
+  pub lower : r < b → better (asChoice b i at) index here e v ≡ asChoice r index here
+  unfolding _and_
+  lower h = go (targets e v) refl s
+    where
+      go : (t : Bool) → targets e v ≡ t → r ≡ cond t (rank e) noRank → better (asChoice b i at) index here e v ≡ asChoice r index here
+      go true k z = better-by true k ∙ rw (← z, lt-ltb r b h) (asChoice-some r index here (λ y. omega arith))
+      go false k z = absurd (omega arith)
 
-    -- lower than the best so far
-    pub lower : r < b → better (asChoice b i at) index here e (variable namespace name) ≡ asChoice r index here
-    unfolding _and_
-    lower h = go (named e name) refl s
-      where
-        go : (t : Bool) → named e name ≡ t → r ≡ cond t (rank e) noRank → better (asChoice b i at) index here e (variable namespace name) ≡ asChoice r index here
-        go true k z = better-by true k ∙ rw (← z, lt-ltb r b h) (asChoice-some r index here (λ y. omega arith))
-        go false k z = absurd (omega arith)
-
-    pub not-lower : b ≤ r → better (asChoice b i at) index here e (variable namespace name) ≡ asChoice b i at
-    unfolding _and_
-    not-lower h = go (named e name) refl s
-      where
-        go : (t : Bool) → named e name ≡ t → r ≡ cond t (rank e) noRank → better (asChoice b i at) index here e (variable namespace name) ≡ asChoice b i at
-        go true k z = better-by true k ∙ rw (← z, le-ltb r b h)
-        go false k z = better-by false k
+  pub not-lower : b ≤ r → better (asChoice b i at) index here e v ≡ asChoice b i at
+  unfolding _and_
+  not-lower h = go (targets e v) refl s
+    where
+      go : (t : Bool) → targets e v ≡ t → r ≡ cond t (rank e) noRank → better (asChoice b i at) index here e v ≡ asChoice b i at
+      go true k z = better-by true k ∙ rw (← z, le-ltb r b h)
+      go false k z = better-by false k
 
 -- ---- a walk over the entries
 choiceFrom-cons : (best : Choice) (index at : ℕ) (e : Bytes) (es : List Bytes) (v : Variable)
@@ -103,51 +97,46 @@ unfolding choiceFrom
 choice-zero i at index here [] v = refl
 choice-zero i at index here (e ∷ es) v = rw (zero-kept i at index here e v) (choice-zero i at (index + 1) (here + length e) es v)
 
--- the namespace of the entry that begins at a byte
-pub namespace-at : (p : Bytes) (at n : ℕ) → minSizeAt ≤ n → namespaceOf (take n (drop at p)) ≡ part (at + namespaceAt) (at + minSizeAt) p
-namespace-at p at n h =
-    let k : at + minSizeAt - (at + namespaceAt) ≡ namespaceBytes = omega arith in
-    part-take namespaceAt minSizeAt n (drop at p) h ∙ rw (drop-drop, k)
+-- one turn of the walk over the entry at hand, which ends at `end`
+module _ (p : Bytes) (v : Variable) (i at end : ℕ) (w : At p i at) (g : Hand p i at end) where
+  abbrev entry : Bytes
+  entry = take (g .size) (drop at p)
 
--- one turn of the walk: the entry of n bytes at hand, the best so far as it was and as it is after the turn
-module _ (p namespace name : Bytes) (i at n b bi ba : ℕ) (w : At p i at) (e : entryLength (drop at p) ≡ n) (h : entryHeader ≤ n) (most : b ≤ noRank)
-    (inv : choiceOf (entriesOf p) (variable namespace name) ≡ choiceFrom (asChoice b bi ba) i at (drop i (entriesOf p)) (variable namespace name))
-    {s : Bool} (q : s ≡ same (part (at + namespaceAt) (at + minSizeAt) p) namespace) where
-  formed : WellFormed (take n (drop at p))
-  formed = begins p i at w n e (omega arith) .formed
+  entry-formed : WellFormed entry
+  entry-formed = begins p i at w (g .size) (g .here) (omega (arith, g .least)) .formed
 
-  inside : (t : Bool) → s ≡ t → same (namespaceOf (take n (drop at p))) namespace ≡ t
-  inside t z = ap (λ (l : Bytes). same l namespace) (namespace-at p at n (omega arith)) ∙ sym q ∙ z
+  on : (best c : Choice) → better best i at entry v ≡ c → choiceFrom best i at (drop i (entriesOf p)) v ≡ choiceFrom c (i + 1) end (drop (i + 1) (entriesOf p)) v
+  on best c k =
+      choice-step v best p i at (g .size) w (g .here) (omega (arith, g .least))
+      ∙ ap (λ (d : Choice). choiceFrom d (i + 1) (at + g .size) (drop (i + 1) (entriesOf p)) v) k
+      ∙ ap (λ (t : ℕ). choiceFrom c (i + 1) t (drop (i + 1) (entriesOf p)) v) (sym (g .ends))
 
-  on : (c : Choice) → better (asChoice b bi ba) i at (take n (drop at p)) (variable namespace name) ≡ c
-      → choiceOf (entriesOf p) (variable namespace name) ≡ choiceFrom c (i + 1) (at + n) (drop (i + 1) (entriesOf p)) (variable namespace name)
-  on c k =
-      inv ∙ choice-step (variable namespace name) (asChoice b bi ba) p i at n w e (omega arith)
-      ∙ ap (λ (d : Choice). choiceFrom d (i + 1) (at + n) (drop (i + 1) (entriesOf p)) (variable namespace name)) k
+  -- it does not target the variable: a walk may leave it out
+  pub pass : (j to : ℕ) → Passed p v j to i at → targets (part at end p) v ≡ false → Passed p v j to (i + 1) end
+  pass j to f q = λ best. f best ∙ on best best (stays v best i at entry (rw (g .own) at q))
 
-  pub on-other : {b′ bi′ ba′ : ℕ} → s ≡ false → b′ ≡ b → bi′ ≡ bi → ba′ ≡ ba
-      → choiceOf (entriesOf p) (variable namespace name) ≡ choiceFrom (asChoice b′ bi′ ba′) (i + 1) (at + n) (drop (i + 1) (entriesOf p)) (variable namespace name)
-  on-other z eb ei ea = rw (eb, ei, ea) (on (asChoice b bi ba) (stays namespace name (take n (drop at p)) formed b bi ba i at most (inside false z)))
+  -- the best so far, as three numbers, and what the entry adds
+  module _ (b bi ba : ℕ) (most : b ≤ noRank) (inv : choiceOf (entriesOf p) v ≡ choiceFrom (asChoice b bi ba) i at (drop i (entriesOf p)) v)
+      (r : ℕ) (k : r ≡ cond (targets (part at end p) v) (rank (part at end p)) noRank) where
+    spoken : r ≡ cond (targets entry v) (rank entry) noRank
+    spoken = rw (g .own) at k
 
-  module _ (z : s ≡ true) (r : ℕ) (k : r ≡ cond (named (part at (at + n) p) name) (rank (part at (at + n) p)) noRank) where
-    spoken : r ≡ cond (named (take n (drop at p)) name) (rank (take n (drop at p))) noRank
-    spoken = rw part-of at k
+    lowered : r < b → choiceOf (entriesOf p) v ≡ choiceFrom (asChoice r i at) (i + 1) end (drop (i + 1) (entriesOf p)) v
+    lowered l = inv ∙ on (asChoice b bi ba) (asChoice r i at) (lower v entry entry-formed b bi ba i at most r spoken l)
 
-    lowered : r < b → choiceOf (entriesOf p) (variable namespace name) ≡ choiceFrom (asChoice r i at) (i + 1) (at + n) (drop (i + 1) (entriesOf p)) (variable namespace name)
-    lowered l = on (asChoice r i at) (lower namespace name (take n (drop at p)) formed b bi ba i at most (inside true z) r spoken l)
+    -- and then the walk goes on to index j
+    module _ {b′ bi′ ba′ : ℕ} (j to : ℕ) (f : Passed p v (i + 1) end j to) where
+      pub on-lower : r < b → b′ ≡ r → bi′ ≡ i → ba′ ≡ at → choiceOf (entriesOf p) v ≡ choiceFrom (asChoice b′ bi′ ba′) j to (drop j (entriesOf p)) v
+      on-lower l eb ei ea = rw (eb, ei, ea) (lowered l ∙ f (asChoice r i at))
 
-    pub on-lower : {b′ bi′ ba′ : ℕ} → r < b → b′ ≡ r → bi′ ≡ i → ba′ ≡ at
-        → choiceOf (entriesOf p) (variable namespace name) ≡ choiceFrom (asChoice b′ bi′ ba′) (i + 1) (at + n) (drop (i + 1) (entriesOf p)) (variable namespace name)
-    on-lower l eb ei ea = rw (eb, ei, ea) (lowered l)
+      pub on-kept : b ≤ r → b′ ≡ b → bi′ ≡ bi → ba′ ≡ ba → choiceOf (entriesOf p) v ≡ choiceFrom (asChoice b′ bi′ ba′) j to (drop j (entriesOf p)) v
+      on-kept l eb ei ea =
+          rw (eb, ei, ea) (inv ∙ on (asChoice b bi ba) (asChoice b bi ba) (not-lower v entry entry-formed b bi ba i at most r spoken l) ∙ f (asChoice b bi ba))
 
-    pub on-kept : {b′ bi′ ba′ : ℕ} → b ≤ r → b′ ≡ b → bi′ ≡ bi → ba′ ≡ ba
-        → choiceOf (entriesOf p) (variable namespace name) ≡ choiceFrom (asChoice b′ bi′ ba′) (i + 1) (at + n) (drop (i + 1) (entriesOf p)) (variable namespace name)
-    on-kept l eb ei ea = rw (eb, ei, ea) (on (asChoice b bi ba) (not-lower namespace name (take n (drop at p)) formed b bi ba i at most (inside true z) r spoken l))
-
-    pub on-zero : r ≡ 0 → 0 < b → Chosen i at r ≡ choiceOf (entriesOf p) (variable namespace name)
+    pub on-zero : r ≡ 0 → 0 < b → Chosen i at r ≡ choiceOf (entriesOf p) v
     on-zero y l =
         let f : asChoice r i at ≡ Chosen i at 0 = sym (asChoice-some r i at (λ x. omega arith)) ∙ ap (Chosen i at) y in
         ap (Chosen i at) y
         ∙ sym (lowered (omega arith)
-        ∙ ap (λ (d : Choice). choiceFrom d (i + 1) (at + n) (drop (i + 1) (entriesOf p)) (variable namespace name)) f
-        ∙ choice-zero i at (i + 1) (at + n) (drop (i + 1) (entriesOf p)) (variable namespace name))
+        ∙ ap (λ (d : Choice). choiceFrom d (i + 1) end (drop (i + 1) (entriesOf p)) v) f
+        ∙ choice-zero i at (i + 1) end (drop (i + 1) (entriesOf p)) v)

@@ -1,4 +1,5 @@
 pub mod Walk
 pub mod Writes
+pub mod Named
 pub mod Best
 pub mod Marked

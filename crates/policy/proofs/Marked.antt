@@ -3,11 +3,12 @@
 use Prim.Native.Nat.{ℕ, _+_, _/_, _%_, _≤_, _<_}
 use mathlib.Core.Path.{_≡_, refl, sym, ap, ap₂, _∙_}
 use mathlib.Core.List.{List, [], _∷_, _++_, append-assoc}
-use mathlib.Core.Bool.{Bool, true, false, _||_, cond}
+use mathlib.Core.Bool.{Bool, true, false, _||_, cond, false≢true}
 use native.Mathlib.Omega.{arith}
 use lib.ListN.{length, getD, take, drop, set, length-set}
+use lib.Seq.{getD-set-same, getD-set-other}
 use lib.Dec.{eqb, leb}
-use borrow.Author.Tests.{eq-eqb, ne-eqb, le-leb, lt-leb, eqb-false}
+use borrow.Author.Tests.{eq-eqb, ne-eqb, le-leb, lt-leb, eqb-true, eqb-false}
 use Rattle.limits.specs.Limits.{namespaceBytes, namespaceAt, maxEntries, policyBytes}
 use Rattle.slices.specs.Test.{_and_}
 use Rattle.slices.specs.TestLaws.{and-no, and-yes, forced-off}
@@ -17,15 +18,17 @@ use Rattle.slices.specs.NumberLaws.{le32-take, le32-drop}
 use Rattle.slices.specs.Hash.{hashFrom}
 use Rattle.slices.specs.Filter.{joined}
 use Rattle.slices.specs.FilterLaws.{filter-met, filter-unmet}
-use Rattle.slices.specs.Chunks.{contains, distinct}
+use Rattle.slices.specs.Chunks.{flat, contains, distinct}
 use Rattle.lists.specs.Lists.{nil}
 use Rattle.slices.specs.ItemsLaws.{or-off, or-left-off, or-right-off, contains-append, contains-one, distinct-apart, distinct-left, distinct-append}
 use Rattle.entry.specs.Entry.{namespaceOf, nameOf, sameTarget}
 use Rattle.entry.specs.EntryLaws.{sameTarget-same, sameTarget-sym, sameTarget-alike}
 use Rattle.policy.specs.declared.PolicyCheck.the-variants.{Valid, Invalid}
 use Rattle.policy.specs.Policy.{entryLength, entriesOf, sizesSum, validWithin, policyValid, policyCheck}
+use Rattle.policy.specs.PolicyLaws.{check-invalid}
 use Rattle.policy.specs.Filter.{slots, keyAt, keyOf, slotOf, fingerprintOf, Marks, marksWith}
-use Rattle.policy.proofs.Walk.{At, at-start, at-next, all-met, sum-met, count-met, more-left, whole, grown}
+use Rattle.policy.specs.Walk.{At, EntryEnds}
+use Rattle.policy.proofs.Walk.{at-start, at-next, all-met, sum-met, count-met, more-left, whole, grown}
 
 -- ---- the key
 -- the namespace's first bytes in the entry
@@ -112,6 +115,25 @@ double : (p : Bytes) → distinct sameTarget (entriesOf p) ≡ false → policyV
 unfolding validWithin
 double p h = rw (h, and-no (allAre 0 (drop (sizesSum p) p)), and-no (leb (length (entriesOf p)) maxEntries)) (and-no (eqb (length p) policyBytes))
 
+-- ---- where the entries before index i end
+pub record Noted (ends : List ℕ) (p : Bytes) (i : ℕ) : Type 0 where
+  pub room : length ends ≡ maxEntries
+  pub noted : (k : ℕ) → k < i → getD ends k 0 ≡ length (flat (take (k + 1) (entriesOf p)))
+
+pub noted-none : (ends : List ℕ) (p : Bytes) → length ends ≡ maxEntries → Noted ends p 0
+noted-none ends p h = record { room = h; noted = λ k z. absurd (omega arith) }
+
+pub noted-more : (ends : List ℕ) (p : Bytes) (i at : ℕ) → Noted ends p i → i < maxEntries → At p (i + 1) at → Noted (set ends i at) p (i + 1)
+noted-more ends p i at m h w = record { room = length-set ends i at ∙ m .room; noted = λ k z. go k z (eqb k i) refl }
+  where
+    go : (k : ℕ) → k < i + 1 → (b : Bool) → eqb k i ≡ b → getD (set ends i at) k 0 ≡ length (flat (take (k + 1) (entriesOf p)))
+    go k z true q =
+        let e = eqb-true k i q in
+        rw e (getD-set-same ends i at 0 (omega (arith, m .room)) ∙ sym (w .sum))
+    go k z false q =
+        let d = eqb-false k i q in
+        getD-set-other ends i k at 0 d ∙ m .noted k (omega arith)
+
 -- ---- a check that has come to the entry at index i, whose first byte is at
 pub record Checked (p : Bytes) (t : Bytes) (i at : ℕ) : Type 0 where
   pub walk : At p i at
@@ -161,3 +183,12 @@ module _ (p : Bytes) (t : Bytes) (i at n : ℕ) (w : Checked p t i at) (e : entr
     pub checked-end : {r : Bool} → r ≡ allAre 0 (drop at p) → policyCheck p ≡ cond r (Valid i at) Invalid
     unfolding policyCheck
     checked-end k = rw (valid-is, ← k, sum-met p i at (w .walk) (e ∙ z), count-met p i at (w .walk) (e ∙ z))
+
+    pub noted-end : {ends : List ℕ} → Noted ends p i → EntryEnds ends p
+    noted-end m =
+        let c = count-met p i at (w .walk) (e ∙ z) in
+        record { few = omega (arith, c, w .few); end = λ k h. m .noted k (omega (arith, c)) }
+
+-- of a record that is not valid nothing was promised
+pub invalid-promise : {A : Type 0} (p : Bytes) → Invalid ≡ policyCheck p → policyValid p ≡ true → A
+invalid-promise p e v = absurd (false≢true (sym (check-invalid p (sym e)) ∙ v))

@@ -5,22 +5,18 @@ use mathlib.Core.Path.{_≡_, refl, sym, ap, _∙_}
 use mathlib.Core.List.{List, [], _∷_, _++_}
 use mathlib.Core.Bool.{Bool, true, false, _||_}
 use native.Mathlib.Omega.{arith}
-use lib.ListN.{length, take, drop, length-append, length-drop, take-append-drop}
+use lib.ListN.{length, getD, take, drop, length-append, length-drop, take-append-drop}
 use lib.Seq.{length-take-le, take-add, drop-drop, take-all}
 use Rattle.limits.specs.Limits.{sizeAt, entryHeader}
-use Rattle.slices.specs.Bytes.{Bytes, le16}
+use Rattle.slices.specs.Bytes.{Bytes, le16, part}
+use Rattle.slices.specs.PartLaws.{part-of}
 use Rattle.slices.specs.NumberLaws.{le16-drop}
 use Rattle.slices.specs.Chunks.{flat, contains}
 use Rattle.slices.specs.ChunksLaws.{flat-append, flat-one}
 use Rattle.entry.specs.Entry.{wellFormed}
 use Rattle.policy.specs.Policy.{entryLength, entriesOf, sizesSum}
+use Rattle.policy.specs.Walk.{At, EntryEnds}
 use Rattle.policy.specs.PolicyLaws.{Begins, entryLength-begins, entriesOf-stop, entriesOf-step, sizesSum-flat}
-
-pub record At (p : Bytes) (i at : ℕ) : Type 0 where
-  pub within : at ≤ length p
-  pub met : i ≤ length (entriesOf p)
-  pub rest : drop i (entriesOf p) ≡ entriesOf (drop at p)
-  pub sum : length (flat (take i (entriesOf p))) ≡ at
 
 pub at-start : (p : Bytes) → At p 0 0
 unfolding flat
@@ -103,6 +99,35 @@ module _ (p : Bytes) (i at : ℕ) (w : At p i at) where
 
     pub stated-fits : at + le16 p (at + sizeAt) ≤ length p
     stated-fits = omega (arith, stated, fits (entryLength (drop at p)) refl some-here)
+
+-- the entry at hand, which ends at `end`
+pub record Hand (p : Bytes) (i at end : ℕ) : Type 0 where
+  pub size : ℕ
+  pub here : entryLength (drop at p) ≡ size
+  pub least : entryHeader ≤ size
+  pub ends : end ≡ at + size
+  pub inside : end ≤ length p
+  pub own : part at end p ≡ take size (drop at p)
+  pub formed : wellFormed (part at end p) ≡ true
+  pub next : At p (i + 1) end
+
+pub hand : (ends : List ℕ) (p : Bytes) (i at : ℕ) → EntryEnds ends p → At p i at → i < length (entriesOf p) → Hand p i at (getD ends i 0)
+hand ends p i at q w h =
+    let n = entryLength (drop at p) in
+    let l : entryHeader ≤ n = omega (arith, stated p i at w h, stated-least p i at w h) in
+    let a : At p (i + 1) (at + n) = at-next p i at w n refl (omega arith) in
+    let e : getD ends i 0 ≡ at + n = q .end i h ∙ a .sum in
+    let o : part at (getD ends i 0) p ≡ take n (drop at p) = ap (λ (t : ℕ). part at t p) e ∙ part-of at n p in
+    record {
+      size = n;
+      here = refl;
+      least = l;
+      ends = e;
+      inside = omega (arith, a .within);
+      own = o;
+      formed = rw o (begins p i at w n refl (omega arith) .formed);
+      next = rw e a;
+    }
 
 -- ---- a search among the first count entries
 module _ (f : Bytes → Bool) (p : Bytes) (count i at n : ℕ) (w : At p i at) (e : entryLength (drop at p) ≡ n) (h : 0 < n) (q : i < count) where

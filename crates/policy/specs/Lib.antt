@@ -2,5 +2,6 @@ pub mod Policy
 pub mod PolicyLaws
 pub mod Choice
 pub mod ChoiceLaws
+pub mod Walk
 pub mod Best
 pub mod Filter

@@ -4,18 +4,24 @@ ghost use mathlib.Core.List.{[], _∷_, _++_};
 ghost use mathlib.Core.Bool.{true, _||_, cond};
 ghost use Prim.Native.Nat.{_+_, _≤_, _<_};
 ghost use lib.ListN.{length, take};
-ghost use Rattle.limits.specs.Limits.{noRank, policyBytes};
-ghost use Rattle.slices.specs.Bytes.{overwrite};
+ghost use Rattle.limits.specs.Limits.{noRank, maxEntries, policyBytes};
+ghost use Rattle.slices.specs.Bytes.{part, overwrite};
 ghost use Rattle.slices.specs.Chunks.{flat, contains};
 ghost use Rattle.names.specs.Name.{units, matches, variable};
-ghost use Rattle.entry.specs.Entry.{wellFormed, nameIsEmpty, nameOf, rank, sameTarget};
+ghost use Rattle.names.specs.Tail.{wholeUnits, TailOf};
+ghost use Rattle.entry.specs.Entry.{wellFormed, nameIsEmpty, nameOf, targets, rank, sameTarget};
 ghost use Rattle.policy.specs.Policy.{entryLength, entriesOf, sizesSum, packPolicy, emptyPolicy, policyValid, policyCheck};
 ghost use Rattle.policy.specs.Filter.{slots, keyOf, Marks, marksWith};
 ghost use Rattle.policy.specs.Choice.{choiceOf};
+ghost use Rattle.policy.specs.Walk.{At, EntryEnds, Passed};
 ghost use Rattle.policy.specs.Best.{asChoice};
+use names::Tail;
 
 // The slots of the filter; `specs/Filter.antt` has the same for the proofs.
 const SLOTS: usize = 2048;
+
+// As many entries as a record may have, for arrays.
+pub const ENTRIES: usize = limits::MAX_ENTRIES;
 
 // What the check of a lent policy record finds: how many entries, and how many bytes they take; or that it is not valid.
 pub enum PolicyCheck {
@@ -31,6 +37,12 @@ pub enum Choice {
         rank: usize,
     },
     Nothing,
+}
+
+// Where a walk over the entries stands: at which one, counted from 0, and at which byte.
+struct Position {
+    index: usize,
+    at: usize,
 }
 
 // The length of the well-formed entry that the bytes begin with, or 0.
@@ -99,10 +111,11 @@ fn is_repeated(policy: &[u8], count: usize, e: &[u8], marks: &mut [u8; SLOTS]) -
     false
 }
 
-// The check of a record of the right length, with a filter that has no entry.
-fn scan(policy: &[u8], marks: &mut [u8; SLOTS]) -> PolicyCheck
-    requires { ⌜ (length (now policy) ≡ policyBytes) × Marks (now marks) [] ⌝ }
-    ensures { λ r. ⌜ r ≡ policyCheck (now (policy .entry)) ⌝ }
+// The check of a record of the right length, with a filter that has no entry. Where each entry ends is noted.
+fn scan(policy: &[u8], marks: &mut [u8; SLOTS], ends: &mut [u16; ENTRIES]) -> PolicyCheck
+    requires { ⌜ (length (now policy) ≡ policyBytes) × Marks (now marks) [] × (length (now ends) ≡ maxEntries) ⌝ }
+    ensures answer { λ r. ⌜ r ≡ policyCheck (now (policy .entry)) ⌝ }
+    ensures noted { λ _. ⌜ (policyValid (now (policy .entry)) ≡ true → EntryEnds (now (ends .exit)) (now (policy .entry))) ⌝ }
 {
     let mut count = 0;
     let mut used = 0;
@@ -115,6 +128,7 @@ fn scan(policy: &[u8], marks: &mut [u8; SLOTS]) -> PolicyCheck
         if is_repeated(policy, count, &policy[used..end], marks) {
             return PolicyCheck::Invalid;
         }
+        ends[count] = end as u16;
         count += 1;
         used = end;
         next = entry_length(&policy[used..]);
@@ -132,15 +146,32 @@ fn no_marks() -> [u8; SLOTS]
     [0u8; SLOTS]
 }
 
-// The check of a lent policy record (RULES.md, 7).
-pub fn check(policy: &[u8]) -> PolicyCheck
-    ensures { λ r. ⌜ r ≡ policyCheck (now (policy .entry)) ⌝ }
+// A place for the ends of the entries, before they are known.
+pub fn no_ends() -> [u16; ENTRIES]
+    ensures { λ r. ⌜ length r ≡ maxEntries ⌝ }
+{
+    [0u16; ENTRIES]
+}
+
+// The check of a lent policy record (RULES.md, 7), which notes where each entry ends.
+pub fn check_noting(policy: &[u8], ends: &mut [u16; ENTRIES]) -> PolicyCheck
+    requires { ⌜ length (now ends) ≡ maxEntries ⌝ }
+    ensures answer { λ r. ⌜ r ≡ policyCheck (now (policy .entry)) ⌝ }
+    ensures noted { λ _. ⌜ (policyValid (now (policy .entry)) ≡ true → EntryEnds (now (ends .exit)) (now (policy .entry))) ⌝ }
 {
     if policy.len() != limits::POLICY_BYTES {
         return PolicyCheck::Invalid;
     }
     let mut marks = no_marks();
-    scan(policy, &mut marks)
+    scan(policy, &mut marks, ends)
+}
+
+// The check alone.
+pub fn check(policy: &[u8]) -> PolicyCheck
+    ensures { λ r. ⌜ r ≡ policyCheck (now (policy .entry)) ⌝ }
+{
+    let mut ends = no_ends();
+    check_noting(policy, &mut ends)
 }
 
 // Whether an entry of the record has the namespace and the name of e: what registration answers 20 to.
@@ -176,12 +207,84 @@ pub fn clear(policy: &mut [u8])
     slices::fill(policy, 0, n, 0);
 }
 
-// The rank of an entry of the variable's namespace, if its name is empty or matches the variable's, and NO_RANK if not.
-fn rank_for(e: &[u8], name: &[u8]) -> usize
-    requires { ⌜ wellFormed (now e) ≡ true ⌝ }
-    ensures { λ r.
-        ⌜ r ≡ cond (nameIsEmpty (now (e .entry)) || matches (units (nameOf (now (e .entry)))) (units (now (name .entry)))) (rank (now (e .entry))) noRank ⌝ }
+// Whether the name of the entry from byte at up to end is empty or may match, as far as its length and its ends tell. Where not, it
+// does not match. Most entries are told apart by the word that the last four units are.
+fn may_name(policy: &[u8], at: usize, end: usize, name: &[u8], tail: Tail) -> bool
+    requires { ⌜ (end ≤ length (now policy)) × (wellFormed (part at end (now policy)) ≡ true) × TailOf (wholeUnits (now name)) (tail .mask) (tail .shown) ⌝ }
+    ensures { λ r. ⌜ ((nameIsEmpty (part at end (now (policy .entry))) || matches (units (nameOf (part at end (now (policy .entry))))) (units (now (name .entry)))) ≡ true
+        → r ≡ true) ⌝ }
 {
+    let start = at + slices::get16(policy, at + limits::OFFSET_TO_NAME_AT);
+    let n = 2 * (name.len() / 2);
+    if start + n + 2 == end {
+        if slices::get64(policy, end - 10) & tail.mask != tail.shown {
+            return false;
+        }
+        return names::may_match(&policy[start..start + n], &name[..n]);
+    }
+    start == end
+}
+
+// Whether that entry may target the variable. Where not, it does not. The names come first: they tell more entries apart than
+// namespaces do.
+fn may_target(
+    policy: &[u8],
+    at: usize,
+    end: usize,
+    namespace: &[u8; 16],
+    name: &[u8],
+    tail: Tail,
+) -> bool
+    requires { ⌜ (end ≤ length (now policy)) × (wellFormed (part at end (now policy)) ≡ true) × TailOf (wholeUnits (now name)) (tail .mask) (tail .shown) ⌝ }
+    ensures { λ r. ⌜ (targets (part at end (now (policy .entry))) (variable (now (namespace .entry)) (now (name .entry))) ≡ true → r ≡ true) ⌝ }
+{
+    if !may_name(policy, at, end, name, tail) {
+        return false;
+    }
+    names::same_namespace(
+        &policy[at + limits::NAMESPACE_AT..at + limits::MIN_SIZE_AT],
+        namespace,
+    )
+}
+
+// The first entry that may target the variable, from the one at index first on, which begins at byte from; behind the last where
+// there is none.
+fn candidate(
+    policy: &[u8],
+    count: usize,
+    ends: &[u16; ENTRIES],
+    first: usize,
+    from: usize,
+    namespace: &[u8; 16],
+    name: &[u8],
+    tail: Tail,
+) -> Position
+    requires { ⌜ (count ≡ length (entriesOf (now policy))) × EntryEnds (now ends) (now policy) × At (now policy) first from
+        × TailOf (wholeUnits (now name)) (tail .mask) (tail .shown) ⌝ }
+    ensures at { λ r. ⌜ (first ≤ r .index) × At (now (policy .entry)) (r .index) (r .at) ⌝ }
+    ensures passed { λ r. ⌜ Passed (now (policy .entry)) (variable (now (namespace .entry)) (now (name .entry))) first from (r .index) (r .at) ⌝ }
+{
+    let mut index = first;
+    let mut at = from;
+    while index < count {
+        let end = ends[index] as usize;
+        if may_target(policy, at, end, namespace, name, tail) {
+            return Position { index, at };
+        }
+        at = end;
+        index += 1;
+    }
+    Position { index, at }
+}
+
+// The rank of an entry that targets the variable, and NO_RANK where it does not.
+fn rank_for(e: &[u8], namespace: &[u8; 16], name: &[u8]) -> usize
+    requires { ⌜ wellFormed (now e) ≡ true ⌝ }
+    ensures { λ r. ⌜ r ≡ cond (targets (now (e .entry)) (variable (now (namespace .entry)) (now (name .entry)))) (rank (now (e .entry))) noRank ⌝ }
+{
+    if !names::same_namespace(&e[limits::NAMESPACE_AT..limits::MIN_SIZE_AT], namespace) {
+        return limits::NO_RANK;
+    }
     let own = entry::name_bytes(e);
     if own.len() == 0 {
         return limits::WHOLE_NAMESPACE_RANK;
@@ -202,33 +305,38 @@ fn choice_of(rank: usize, index: usize, at: usize) -> Choice
     Choice::Chosen { index, at, rank }
 }
 
-// The chosen entry for the variable of that namespace and name. The entries were counted when the record was found valid.
+// The chosen entry for the variable of that namespace and name. The entries were counted, and where they end was noted, when the record
+// was found valid.
 // The best rank so far is NO_RANK while there is none; a rank of 0 is not beaten.
-pub fn choose(policy: &[u8], count: usize, namespace: &[u8; 16], name: &[u8]) -> Choice
-    requires { ⌜ count ≡ length (entriesOf (now policy)) ⌝ }
+pub fn choose(
+    policy: &[u8],
+    count: usize,
+    ends: &[u16; ENTRIES],
+    namespace: &[u8; 16],
+    name: &[u8],
+) -> Choice
+    requires { ⌜ (count ≡ length (entriesOf (now policy))) × EntryEnds (now ends) (now policy) ⌝ }
     ensures { λ r. ⌜ r ≡ choiceOf (entriesOf (now (policy .entry))) (variable (now (namespace .entry)) (now (name .entry))) ⌝ }
 {
     let mut best = limits::NO_RANK;
     let mut best_index = 0;
     let mut best_at = 0;
-    let mut index = 0;
-    let mut at = 0;
-    while index < count {
-        let end = at + slices::get16(policy, at + limits::SIZE_AT);
-        let own = &policy[at + limits::NAMESPACE_AT..at + limits::MIN_SIZE_AT];
-        if names::same_namespace(own, namespace) {
-            let rank = rank_for(&policy[at..end], name);
-            if rank == 0 {
-                return Choice::Chosen { index, at, rank };
-            }
-            if rank < best {
-                best = rank;
-                best_index = index;
-                best_at = at;
-            }
+    let tail = names::tail_of(&name[..2 * (name.len() / 2)]);
+    let mut next = candidate(policy, count, ends, 0, 0, namespace, name, tail);
+    while next.index < count {
+        let index = next.index;
+        let at = next.at;
+        let end = ends[index] as usize;
+        let rank = rank_for(&policy[at..end], namespace, name);
+        if rank == 0 {
+            return Choice::Chosen { index, at, rank };
         }
-        at = end;
-        index += 1;
+        if rank < best {
+            best = rank;
+            best_index = index;
+            best_at = at;
+        }
+        next = candidate(policy, count, ends, index + 1, end, namespace, name, tail);
     }
     choice_of(best, best_index, best_at)
 }

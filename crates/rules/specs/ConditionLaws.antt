@@ -52,6 +52,19 @@ tells-or a b {P} {Q} t u = (go a t, back)
     back (inl p) = rw (t .1 p)
     back (inr q) = rw (u .1 q) (or-true a)
 
+-- which of two tests counts is a test itself
+tells-cond : (s a b : Bool) {S P Q : Type 0} → Tells s S → Tells a P → Tells b Q → Tells (cond s a b) ((S × P) ⊎ (Not S × Q))
+tells-cond true a b {S} {P} {Q} t u v = ((λ e. inl (t .0 refl, u .0 e)), back)
+  where
+    back : (S × P) ⊎ (Not S × Q) → a ≡ true
+    back (inl h) = u .1 (h .1)
+    back (inr h) = absurd (h .0 (t .0 refl))
+tells-cond false a b {S} {P} {Q} t u v = ((λ e. inr ((λ h. false≢true (t .1 h)), v .0 e)), back)
+  where
+    back : (S × P) ⊎ (Not S × Q) → b ≡ true
+    back (inl h) = absurd (false≢true (t .1 (h .0)))
+    back (inr h) = v .1 (h .1)
+
 -- one of two tests fails
 pub tells-nand : (a b : Bool) {P Q : Type 0} → Tells (not a) P → Tells (not b) Q → Tells (not (a and b)) (P ⊎ Q)
 unfolding _and_
@@ -286,7 +299,7 @@ tells-named v =
 
 tells-unit : (p u : ℕ) → Tells (unitMatches p u) (UnitMatches p u)
 unfolding unitMatches
-tells-unit p u = tells-or _ _ (tells-eq p u) (tells-and _ _ (tells-eq p numberSign) (hex-digits u))
+tells-unit p u = tells-cond (eqb p numberSign) _ _ (tells-eq p numberSign) (hex-digits u) (tells-eq p u)
 
 tells-matches : (ps us : List ℕ) → Tells (pairwise unitMatches ps us) (Matches ps us)
 unfolding pairwise

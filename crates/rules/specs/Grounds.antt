@@ -62,9 +62,9 @@ pub record Named (v : Variable) : Type 0 where
 
 -- ---- which policy speaks
 
--- a unit of an entry's name against one of a variable's: equal to it, or '#' over a hex digit
+-- a unit of an entry's name against one of a variable's: '#' over one of the 22 hex digits, or another unit over itself
 abbrev pub UnitMatches : ℕ → ℕ → Type 0
-UnitMatches p u = (p ≡ u) ⊎ ((p ≡ numberSign) × Among u hexDigits)
+UnitMatches p u = ((p ≡ numberSign) × Among u hexDigits) ⊎ (Not (p ≡ numberSign) × (p ≡ u))
 
 -- as many units, each matching
 abbrev pub Matches : List ℕ → List ℕ → Type 0

@@ -99,8 +99,10 @@ readings =
     ∷ ((register (named-entry 0 0 []) ∷ []), 0 ∷ 2 ∷ [])
     -- a trigger's name of no units, and of one
     ∷ ((register (entry 64 64 0 3 (G ++ (0 ∷ 0 ∷ []) ++ closed [])) ∷ register (entry 66 66 0 3 (G ++ (0 ∷ 0 ∷ []) ++ closed T)) ∷ []), 0 ∷ 2 ∷ 0 ∷ [])
-    -- '#' over hex digits, over itself, and over another letter
-    ∷ ((register (named-entry 0 1 (boot (0x23 ∷ 0x23 ∷ 0x23 ∷ 0x23 ∷ []))) ∷ write (boot (0x30 ∷ 0x30 ∷ 0x66 ∷ 0x46 ∷ [])) ∷ write (boot (0x23 ∷ 0x23 ∷ 0x23 ∷ 0x23 ∷ [])) ∷ write (boot (0x30 ∷ 0x30 ∷ 0x30 ∷ 0x47 ∷ [])) ∷ []), 0 ∷ 0 ∷ 8 ∷ 8 ∷ 0 ∷ [])
+    -- '#' over hex digits, over '#', and over another letter
+    ∷ ((register (named-entry 0 1 (boot (0x23 ∷ 0x23 ∷ 0x23 ∷ 0x23 ∷ []))) ∷ write (boot (0x30 ∷ 0x30 ∷ 0x66 ∷ 0x46 ∷ [])) ∷ write (boot (0x23 ∷ 0x23 ∷ 0x23 ∷ 0x23 ∷ [])) ∷ write (boot (0x30 ∷ 0x30 ∷ 0x30 ∷ 0x47 ∷ [])) ∷ []), 0 ∷ 0 ∷ 8 ∷ 0 ∷ 0 ∷ [])
+    -- a name with '#' is registered once, and its own variable is guarded by the whole namespace alone
+    ∷ ((register (named-entry 0 1 (boot (0x23 ∷ 0x23 ∷ 0x23 ∷ 0x23 ∷ []))) ∷ register (named-entry 0 1 (boot (0x23 ∷ 0x23 ∷ 0x23 ∷ 0x23 ∷ []))) ∷ register (whole-namespace 1) ∷ write (boot (0x23 ∷ 0x23 ∷ 0x23 ∷ 0x23 ∷ [])) ∷ []), 0 ∷ 0 ∷ 20 ∷ 0 ∷ 8 ∷ [])
     -- of two entries of one rank the first registered speaks, be it the one that locks or the other
     ∷ ((register (named-entry 0 1 (boot (0x30 ∷ 0x30 ∷ 0x23 ∷ 0x23 ∷ []))) ∷ register (named-entry 0 0 (boot (0x23 ∷ 0x23 ∷ 0x30 ∷ 0x31 ∷ []))) ∷ write (boot (0x30 ∷ 0x30 ∷ 0x30 ∷ 0x31 ∷ [])) ∷ []), 0 ∷ 0 ∷ 0 ∷ 8 ∷ [])
     ∷ ((register (named-entry 0 0 (boot (0x30 ∷ 0x30 ∷ 0x23 ∷ 0x23 ∷ []))) ∷ register (named-entry 0 1 (boot (0x23 ∷ 0x23 ∷ 0x30 ∷ 0x31 ∷ []))) ∷ write (boot (0x30 ∷ 0x30 ∷ 0x30 ∷ 0x31 ∷ [])) ∷ []), 0 ∷ 0 ∷ 0 ∷ 0 ∷ [])
@@ -130,4 +132,4 @@ readings =
 -- THE READINGS HOLD
 pub readings-hold : All Holds readings
 unfolding rulesOpened
-readings-hold = more refl (more refl (more refl (more refl (more refl (more refl (more refl (more refl (more refl (more refl (more refl (more refl (more refl (more refl (more refl (more refl (more refl (more refl nil)))))))))))))))))
+readings-hold = more refl (more refl (more refl (more refl (more refl (more refl (more refl (more refl (more refl (more refl (more refl (more refl (more refl (more refl (more refl (more refl (more refl (more refl (more refl nil))))))))))))))))))

@@ -13,6 +13,7 @@ ghost use Rattle.slices.specs.Bytes.{Bytes, part, same};
 ghost use Rattle.names.specs.Name.{Variable, variable, named};
 ghost use Rattle.entry.specs.Entry.{wellFormed, lockOf, entryOf};
 ghost use Rattle.policy.specs.Policy.{entriesOf};
+ghost use Rattle.policy.specs.Walk.{EntryEnds};
 ghost use Rattle.policy.specs.Choice.{chosen};
 ghost use Rattle.store.specs.Record.{hasNV, encodeRecord};
 ghost use Rattle.store.specs.Store.{endOf, placeOf, hasRoom, withoutVariable, withRecord};
@@ -231,6 +232,7 @@ fn entry_ground<'a>(
 // The ground that the chosen entry gives, none where no entry is chosen or the engine is disabled.
 fn ground<'a>(
     policy: &[u8],
+    ends: &[u16; policy::ENTRIES],
     enabled: bool,
     nv: &'a [u8],
     vol: &'a [u8],
@@ -240,7 +242,7 @@ fn ground<'a>(
     attributes: u32,
     payload: &[u8],
 ) -> Ground
-    requires { ⌜ Knows known (now nv) (now vol) (now policy) (variable (now namespace) (now name)) ⌝ }
+    requires { ⌜ Knows known (now nv) (now vol) (now policy) (variable (now namespace) (now name)) × EntryEnds (now ends) (now policy) ⌝ }
     ensures { λ r.
         ⌜ r ≡ groundBy (speaking enabled (chosen (entriesOf (now (policy .entry))) (variable (now (namespace .entry)) (now (name .entry)))))
         (lookup (now (nv .entry)) (now (vol .entry)))
@@ -249,7 +251,7 @@ fn ground<'a>(
     if !enabled {
         return Ground::NoGround;
     }
-    let choice = policy::choose(policy, known.count, namespace, name);
+    let choice = policy::choose(policy, known.count, ends, namespace, name);
     let Choice::Chosen {
         index: _,
         at,
@@ -363,6 +365,7 @@ fn decide_write<'a>(
 // All steps, over sound stores and a valid policy record.
 pub fn decide<'a>(
     policy: &[u8],
+    ends: &[u16; policy::ENTRIES],
     enabled: bool,
     nv: &'a [u8],
     vol: &'a [u8],
@@ -372,7 +375,7 @@ pub fn decide<'a>(
     attributes: u32,
     payload: &[u8],
 ) -> Decision
-    requires { ⌜ (sound (now nv) (now vol) ≡ true) × Knows known (now nv) (now vol) (now policy) (variable (now namespace) (now name)) ⌝ }
+    requires { ⌜ (sound (now nv) (now vol) ≡ true) × Knows known (now nv) (now vol) (now policy) (variable (now namespace) (now name)) × EntryEnds (now ends) (now policy) ⌝ }
     ensures { λ r.
         ⌜ r ≡ decision (speaking enabled (chosen (entriesOf (now (policy .entry))) (variable (now (namespace .entry)) (now (name .entry)))))
         (now (nv .entry)) (now (vol .entry))
@@ -384,6 +387,7 @@ pub fn decide<'a>(
     }
     let by_entry = ground(
         policy,
+        ends,
         enabled,
         nv,
         vol,

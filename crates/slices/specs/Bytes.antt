@@ -15,12 +15,15 @@ Bytes = List ℕ
 abbrev pub AreBytes : Bytes → Type 0
 AreBytes = All (λ b. b < 256)
 
--- the number that the two, or four, bytes from a place on spell, the lowest first; a byte past the end counts as 0
+-- the number that the two, four or eight bytes from a place on spell, the lowest first; a byte past the end counts as 0
 unfoldable pub le16 : Bytes → ℕ → ℕ
 le16 s at = getD s at 0 + 256 * getD s (at + 1) 0
 
 unfoldable pub le32 : Bytes → ℕ → ℕ
 le32 s at = le16 s at + 65536 * le16 s (at + 2)
+
+unfoldable pub le64 : Bytes → ℕ → ℕ
+le64 s at = le32 s at + 4294967296 * le32 s (at + 4)
 
 -- the two, or four, bytes of a number, the lowest first
 unfoldable pub le16Bytes : ℕ → Bytes

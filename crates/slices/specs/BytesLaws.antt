@@ -33,6 +33,15 @@ module _ (f : ℕ → ℕ → Bool) where
   pairwise-length (p ∷ ps) [] e = absurd (false≢true e)
   pairwise-length (p ∷ ps) (u ∷ us) e = ap suc (pairwise-length ps us (and-right _ _ e))
 
+  -- what holds of all holds from each later place on
+  pub pairwise-later : (k : ℕ) (ps us : Bytes) → pairwise f ps us ≡ true → pairwise f (drop k ps) (drop k us) ≡ true
+  unfolding pairwise
+  pairwise-later zero ps us e = e
+  pairwise-later (suc k) [] [] e = refl
+  pairwise-later (suc k) [] (u ∷ us) e = absurd (false≢true e)
+  pairwise-later (suc k) (p ∷ ps) [] e = absurd (false≢true e)
+  pairwise-later (suc k) (p ∷ ps) (u ∷ us) e = pairwise-later k ps us (and-right _ _ e)
+
   -- a test that every unit passes with itself, every list does
   pub pairwise-refl : ((u : ℕ) → f u u ≡ true) → (us : Bytes) → pairwise f us us ≡ true
   unfolding _and_ pairwise

@@ -7,7 +7,7 @@ use native.Mathlib.Nat.{div-div-eq-div-mul, mod-eq-of-lt, div-eq-of-lt, div-add-
 use lib.ListN.{length, getD, take, drop, List·getD-eq-default}
 use lib.Seq.{getD-take, getD-drop}
 use Rattle.slices.specs.PartLaws.{drop-step}
-use Rattle.slices.specs.Bytes.{Bytes, le16, le32, le16Bytes, le32Bytes}
+use Rattle.slices.specs.Bytes.{Bytes, le16, le32, le64, le16Bytes, le32Bytes}
 
 pub le16-past : (s : Bytes) (at : ℕ) → length s ≤ at → le16 s at ≡ 0
 unfolding le16
@@ -26,6 +26,10 @@ pub le32-take : (n : ℕ) (s : Bytes) (at : ℕ) → at + 4 ≤ n → le32 (take
 unfolding le32
 le32-take n s at h = simp (le16-take n s at (omega arith), le16-take n s (at + 2) (omega arith))
 
+pub le64-take : (n : ℕ) (s : Bytes) (at : ℕ) → at + 8 ≤ n → le64 (take n s) at ≡ le64 s at
+unfolding le64
+le64-take n s at h = simp (le32-take n s at (omega arith), le32-take n s (at + 4) (omega arith))
+
 -- a number behind the first n bytes
 pub le16-drop : (n : ℕ) (s : Bytes) (at : ℕ) → le16 (drop n s) at ≡ le16 s (n + at)
 unfolding le16
@@ -38,6 +42,12 @@ unfolding le32
 le32-drop n s at =
     let k : n + (at + 2) ≡ n + at + 2 = omega arith in
     simp (le16-drop, k)
+
+pub le64-drop : (n : ℕ) (s : Bytes) (at : ℕ) → le64 (drop n s) at ≡ le64 s (n + at)
+unfolding le64
+le64-drop n s at =
+    let k : n + (at + 4) ≡ n + at + 4 = omega arith in
+    simp (le32-drop, k)
 
 -- from bytes to a number and back
 pub le16-bytes : (n : ℕ) (l : Bytes) → n < 65536 → le16 (le16Bytes n ++ l) 0 ≡ n

@@ -1,8 +1,8 @@
-// Byte primitives: numbers of two and four bytes, parts, tests of bytes, a hash, and writes and moves in place.
+// Byte primitives: numbers of two, four and eight bytes, parts, tests of bytes, a hash, and writes and moves in place.
 ghost use mathlib.Core.Path.{_≡_};
 ghost use Prim.Native.Nat.{_+_, _≤_, _<_};
 ghost use lib.ListN.{length, getD, take, drop, replicate};
-ghost use Rattle.slices.specs.Bytes.{le16, le32, part, allAre, same, overwrite};
+ghost use Rattle.slices.specs.Bytes.{le16, le32, le64, part, allAre, same, overwrite};
 ghost use Rattle.slices.specs.Hash.{hashFrom};
 
 // The byte at a place, and 0 past the end.
@@ -74,6 +74,13 @@ pub fn get32(s: &[u8], at: usize) -> usize
     ensures bound { λ r. ⌜ r < 4294967296 ⌝ }
 {
     get16(s, at) + 65536 * get16(s, at + 2)
+}
+
+pub fn get64(s: &[u8], at: usize) -> usize
+    requires { ⌜ at + 8 ≤ length (now s) ⌝ }
+    ensures { λ r. ⌜ r ≡ le64 (now (s .entry)) at ⌝ }
+{
+    get32(s, at) + 4294967296 * get32(s, at + 4)
 }
 
 // Whether every byte is v. No exit before the end, so that the loop is compiled to wide compares.

@@ -97,7 +97,7 @@ pub fn choice_in_set() -> Group {
         work: Work::Call(set_under(name, true)),
         without: Some(Work::Call(set_under(name, false))),
         lent: inputs::with_short_stores(&entries),
-        bar: Some(Bar::AtMost(1.1)),
+        bar: Some(Bar::AtMost(1.0)),
     };
     let title = "the choice, with what the chosen entry says";
     Group { title, columns: VERSIONS, ratios: RATIOS, cases: over_policies(case), growth: Vec::new() }
@@ -128,7 +128,7 @@ fn group(title: &'static str, cases: Vec<Case>) -> Group {
 pub fn choice() -> Group {
     let cases = over_policies(|count, (what, entries, name)| {
         let name_of_case = format!("choice, {count} entries, {what}");
-        let case = case(name_of_case, Part::Choose(name), inputs::with_entries(&entries), Bar::AtMost(1.1));
+        let case = case(name_of_case, Part::Choose(name), inputs::with_entries(&entries), Bar::AtMost(1.0));
         Case { without: Some(Work::Part(Part::Choose(Name::EMPTY))), ..case }
     });
     group("the choice alone", cases)
@@ -138,16 +138,19 @@ pub fn choice() -> Group {
 pub fn comparison() -> Group {
     let letters = "Variable".repeat(8);
     let digits = "0123456789abcdef".repeat(4);
-    let (head, last) = (&letters[..60], &letters[..63]);
+    let head = &letters[..60];
+    let differing = |place: usize| format!("{}!{}", &letters[..place], &letters[place + 1..]);
     let pairs = [
         ("equal", letters.clone(), letters.clone()),
-        ("the last unit differs", letters.clone(), format!("{last}!")),
+        ("the first unit differs", letters.clone(), differing(0)),
+        ("the middle unit differs", letters.clone(), differing(32)),
+        ("the last unit differs", letters.clone(), differing(63)),
         ("four '#' at the end", format!("{head}####"), format!("{head}0042")),
         ("all '#'", "#".repeat(64), digits),
     ];
     let cases = pairs.map(|(what, pattern, name)| {
         let part = Part::Match { pattern: inputs::text(&pattern), name: inputs::text(&name) };
-        Case::new(format!("compare 64 units, {what}"), Work::Part(part), inputs::empty())
+        case(format!("compare 64 units, {what}"), part, inputs::empty(), Bar::AtMost(1.0))
     });
     group("one name against one pattern", cases.into())
 }

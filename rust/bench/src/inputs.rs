@@ -126,9 +126,10 @@ pub fn numbered(count: usize, units: usize) -> Vec<Entry> {
 /// What a policy is, its entries, and the name of a variable to set.
 pub type Policy = (&'static str, Vec<Entry>, Name);
 
-/// Policies of `count` entries. Of the mixed one no entry matches.
+/// Policies of `count` entries. Of the mixed one, and where a unit differs, no entry matches.
 pub fn policies(count: usize) -> Vec<Policy> {
     let last = count - 1;
+    let (short, long) = ("Variable", &"Variable".repeat(6)[..41]);
     let wild = (0..count).map(|number| Entry::new(OURS, text(&format!("Boot{number:02X}##")))).collect();
     let mixed = (0..count).map(mixed_entry).collect();
     vec![
@@ -136,7 +137,21 @@ pub fn policies(count: usize) -> Vec<Policy> {
         ("last match", numbered(count, 8), text(&format!("NNNN{last:04X}"))),
         ("wildcards, last match", wild, text(&format!("Boot{last:02X}77"))),
         ("mixed", mixed, text("Boot0041")),
+        ("first of 8 units differs", differing(count, short, 0), text(short)),
+        ("last of 8 units differs", differing(count, short, 7), text(short)),
+        ("first of 41 units differs", differing(count, long, 0), text(long)),
+        ("last of 41 units differs", differing(count, long, 40), text(long)),
     ]
+}
+
+/// `count` entries whose names differ from `name` in the unit at `place` and nowhere else.
+fn differing(count: usize, name: &str, place: usize) -> Vec<Entry> {
+    let entry = |number: usize| {
+        let mut units: Vec<u16> = name.encode_utf16().collect();
+        units[place] = 0x100 + number as u16;
+        Entry::new(OURS, Name::from_units(units).expect("at most 64 units"))
+    };
+    (0..count).map(entry).collect()
 }
 
 /// Names of different lengths and namespaces, some with '#', some with triggers.

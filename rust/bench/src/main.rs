@@ -1,4 +1,5 @@
-//! `bench [time|instructions|bars]`: measures the proved library beside ordinary Rust over the same bytes.
+//! `bench [time|instructions|bars [WORD]]`: measures the proved library beside ordinary Rust over the same bytes. With a
+//! word only the groups of cases that have it in their title.
 //!
 //! Every case is a call, or a part of one, with the same lent bytes for all: the library, and one or two versions in
 //! ordinary Rust (see `plain`). First all of them must give the same answers and leave the same bytes. Then
@@ -75,18 +76,18 @@ fn main() -> ExitCode {
                 None => ExitCode::from(2),
             }
         }
-        [] => bench(true, true, false),
-        ["time"] => bench(true, false, false),
-        ["instructions"] => bench(false, true, false),
-        ["bars"] => bench(false, true, true),
+        [] => bench(true, true, false, ""),
+        ["time", word @ ..] if word.len() < 2 => bench(true, false, false, &word.concat()),
+        ["instructions", word @ ..] if word.len() < 2 => bench(false, true, false, &word.concat()),
+        ["bars", word @ ..] if word.len() < 2 => bench(false, true, true, &word.concat()),
         _ => {
-            eprintln!("usage: bench [time|instructions|bars]");
+            eprintln!("usage: bench [time|instructions|bars [WORD]]");
             ExitCode::from(2)
         }
     }
 }
 
-fn bench(time: bool, instructions: bool, must_hold: bool) -> ExitCode {
+fn bench(time: bool, instructions: bool, must_hold: bool, word: &str) -> ExitCode {
     let one_slot = inputs::of_one_slot(2 * 819);
     let groups = GROUPS.map(|group| group(&one_slot));
     if let Err(difference) = check(&groups) {
@@ -96,7 +97,7 @@ fn bench(time: bool, instructions: bool, must_hold: bool) -> ExitCode {
     println!("{ABOUT}");
     if time {
         println!("NANOSECONDS of a call, the least in 60 rounds run in turn\n");
-        for group in &groups {
+        for group in groups.iter().filter(|group| group.title.contains(word)) {
             report::print(group, None, |case, _| Some(case.time(group.columns.len())));
         }
     }
@@ -106,7 +107,7 @@ fn bench(time: bool, instructions: bool, must_hold: bool) -> ExitCode {
     println!("INSTRUCTIONS of a call, by valgrind --tool=callgrind\n");
     let mut verdict = Verdict::default();
     let one_slot = one_slot.iter().map(u32::to_string).collect::<Vec<_>>().join(",");
-    for (place, group) in groups.iter().enumerate() {
+    for (place, group) in groups.iter().enumerate().filter(|(_, group)| group.title.contains(word)) {
         let counted = report::print(group, Some(&mut verdict), |case, place_of_case| {
             case.instructions(group.columns.len(), &[place.to_string(), place_of_case.to_string(), one_slot.clone()])
         });

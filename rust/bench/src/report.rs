@@ -70,5 +70,5 @@ fn print_row(name: &str, mut figures: Vec<String>, mut ratios: Vec<String>, bar:
     figures.resize(4, String::new());
     ratios.resize(2, String::new());
     let cells: String = figures.iter().chain(&ratios).map(|cell| format!("{cell:>9}")).collect();
-    println!("{}", format!("{name:<51}{cells}  {bar}").trim_end());
+    println!("{}", format!("{name:<55}{cells}  {bar}").trim_end());
 }

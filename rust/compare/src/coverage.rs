@@ -3,6 +3,7 @@
 
 use crate::call::Ground;
 use crate::inputs::labels;
+use crate::tallies::{Each, Tallies};
 use crate::{damage, steps};
 use reference::RegisterGround as R;
 use reference::SetGround as S;
@@ -81,6 +82,9 @@ pub enum Input {
     Payload,
     Choice,
     UnderSign,
+    SignInName,
+    SignLock,
+    SignRegistered,
     MinSize,
     MaxSize,
     AgainstSizes,
@@ -127,6 +131,17 @@ fn groups() -> Vec<Group> {
         Group::new(Payload, "length of a set's payload", labels::PAYLOAD),
         Group::new(Choice, "entries that target the variable", labels::CHOICE),
         Group::new(UnderSign, "unit of a set's name under an entry's '#'", labels::UNDER_SIGN),
+        Group::new(
+            SignInName,
+            "variable with '#' in its name, and an entry near it that has no say",
+            labels::sign_in_name_labels(),
+        ),
+        Group::new(
+            SignLock,
+            "lock of the whole namespace, over a variable with '#' in its name",
+            labels::locks_by_place(),
+        ),
+        Group::new(SignRegistered, "registration beside an entry with '#', or of one", labels::SIGN_REGISTERED),
         Group::new(MinSize, "MinSize of the chosen entry", labels::size_labels()),
         Group::new(MaxSize, "MaxSize of the chosen entry", labels::size_labels()),
         Group::new(
@@ -232,15 +247,14 @@ impl fmt::Display for Group {
 pub struct Coverage {
     answers: [u64; ANSWERS.len()],
     groups: Vec<Group>,
-    /// Which units have stood under a '#'.
-    under_sign: Vec<bool>,
+    tallies: Tallies,
 }
 
 impl Default for Coverage {
     fn default() -> Coverage {
         let groups = groups();
         assert!(groups.iter().enumerate().all(|(place, group)| group.input as usize == place));
-        Coverage { answers: [0; ANSWERS.len()], groups, under_sign: vec![false; 1 << 16] }
+        Coverage { answers: [0; ANSWERS.len()], groups, tallies: Tallies::default() }
     }
 }
 
@@ -256,14 +270,9 @@ impl Coverage {
         self.groups[input as usize].counts[label] += 1;
     }
 
-    /// Notes a unit that stood under a '#'.
-    pub fn unit_under_sign(&mut self, unit: u16) {
-        self.under_sign[usize::from(unit)] = true;
-    }
-
-    /// How many of the 65,536 units have not stood under a '#'.
-    fn units_missed(&self) -> usize {
-        self.under_sign.iter().filter(|tried| !**tried).count()
+    /// Notes an input of which each must be hit, by its number.
+    pub fn each(&mut self, each: Each, number: usize) {
+        self.tallies.hit(each, number);
     }
 
     /// What can be hit and was not.
@@ -274,9 +283,7 @@ impl Coverage {
             let missed = group.rows().filter(|(_, count)| *count == 0);
             missed.map(|(label, _)| format!("{}: {label}", group.title))
         });
-        let units = Some(self.units_missed()).filter(|count| *count > 0);
-        let units = units.map(|count| format!("unit of a set's name under an entry's '#': {count} of the 65536"));
-        answers.chain(inputs).chain(units).collect()
+        answers.chain(inputs).chain(self.tallies.missed()).collect()
     }
 }
 
@@ -289,6 +296,6 @@ impl fmt::Display for Coverage {
         for group in &self.groups {
             write!(out, "{group}")?;
         }
-        writeln!(out, "\ndifferent units under '#'\n  {} of 65536", self.under_sign.len() - self.units_missed())
+        write!(out, "{}", self.tallies)
     }
 }

@@ -13,6 +13,7 @@ pub mod random;
 pub mod state;
 pub mod steps;
 pub mod sweep;
+pub mod tallies;
 
 use comparison::Comparison;
 

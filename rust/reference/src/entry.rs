@@ -151,3 +151,33 @@ impl Trigger {
         bytes
     }
 }
+
+#[cfg(test)]
+mod tests {
+    use super::*;
+
+    fn entry(name: &str) -> Entry {
+        let name = name.encode_utf16().collect();
+        let (namespace, reserved) = ([7; 16], [0; 3]);
+        let lock = LockRule::LockNow;
+        Entry { namespace, name, min_size: 0, max_size: 9, must_have: 0, cant_have: 0, lock, reserved }
+    }
+
+    #[test]
+    fn a_name_with_number_signs_is_targeted_by_the_whole_namespace_alone() {
+        let name = entry("Boot####").name;
+        for pattern in ["Boot####", "Boot0000", "########", "#oot####"] {
+            assert!(!entry(pattern).targets(&[7; 16], &name), "{pattern}");
+        }
+        assert!(entry("").targets(&[7; 16], &name));
+        assert!(!entry("").targets(&[8; 16], &name));
+    }
+
+    #[test]
+    fn registration_compares_unit_for_unit() {
+        assert!(entry("Boot####").repeats(&entry("Boot####")));
+        for other in ["Boot0000", "Boot###0", "Boot###", ""] {
+            assert!(!entry("Boot####").repeats(&entry(other)) && !entry(other).repeats(&entry("Boot####")), "{other}");
+        }
+    }
+}

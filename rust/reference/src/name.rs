@@ -36,13 +36,17 @@ pub(crate) fn wildcards(name: &[u16]) -> usize {
     name.iter().filter(|unit| **unit == NUMBER_SIGN).count()
 }
 
-/// Whether a pattern matches a name: as many units, each equal or '#' over a hex digit.
+/// Whether a pattern matches a name (docs/RULES.md, 4.1): it has as many units, and each matches the one at its place.
 pub(crate) fn matches(pattern: &[u16], name: &[u16]) -> bool {
     pattern.len() == name.len() && pattern.iter().zip(name).all(|(wanted, unit)| unit_matches(*wanted, *unit))
 }
 
+/// '#' matches the hex digits and nothing else, any other unit itself alone.
 fn unit_matches(wanted: u16, unit: u16) -> bool {
-    wanted == unit || (wanted == NUMBER_SIGN && is_hex_digit(unit))
+    match wanted {
+        NUMBER_SIGN => is_hex_digit(unit),
+        _ => wanted == unit,
+    }
 }
 
 fn is_hex_digit(unit: u16) -> bool {
@@ -58,11 +62,34 @@ mod tests {
     }
 
     #[test]
-    fn number_sign_is_a_hex_digit_or_itself() {
-        for (name, expected) in [("Boot00fF", true), ("Boot####", true), ("Boot000G", false), ("Boot000", false)] {
-            assert_eq!(matches(&text("Boot####"), &text(name)), expected, "{name}");
+    fn number_sign_is_a_hex_digit_and_nothing_else() {
+        assert!(matches(&text("Boot####"), &text("Boot00fF")));
+        for name in ["Boot####", "Boot000#", "Boot000G", "Boot000", "Boot00000", "boot0000"] {
+            assert!(!matches(&text("Boot####"), &text(name)), "{name}");
         }
-        assert!(!matches(&[NUMBER_SIGN], &[0x0130]));
+        let digits = text("0123456789ABCDEFabcdef");
+        for unit in 0..=u16::MAX {
+            assert_eq!(matches(&[NUMBER_SIGN], &[unit]), digits.contains(&unit), "{unit:#x}");
+        }
+    }
+
+    #[test]
+    fn another_unit_is_itself_and_nothing_else() {
+        for unit in 0..=u16::MAX {
+            assert_eq!(matches(&[unit], &[unit]), unit != NUMBER_SIGN, "{unit:#x}");
+            assert!(!matches(&[unit], &[unit ^ 0x20]), "{unit:#x}");
+        }
+        for pattern in ["#", "0", "g", "*"] {
+            assert!(!matches(&text(pattern), &text("#")), "{pattern}");
+        }
+    }
+
+    #[test]
+    fn every_number_sign_counts_for_the_rank() {
+        for (name, expected) in [("Boot", 0), ("#oot000#", 2), ("Boot####", 4)] {
+            assert_eq!(wildcards(&text(name)), expected, "{name}");
+        }
+        assert_eq!(wildcards(&[0x0123, 0x2300, 0xFF03]), 0);
     }
 
     #[test]

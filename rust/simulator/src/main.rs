@@ -36,7 +36,8 @@ Reads a history from FILE or standard input, one call to a line:
 
   NAMESPACE   an alias, a GUID, or 32 hex digits
   NAME        \"text\", in which \\uXXXX is one 16-bit unit; elsewhere than in register also
-              hex:DIGITS for any bytes; in register also * for the whole namespace
+              hex:DIGITS for any bytes; in register also * for the whole namespace, and # in
+              the text matches a hex digit and nothing else
   ATTRIBUTES  NV|BS|RT|APPEND, a number such as 0x8, or 0
   PAYLOAD     hex digits, \"text\", or COUNT*HH, in any number
   FIELDS      min=N max=N must=ATTRIBUTES cant=ATTRIBUTES lock=no|now|on-create|on-state, and with

@@ -12,7 +12,8 @@ pub fn changed(entries: &[&[u8]], places: &[usize]) -> Option<(usize, usize)> {
     })
 }
 
-/// Whether two packed entries tie.
+/// Whether two packed entries tie: at each place some unit is matched by both names. Where both have '#' every hex digit
+/// is, where one has it the other's unit if it is a hex digit, else that unit if both have it (docs/RULES.md, 4.1).
 fn tie(one: &[u8], other: &[u8]) -> bool {
     let namespace = 8..24;
     let (ones, others) = (units(one), units(other));
@@ -63,6 +64,39 @@ mod tests {
         assert!(!ties("A#", "A#1"), "other lengths");
         assert!(!ties("", "A"), "a whole namespace ranks behind all others");
         assert!(!tie(&entry(1, "A#"), &entry(2, "#b")), "other namespaces");
+    }
+
+    /// Whether a pattern matches a name, as docs/RULES.md, 4.1, says it.
+    fn matches(pattern: &str, name: &str) -> bool {
+        let unit_matches = |(wanted, unit): (char, char)| match wanted {
+            '#' => unit.is_ascii_hexdigit(),
+            _ => unit == wanted,
+        };
+        pattern.len() == name.len() && pattern.chars().zip(name.chars()).all(unit_matches)
+    }
+
+    /// All names of one to three units out of '#', two digits and a letter that is none.
+    fn short_names() -> Vec<String> {
+        let longer = |names: &[String]| -> Vec<String> {
+            names.iter().flat_map(|name| ["#", "0", "b", "G"].map(|unit| format!("{name}{unit}"))).collect()
+        };
+        let one = longer(&[String::new()]);
+        let two = longer(&one);
+        let three = longer(&two);
+        [one, two, three].concat()
+    }
+
+    #[test]
+    fn a_tie_is_a_name_that_both_match() {
+        let names = short_names();
+        let signs = |name: &str| name.matches('#').count();
+        for one in &names {
+            for other in names.iter().filter(|other| signs(other) == signs(one)) {
+                let common = names.iter().any(|name| matches(one, name) && matches(other, name));
+                assert_eq!(tie(&entry(1, one), &entry(1, other)), common, "{one} {other}");
+            }
+        }
+        assert!(names.iter().filter(|name| name.contains('#')).all(|name| !matches(name, name)));
     }
 
     #[test]

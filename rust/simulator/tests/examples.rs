@@ -30,7 +30,7 @@ fn examples_print_what_is_expected() {
         assert!(output.status.success());
         run += 1;
     }
-    assert!(run >= 6);
+    assert!(run >= 7);
 }
 
 #[test]
@@ -102,10 +102,11 @@ places: later answers may differ
 }
 
 #[test]
-fn help_tells_when_another_order_matters() {
+fn help_tells_what_another_order_and_a_number_sign_do() {
     let output = Command::new(env!("CARGO_BIN_EXE_simulate")).arg("--help").output().expect("simulate runs");
     let help = String::from_utf8_lossy(&output.stdout);
-    for words in ["equal\n", "rank target one variable and change places", "but not in a note"] {
+    let order = "rank target one variable and change places";
+    for words in ["equal\n", order, "but not in a note", "matches a hex digit and nothing else"] {
         assert!(help.contains(words), "{words}");
     }
 }

@@ -13,14 +13,14 @@ use Rattle.bench_parts.proofs.bench_choose.Tie as tie
 
 -- the start, the check of the record, and the choice behind it
 abbrev Start : tie.After-checked → tie.Start
-Start k = k .before .before .before .before .before
+Start k = k .before .before .before .before .before .before .before
 
 abbrev Valid : tie.After-choose → tie.After-checked
-Valid d = d .before .before .before
+Valid d = d .before .before .before .before
 
 -- what the check found of the record
 known : (k : tie.After-checked) → Checked (Start k .args .policy .now) (k .checked .given .0 .0) (k .checked .given .0 .1 .0)
-known k = check-valid _ _ _ (sym (k .before .before .check .ensures) ∙ k .checked .given .1)
+known k = check-valid _ _ _ (sym (k .before .before .check-noting .ensures .0) ∙ k .checked .given .1)
 
 -- behind the choice an answer that tells it is the one promised: the record is valid and the name is not empty
 abbrev Asked : tie.After-checked → Variable
@@ -29,10 +29,13 @@ Asked k = variable (Start k .args .namespace .now) (Start k .args .name .now)
 told : (d : tie.After-choose) {a : Numbers}
     → a ≡ ofChoice (choiceOf (entriesOf (Start (Valid d) .args .policy .now)) (Asked (Valid d)))
     → a ≡ chosenIn (Start (Valid d) .args .policy .now) (Asked (Valid d))
-told d = asked _ _ _ (known (Valid d) .valid) (d .before .if1 .left)
+told d = asked _ _ _ (known (Valid d) .valid) (d .before .before .if1 .left)
 
-check-requires : tie.Need-check-requires
-check-requires c κs = search needs
+no-ends-requires : tie.Need-no-ends-requires
+no-ends-requires c κs = search needs
+
+check-noting-requires : tie.Need-check-noting-requires
+check-noting-requires c κs = search needs
 
 enum-known-checked : tie.Need-enum-known-checked
 enum-known-checked c = search needs
@@ -44,7 +47,7 @@ answer-requires : tie.Need-answer-requires
 answer-requires c κs = search needs
 
 returns : tie.Need-returns
-returns c = c .answer .ensures ∙ not-ok _ _ _ (check-invalid _ (sym (c .before .before .before .check .ensures) ∙ c .before .enum-told .given .1))
+returns c = c .answer .ensures ∙ not-ok _ _ _ (check-invalid _ (sym (c .before .before .before .check-noting .ensures .0) ∙ c .before .enum-told .given .1))
 
 answer-requires-2 : tie.Need-answer-requires-2
 answer-requires-2 c κs = search needs
@@ -53,7 +56,9 @@ returns-2 : tie.Need-returns-2
 returns-2 c = c .answer2 .ensures ∙ not-asked _ _ _ (c .before .if1 .taken)
 
 choose-requires : tie.Need-choose-requires
-choose-requires c κs = known (c .before .before) .counted
+choose-requires c κs =
+    let k = c .before .before .before in
+    (known k .counted, k .before .before .check-noting .ensures .1 (known k .valid))
 
 enum-known-choice : tie.Need-enum-known-choice
 enum-known-choice c = search needs
@@ -77,7 +82,8 @@ pub bench-choose-spec : {M : Type 1} → statement M
 bench-choose-spec =
     tie.close
     (tie.spec
-    check-requires
+    no-ends-requires
+    check-noting-requires
     enum-known-checked
     enum-told
     answer-requires

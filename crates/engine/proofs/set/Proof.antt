@@ -30,10 +30,10 @@ checked c = check-sound _ _ _ (sym (c .before .before .check .ensures) ∙ c .ch
 
 -- the policy record valid
 abbrev Sound : tie.After-entries → tie.After-checked
-Sound c = c .before .before .before .before
+Sound c = c .before .before .before .before .before .before
 
 valid : (c : tie.After-entries) → Checked (Lent (Sound c) .args .policy .now) (c .entries .given .0 .0) (c .entries .given .0 .1 .0)
-valid c = check-valid _ _ _ (sym (c .before .before .check2 .ensures) ∙ c .entries .given .1)
+valid c = check-valid _ _ _ (sym (c .before .before .check-noting .ensures .0) ∙ c .entries .given .1)
 
 -- the variable looked for
 abbrev Valid : tie.After-locate → tie.After-entries
@@ -62,7 +62,7 @@ knows c =
 
 -- the request decided
 abbrev Located : tie.After-decide → tie.After-locate
-Located c = c .before .before .before .before
+Located c = c .before .before .before .before .before
 
 -- ---- the needs
 check-requires : tie.Need-check-requires
@@ -83,8 +83,11 @@ same-length-2 c = search needs
 returns : tie.Need-returns
 returns c = set-unsound _ _ _ _ _ (check-unsound _ _ (sym (c .before .before .check .ensures) ∙ c .enum-told .given .1))
 
-check-requires-2 : tie.Need-check-requires-2
-check-requires-2 c κs = search needs
+no-ends-requires : tie.Need-no-ends-requires
+no-ends-requires c κs = search needs
+
+check-noting-requires : tie.Need-check-noting-requires
+check-noting-requires c κs = search needs
 
 enum-known-entries : tie.Need-enum-known-entries
 enum-known-entries c = search needs
@@ -99,13 +102,15 @@ same-length-4 : tie.Need-same-length-4
 same-length-4 c = search needs
 
 returns-2 : tie.Need-returns-2
-returns-2 c = set-invalid _ _ _ _ _ (check-invalid _ (sym (c .before .before .check2 .ensures) ∙ c .enum-told2 .given .1))
+returns-2 c = set-invalid _ _ _ _ _ (check-invalid _ (sym (c .before .before .check-noting .ensures .0) ∙ c .enum-told2 .given .1))
 
 locate-requires : tie.Need-locate-requires
 locate-requires c κs = checked (Sound (c .before .before .before .before)) .1
 
 decide-requires : tie.Need-decide-requires
-decide-requires c κs = let l = c .before .before .before in (checked (Sound (Valid l)) .0, knows l)
+decide-requires c κs =
+    let l = c .before .before .before .before in
+    (checked (Sound (Valid l)) .0, knows l, Valid l .before .before .check-noting .ensures .1 (valid (Valid l) .valid))
 
 carry-out-requires : tie.Need-carry-out-requires
 carry-out-requires c κs =
@@ -140,7 +145,8 @@ set-spec =
     same-length
     same-length-2
     returns
-    check-requires-2
+    no-ends-requires
+    check-noting-requires
     enum-known-entries
     enum-told-2
     same-length-3

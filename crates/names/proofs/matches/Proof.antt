@@ -1,98 +1,109 @@
--- `names::matches` meets its contract. The invariant: whether the names match is whether their units from k on do.
--- The measure is the number of units from k on. Assumes nothing.
-use mathlib.Core.Path.{_≡_, refl, sym, _∙_}
-use Prim.Native.Nat.{_≤_, _-_}
+-- `names::matches` meets its contract. Assumes nothing.
+use mathlib.Core.Path.{_≡_, sym, ap₂, _∙_}
+use mathlib.Core.Bool.{true}
+use Prim.Native.Nat.{ℕ, _*_}
 use native.Mathlib.Omega.{arith}
-use lib.ListN.{drop}
-use borrow.Author.Tests.{not-true, not-false}
+use lib.ListN.{length, take, length-take}
+use borrow.Author.Tests.{not-true}
 use borrow.Author.Needs.{needs}
-use Rattle.slices.specs.Test.{_and_}
-use Rattle.slices.specs.TestLaws.{and-yes}
-use Rattle.slices.specs.Bytes.{pairwise}
-use Rattle.slices.specs.BytesLaws.{pairwise-lengths, pairwise-end}
+use Rattle.slices.specs.Bytes.{Bytes, pairwise}
+use Rattle.slices.specs.BytesLaws.{pairwise-lengths}
+use Rattle.slices.specs.TestLaws.{forced-off}
 use Rattle.names.specs.Name.{units, unitMatches}
+use Rattle.names.specs.NameLaws.{units-length, units-whole, matches-end}
 use Rattle.names.proofs.matches.Statement.{statement}
 use Rattle.names.proofs.matches.Tie as tie
 
-abbrev Inv-loop : tie.InvT-loop
-Inv-loop p v n k₀ k = (k ≤ n) × (pairwise unitMatches (units p) (units v) ≡ pairwise unitMatches (drop k (units p)) (drop k (units v)))
+-- k is the number of units of both
+module _ (p v : Bytes) {k : ℕ} (ep : k ≡ length (units p)) (ev : k ≡ length (units v)) where
+  long-p : length (take (2 * k) p) ≡ 2 * k
+  long-p = omega (arith, length-take (2 * k) p, units-length p)
 
-abbrev μ-loop : tie.MeasureT-loop
-μ-loop p v n k₀ k = n - k
+  long-v : length (take (2 * k) v) ≡ 2 * k
+  long-v = omega (arith, length-take (2 * k) v, units-length v)
 
-unit-count-requires : tie.Need-unit-count-requires Inv-loop μ-loop
+  whole : pairwise unitMatches (units (take (2 * k) p)) (units (take (2 * k) v)) ≡ pairwise unitMatches (units p) (units v)
+  whole = ap₂ (pairwise unitMatches) (units-whole k p ep) (units-whole k v ev)
+
+  none : k ≡ 0 → pairwise unitMatches (units p) (units v) ≡ true
+  none z = matches-end p v 0 (omega (arith, units-length p)) (omega (arith, units-length v))
+
+unit-count-requires : tie.Need-unit-count-requires
 unit-count-requires c κs = search needs
 
-unit-count-requires-2 : tie.Need-unit-count-requires-2 Inv-loop μ-loop
+mul-n : tie.Need-mul-n
+mul-n c = omega (arith, c .unit-count .ensures, units-length (c .before .before .before .args .p .now))
+
+unit-count-requires-2 : tie.Need-unit-count-requires-2
 unit-count-requires-2 c κs = search needs
 
-returns : tie.Need-returns Inv-loop μ-loop
+mul-if1 : tie.Need-mul-if1
+mul-if1 c = omega (arith, c .unit-count2 .ensures, units-length (c .before .before .before .before .args .v .now))
+
+returns : tie.Need-returns
 returns c =
-    let a = c .before .before .before .before .before .args in
-    sym (pairwise-lengths unitMatches (units (a .p .now)) (units (a .v .now)) (λ e. c .if1 .taken (c .before .before .unit-count .ensures ∙ e ∙ sym (c .before .unit-count2 .ensures))))
+    let n = c .before in
+    let a = n .before .before .before .before .args in
+    sym (pairwise-lengths unitMatches (units (a .p .now)) (units (a .v .now)) (λ e. c .if1 .taken (omega (arith, n .before .unit-count .ensures, n .unit-count2 .ensures))))
 
-loop-holds : tie.Need-loop-holds Inv-loop μ-loop
-loop-holds c = (omega arith, refl)
+-- as many units in both
+abbrev P : tie.Else1 → Bytes
+P c = c .before .before .before .before .before .args .p .now
 
-sub-loop : tie.Need-sub-loop Inv-loop μ-loop
-sub-loop c = omega arith
+abbrev N : tie.Else1 → Bytes
+N c = c .before .before .before .before .before .args .v .now
 
-four-match-requires : tie.Need-four-match-requires Inv-loop μ-loop
-four-match-requires c κs =
-    let g = c .before .before .before in
-    (omega (arith, g .before .unit-count .ensures), omega (arith, g .unit-count2 .ensures, c .before .before .if1 .left))
+as-many : (c : tie.Else1) → c .before .before .unit-count .result ≡ length (units (N c))
+as-many c = omega (arith, c .if1 .left, c .before .unit-count2 .ensures)
 
-returns-2 : tie.Need-returns-2 Inv-loop μ-loop
-unfolding _and_
+returns-2 : tie.Need-returns-2
 returns-2 c =
     let m = c .before in
-    let l = m .before .before in
-    sym (l .loop .inv .1 ∙ m .four-match .ensures ∙ rw (not-true (m .four-match .result) (c .if2 .taken)))
+    sym (none (P m) (N m) (m .before .before .unit-count .ensures) (as-many m) (omega arith))
 
-add-k : tie.Need-add-k Inv-loop μ-loop
-add-k c = omega arith
+slice-aggregate-own : tie.Need-slice-aggregate-own
+slice-aggregate-own c = let m = c .before .before in sym (long-p (P m) (N m) (m .before .before .unit-count .ensures) (as-many m))
 
-loop-less : tie.Need-loop-less Inv-loop μ-loop
-loop-less c = omega arith
+slice-aggregate-name : tie.Need-slice-aggregate-name
+slice-aggregate-name c = let m = c .before .before .before in sym (long-v (P m) (N m) (m .before .before .unit-count .ensures) (as-many m))
 
-loop-again : tie.Need-loop-again Inv-loop μ-loop
-unfolding _and_
-loop-again c =
-    let m = c .before in
-    let l = m .before .before in
-    (omega arith, l .loop .inv .1 ∙ m .four-match .ensures ∙ rw (not-false (m .four-match .result) (c .if2 .left)))
+ends-near-requires : tie.Need-ends-near-requires
+ends-near-requires c κs =
+    let m = c .before .before .before in
+    let p = long-p (P m) (N m) (m .before .before .unit-count .ensures) (as-many m) in
+    let v = long-v (P m) (N m) (m .before .before .unit-count .ensures) (as-many m) in
+    (p ∙ sym v, omega (arith, v), omega (arith, v, c .before .before .if2 .left))
 
-units-match-requires : tie.Need-units-match-requires Inv-loop μ-loop
-units-match-requires c κs =
-    let g = c .before .before .before in
-    (omega arith, omega (arith, g .before .unit-count .ensures), omega (arith, g .unit-count2 .ensures, c .before .before .if1 .left))
-
-returns-3 : tie.Need-returns-3 Inv-loop μ-loop
+returns-3 : tie.Need-returns-3
 returns-3 c =
-    let l = c .before .before in
-    let g = l .before .before in
-    let a = g .before .before .before .before .args in
-    let n = g .before .unit-count .result in
-    sym (
-    l .loop .inv .1 ∙ c .units-match .ensures
-    ∙ rw (pairwise-end unitMatches (units (a .p .now)) (units (a .v .now)) n (omega (arith, g .before .unit-count .ensures)) (omega (arith, g .unit-count2 .ensures, l .before .if1 .left))) (and-yes (c .units-match .result))
-    )
+    let y = c .before in
+    let m = y .before .before .before .before in
+    let w = whole (P m) (N m) (m .before .before .unit-count .ensures) (as-many m) in
+    sym (forced-off (pairwise unitMatches (units (P m)) (units (N m))) (λ e. sym (not-true (y .ends-near .result) (c .if3 .taken)) ∙ y .ends-near .ensures (w ∙ e)))
+
+units-match-requires : tie.Need-units-match-requires
+units-match-requires c κs =
+    let m = c .before .before .before .before .before in
+    long-p (P m) (N m) (m .before .before .unit-count .ensures) (as-many m) ∙ sym (long-v (P m) (N m) (m .before .before .unit-count .ensures) (as-many m))
+
+returns-4 : tie.Need-returns-4
+returns-4 c =
+    let m = c .before .before .before .before .before .before in
+    c .units-match .ensures ∙ whole (P m) (N m) (m .before .before .unit-count .ensures) (as-many m)
 
 pub matches-spec : {M : Type 1} → statement M
 matches-spec =
     tie.close
     (tie.spec
-    Inv-loop
-    μ-loop
     unit-count-requires
+    mul-n
     unit-count-requires-2
+    mul-if1
     returns
-    loop-holds
-    sub-loop
-    four-match-requires
     returns-2
-    add-k
-    loop-less
-    loop-again
+    slice-aggregate-own
+    slice-aggregate-name
+    ends-near-requires
+    returns-3
     units-match-requires
-    returns-3)
+    returns-4)

@@ -1,69 +1,86 @@
--- `names::units_match` meets its contract. The invariant: the answer from k on is the answer. The measure is the number of units up to `to`.
+-- `names::units_match` meets its contract. The invariant: the answer from byte i on is the answer. The measure is what is left of the bytes.
 -- Assumes nothing.
-use mathlib.Core.Path.{_≡_, refl, sym, ap, ap₂, _∙_}
-use Prim.Native.Nat.{ℕ, _≤_, _-_}
+use mathlib.Core.Path.{_≡_, refl, sym, ap₂, _∙_}
+use Prim.Native.Nat.{_≤_, _-_}
 use native.Mathlib.Omega.{arith}
-use lib.ListN.{getD, drop}
+use native.Mathlib.Nat.{le-refl}
+use lib.ListN.{length, length-take, length-drop}
 use borrow.Author.Tests.{not-true, not-false}
-use borrow.Author.Needs.{needs}
 use Rattle.slices.specs.Test.{_and_}
-use Rattle.slices.specs.Bytes.{pairwise}
-use Rattle.slices.specs.BytesLaws.{pairwise-hit, pairwise-miss}
+use Rattle.slices.specs.Bytes.{Bytes, pairwise}
+use Rattle.slices.specs.PartLaws.{part-rest}
 use Rattle.names.specs.Name.{units, unitMatches}
+use Rattle.names.specs.NameLaws.{matchesFrom}
 use Rattle.names.proofs.units_match.Statement.{statement}
 use Rattle.names.proofs.units_match.Tie as tie
 
 abbrev Inv-loop : tie.InvT-loop
-Inv-loop p v from to k₀ k = (from ≤ k) × (k ≤ to) × (pairwise unitMatches (drop from (units p)) (drop from (units v)) ≡ pairwise unitMatches (drop k (units p)) (drop k (units v)))
+Inv-loop p v i₀ i = (i ≤ length v) × (pairwise unitMatches (units p) (units v) ≡ matchesFrom p v i)
 
 abbrev μ-loop : tie.MeasureT-loop
-μ-loop p v from to k₀ k = to - k
+μ-loop p v i₀ i = length v - i
 
 loop-holds : tie.Need-loop-holds Inv-loop μ-loop
-loop-holds c = (omega arith, omega arith, refl)
+loop-holds c = (omega arith, refl)
 
-unit-at-requires : tie.Need-unit-at-requires Inv-loop μ-loop
-unit-at-requires c κs = search needs
+sub-loop : tie.Need-sub-loop Inv-loop μ-loop
+sub-loop c = omega arith
 
-unit-at-requires-2 : tie.Need-unit-at-requires-2 Inv-loop μ-loop
-unit-at-requires-2 c κs = search needs
-
-unit-matches-requires : tie.Need-unit-matches-requires Inv-loop μ-loop
-unit-matches-requires c κs = search needs
-
--- what the comparison of two units tells
-met : (c : tie.After-unit-matches Inv-loop μ-loop) → c .unit-matches .result ≡ unitMatches (getD (units (c .before .before .before .before .before .before .before .args .p .now)) (c .before .before .before .before .loop .k) 0) (getD (units (c .before .before .before .before .before .before .before .args .v .now)) (c .before .before .before .before .loop .k) 0)
-met c = c .unit-matches .ensures ∙ ap₂ unitMatches (c .before .before .unit-at .ensures) (c .before .unit-at2 .ensures)
+eight-match-requires : tie.Need-eight-match-requires Inv-loop μ-loop
+eight-match-requires c κs = (omega (arith, c .before .before .before .before .pre), omega arith)
 
 returns : tie.Need-returns Inv-loop μ-loop
 unfolding _and_
 returns c =
-    let l = c .before .before .before .before .before in
-    let a = l .before .before .before .args in
-    l .loop .inv .2 ∙ pairwise-miss unitMatches (units (a .p .now)) (units (a .v .now)) (l .loop .k) (omega arith) (omega arith) (sym (met (c .before)) ∙ not-true (c .before .unit-matches .result) (c .if1 .taken))
+    let e = c .before in
+    let l = e .before .before in
+    sym (l .loop .inv .1 ∙ e .eight-match .ensures ∙ rw (not-true (e .eight-match .result) (c .if1 .taken)))
 
-add-k : tie.Need-add-k Inv-loop μ-loop
-add-k c = omega arith
+add-i : tie.Need-add-i Inv-loop μ-loop
+add-i c = omega arith
 
 loop-less : tie.Need-loop-less Inv-loop μ-loop
 loop-less c = omega arith
 
 loop-again : tie.Need-loop-again Inv-loop μ-loop
+unfolding _and_
 loop-again c =
-    let l = c .before .before .before .before .before in
-    let a = l .before .before .before .args in (
-      omega arith,
-      omega arith,
-      l .loop .inv .2 ∙ pairwise-hit unitMatches (units (a .p .now)) (units (a .v .now)) (l .loop .k) (omega arith) (omega arith) (sym (met (c .before)) ∙ not-false (c .before .unit-matches .result) (c .if1 .left)),
-    )
+    let e = c .before in
+    let l = e .before .before in
+    (omega arith, l .loop .inv .1 ∙ e .eight-match .ensures ∙ rw (not-false (e .eight-match .result) (c .if1 .left)))
+
+sub-few-match : tie.Need-sub-few-match Inv-loop μ-loop
+sub-few-match c = omega (arith, c .before .before .before .before .pre)
+
+part-few-match-start : tie.Need-part-few-match-start Inv-loop μ-loop
+part-few-match-start c = omega (arith, c .before .before .before .before .pre)
+
+part-few-match-end : tie.Need-part-few-match-end Inv-loop μ-loop
+part-few-match-end c = omega (arith, c .before .before .before .before .pre)
+
+sub-few-match-2 : tie.Need-sub-few-match-2 Inv-loop μ-loop
+sub-few-match-2 c = omega arith
+
+part-few-match-start-2 : tie.Need-part-few-match-start-2 Inv-loop μ-loop
+part-few-match-start-2 c = omega arith
+
+part-few-match-end-2 : tie.Need-part-few-match-end-2 Inv-loop μ-loop
+part-few-match-end-2 c = omega arith
+
+few-match-requires : tie.Need-few-match-requires Inv-loop μ-loop
+few-match-requires c κs =
+    let x = c .before .before .before .before .before .before in
+    simp (length-take, length-drop) (omega (arith, x .pre))
 
 returns-2 : tie.Need-returns-2 Inv-loop μ-loop
-unfolding _and_
 returns-2 c =
-    let l = c .before in
-    let a = l .before .before .before .args in
-    let e : l .loop .k ≡ a .to = omega arith in
-    l .loop .inv .2 ∙ ap (λ (k : ℕ). pairwise unitMatches (drop k (units (a .p .now))) (drop k (units (a .v .now)))) e
+    let l = c .before .before .before .before in
+    let x = l .before .before .before in
+    let p = x .args .p .now in
+    let v = x .args .v .now in
+    c .few-match .ensures
+    ∙ ap₂ (λ (s t : Bytes). pairwise unitMatches (units s) (units t)) (part-rest (l .loop .i) (length p) p (le-refl (length p))) (part-rest (l .loop .i) (length v) v (le-refl (length v)))
+    ∙ sym (l .loop .inv .1)
 
 pub units-match-spec : {M : Type 1} → statement M
 units-match-spec =
@@ -72,11 +89,17 @@ units-match-spec =
     Inv-loop
     μ-loop
     loop-holds
-    unit-at-requires
-    unit-at-requires-2
-    unit-matches-requires
+    sub-loop
+    eight-match-requires
     returns
-    add-k
+    add-i
     loop-less
     loop-again
+    sub-few-match
+    part-few-match-start
+    part-few-match-end
+    sub-few-match-2
+    part-few-match-start-2
+    part-few-match-end-2
+    few-match-requires
     returns-2)

@@ -1,55 +1,53 @@
--- `names::wildcards` meets its contract. The invariant: h is the number of '#' before k.
--- The measure is the number of units from k on. Assumes nothing.
+-- `names::wildcards` meets its contract. The invariant: h is the number of '#' before byte i.
+-- The measure is the number of bytes from i on. Assumes nothing.
 use mathlib.Core.Logic.{⊎-elim}
-use Rattle.names.specs.NameLaws.{wildcards-hit, wildcards-miss, wildcards-end}
-use Rattle.names.specs.Name.{units, wildcards}
-use lib.ListN.{drop}
-use native.Mathlib.Omega.{arith}
 use mathlib.Core.Path.{_≡_, sym, _∙_}
 use Prim.Native.Nat.{_≤_, _-_, _+_}
-use borrow.Author.Needs.{needs}
+use native.Mathlib.Omega.{arith}
+use lib.ListN.{length, drop}
+use Rattle.names.specs.Name.{units, wildcards}
+use Rattle.names.specs.NameLaws.{wildcards-hit, wildcards-miss, wildcards-end}
 use Rattle.names.proofs.wildcards.Statement.{statement}
 use Rattle.names.proofs.wildcards.Tie as tie
 
 abbrev Inv-loop : tie.InvT-loop
-Inv-loop s n h₀ k₀ h k = (k ≤ n) × (h ≤ k) × (wildcards (units s) ≡ h + wildcards (drop k (units s)))
+Inv-loop s h₀ i₀ h i = (i ≤ length s) × (h ≤ i) × (wildcards (units s) ≡ h + wildcards (units (drop i s)))
 
 abbrev μ-loop : tie.MeasureT-loop
-μ-loop s n h₀ k₀ h k = n - k
-
-unit-count-requires : tie.Need-unit-count-requires Inv-loop μ-loop
-unit-count-requires c κs = search needs
+μ-loop s h₀ i₀ h i = length s - i
 
 loop-holds : tie.Need-loop-holds Inv-loop μ-loop
-loop-holds c = (search needs, search needs, omega arith)
+loop-holds c = (omega arith, omega arith, omega arith)
 
-unit-at-requires : tie.Need-unit-at-requires Inv-loop μ-loop
-unit-at-requires c κs = search needs
+sub-loop : tie.Need-sub-loop Inv-loop μ-loop
+sub-loop c = omega arith
+
+unit-requires : tie.Need-unit-requires Inv-loop μ-loop
+unit-requires c κs = omega arith
 
 add-h : tie.Need-add-h Inv-loop μ-loop
-add-h c = search needs
+add-h c = omega arith
 
-add-k : tie.Need-add-k Inv-loop μ-loop
-add-k c = search needs
+add-i : tie.Need-add-i Inv-loop μ-loop
+add-i c = omega arith
 
 loop-less : tie.Need-loop-less Inv-loop μ-loop
-loop-less c = search needs
+loop-less c = omega arith
 
 loop-again : tie.Need-loop-again Inv-loop μ-loop
 loop-again c =
-    let us = units (c .before .before .before .before .before .before .args .s .now) in
-    let k = c .before .before .before .loop .k in
-    let at = c .before .unit-at .ensures in
+    let l = c .before .before .before in
+    let s = l .before .before .args .s .now in
+    let at = c .before .unit .ensures in
     ⊎-elim
-    (λ w. (search needs, omega arith, omega (arith, wildcards-hit us k (omega arith) (sym at ∙ w .0 .taken))))
-    (λ w. (search needs, omega arith, omega (arith, wildcards-miss us k (omega arith) (λ e. w .0 .left (at ∙ e)))))
+    (λ w. (omega arith, omega arith, omega (arith, wildcards-hit s (l .loop .i) (omega arith) (sym at ∙ w .0 .taken))))
+    (λ w. (omega arith, omega arith, omega (arith, wildcards-miss s (l .loop .i) (omega arith) (λ e. w .0 .left (at ∙ e)))))
     (c .if1 .came)
 
 returns : tie.Need-returns Inv-loop μ-loop
 returns c =
-    let us = units (c .before .before .before .before .args .s .now) in
-    let k = c .before .loop .k in
-    omega (arith, wildcards-end us k (omega arith))
+    let s = c .before .before .before .args .s .now in
+    omega (arith, wildcards-end s (c .before .loop .i) (omega arith))
 
 pub wildcards-spec : {M : Type 1} → statement M
 wildcards-spec =
@@ -57,11 +55,11 @@ wildcards-spec =
     (tie.spec
     Inv-loop
     μ-loop
-    unit-count-requires
     loop-holds
-    unit-at-requires
+    sub-loop
+    unit-requires
     add-h
-    add-k
+    add-i
     loop-less
     loop-again
     returns)

@@ -12,7 +12,8 @@ use Rattle.slices.specs.PartLaws.{part-of}
 use Rattle.slices.specs.Chunks.{contains}
 use Rattle.entry.specs.Entry.{sameTarget}
 use Rattle.policy.specs.Policy.{entryLength, entriesOf}
-use Rattle.policy.proofs.Walk.{At, at-start, at-next, formed, stated, stated-least, stated-fits, among-hit, among-miss, among-end}
+use Rattle.policy.specs.Walk.{At}
+use Rattle.policy.proofs.Walk.{at-start, at-next, formed, stated, stated-least, stated-fits, among-hit, among-miss, among-end}
 use Rattle.policy.proofs.is_among.Statement.{statement}
 use Rattle.policy.proofs.is_among.Tie as tie
 

@@ -1,5 +1,5 @@
 -- `policy::scan` meets its contract. The invariant: the walk has come to an entry of `next` bytes, or to the end of the entries where that is 0; those
--- before it are distinct, at most `maxEntries`, and in the filter. The measure is how many entries more there may be. A turn ends
+-- before it are distinct, at most `maxEntries`, and in the filter, and where they end is noted. The measure is how many entries more there may be. A turn ends
 -- the walk where the entry is one too many (`too-many`) or was met before (`met-before`), and else goes on behind it (`checked-more`); behind the last one
 -- zeros decide (`checked-end`). Assumes nothing.
 use Prim.Native.Nat.{_+_, _-_, _≤_}
@@ -14,16 +14,17 @@ use Rattle.slices.specs.Bytes.{Bytes, allAre}
 use Rattle.slices.specs.PartLaws.{part-of, part-rest}
 use Rattle.policy.specs.declared.PolicyCheck.the-variants.{Valid, Invalid}
 use Rattle.policy.specs.Policy.{entryLength, policyCheck}
-use Rattle.policy.proofs.Walk.{fits, formed}
-use Rattle.policy.proofs.Marked.{Checked, checked-start, too-many, met-before, checked-more, checked-end}
+use Rattle.policy.proofs.Walk.{fits, formed, at-next}
+use Rattle.policy.proofs.Marked.{Checked, Noted, checked-start, too-many, met-before, checked-more, checked-end, noted-none, noted-more, noted-end, invalid-promise}
 use Rattle.policy.proofs.scan.Statement.{statement}
 use Rattle.policy.proofs.scan.Tie as tie
 
 abbrev Inv-loop : tie.InvT-loop
-Inv-loop policy marks₀ count₀ used₀ next₀ marks count used next = Checked policy marks count used × (entryLength (drop used policy) ≡ next)
+Inv-loop policy marks₀ ends₀ count₀ used₀ next₀ marks ends count used next =
+    Checked policy marks count used × (entryLength (drop used policy) ≡ next) × Noted ends policy count
 
 abbrev μ-loop : tie.MeasureT-loop
-μ-loop policy marks₀ count₀ used₀ next₀ marks count used next = maxEntries - count
+μ-loop policy marks₀ ends₀ count₀ used₀ next₀ marks ends count used next = maxEntries - count
 
 -- the record
 abbrev P : tie.At-loop Inv-loop μ-loop → Bytes
@@ -53,12 +54,13 @@ entry-length-requires c κs = search needs
 loop-holds : tie.Need-loop-holds Inv-loop μ-loop
 loop-holds c =
     let x = c .before .before in
-    (checked-start (x .args .policy .now) (x .args .marks .now) (x .pre .1), sym (c .entry-length .ensures))
+    (checked-start (x .args .policy .now) (x .args .marks .now) (x .pre .1), sym (c .entry-length .ensures), noted-none (x .args .ends .now) (x .args .policy .now) (x .pre .2))
 
 returns : tie.Need-returns Inv-loop μ-loop
 returns c =
     let l = c .before .before .loop in
-    too-many (P (c .before .before)) (l .marks) (l .count) (l .used) (l .next) (l .inv .0) (l .inv .1) (c .before .loop-test .taken) (c .if1 .taken)
+    let a = too-many (P (c .before .before)) (l .marks) (l .count) (l .used) (l .next) (l .inv .0) (l .inv .1) (c .before .loop-test .taken) (c .if1 .taken) in
+    (a, invalid-promise (P (c .before .before)) a)
 
 add-end : tie.Need-add-end Inv-loop μ-loop
 add-end c = omega (arith, within (c .before))
@@ -83,7 +85,19 @@ returns-2 c =
     let r = c .before in
     let g = Turn r in
     let l = g .loop in
-    met-before (P g) (l .marks) (l .count) (l .used) (l .next) (l .inv .0) (l .inv .1) (r .is-repeated .ensures .0) (r .before .before .before .before .loop-test .taken) (c .if2 .taken)
+    let a = met-before (P g) (l .marks) (l .count) (l .used) (l .next) (l .inv .0) (l .inv .1) (r .is-repeated .ensures .0) (r .before .before .before .before .loop-test .taken) (c .if2 .taken) in
+    (a, invalid-promise (P g) a)
+
+cast-ends : tie.Need-cast-ends Inv-loop μ-loop
+cast-ends c =
+    let g = c .before .before .before .before .before in
+    omega (arith, within g, g .before .before .before .before .pre .0)
+
+mul-ends : tie.Need-mul-ends Inv-loop μ-loop
+mul-ends c = omega (arith, Turn (c .before) .loop .inv .0 .few)
+
+element-write-ends : tie.Need-element-write-ends Inv-loop μ-loop
+element-write-ends c = omega (arith, Turn (c .before) .loop .inv .0 .few, c .before .before .before .before .if1 .left)
 
 add-count : tie.Need-add-count Inv-loop μ-loop
 add-count c = omega (arith, Turn (c .before) .loop .inv .0 .few)
@@ -113,6 +127,8 @@ loop-again c =
     let found = r .is-repeated .ensures in (
       checked-more (P g) (l .marks) (l .count) (l .used) (l .next) (l .inv .0) (l .inv .1) (found .0) (r .before .before .before .before .loop-test .taken) (r .before .before .before .if1 .left) (c .before .before .if2 .left) (found .1),
       sym (c .entry-length2 .ensures ∙ ap entryLength (part-rest (l .used + l .next) (length (P g)) (P g) (le-refl (length (P g))))),
+      noted-more (l .ends) (P g) (l .count) (l .used + l .next) (l .inv .2) (omega (arith, l .inv .0 .few, r .before .before .before .if1 .left))
+          (at-next (P g) (l .count) (l .used) (l .inv .0 .walk) (l .next) (l .inv .1) (r .before .before .before .before .loop-test .taken)),
     )
 
 sub-all-are : tie.Need-sub-all-are Inv-loop μ-loop
@@ -128,10 +144,18 @@ all-are-requires : tie.Need-all-are-requires Inv-loop μ-loop
 all-are-requires c κs = search needs
 
 returns-3 : tie.Need-returns-3 Inv-loop μ-loop
-returns-3 c = sym (answer (c .before) ∙ rw (c .if3 .taken))
+returns-3 c =
+    let g = c .before .before .before .before in
+    let l = g .loop in (
+      sym (answer (c .before) ∙ rw (c .if3 .taken)),
+      λ v. noted-end (P g) (l .marks) (l .count) (l .used) (l .next) (l .inv .0) (l .inv .1) (omega arith) (g .before .before .before .pre .0) (l .inv .2),
+    )
 
 returns-4 : tie.Need-returns-4 Inv-loop μ-loop
-returns-4 c = sym (answer (c .before) ∙ rw (c .if3 .left))
+returns-4 c =
+    let p = P (c .before .before .before .before) in
+    let a : Invalid ≡ policyCheck p = sym (answer (c .before) ∙ rw (c .if3 .left)) in
+    (a, invalid-promise p a)
 
 pub scan-spec : {M : Type 1} → statement M
 scan-spec =
@@ -148,6 +172,9 @@ scan-spec =
     part-is-repeated-end
     is-repeated-requires
     returns-2
+    cast-ends
+    mul-ends
+    element-write-ends
     add-count
     sub-entry-length
     part-entry-length-start

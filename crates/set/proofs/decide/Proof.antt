@@ -41,7 +41,7 @@ returns c =
     sym (decision-refused _ _ _ _ _ (sym (checked k)) (sym (c .before .is-success .ensures) ∙ not-true (c .before .is-success .result) (c .if1 .taken)))
 
 ground-requires : tie.Need-ground-requires
-ground-requires c κs = Start (Checked c) .pre .1
+ground-requires c κs = (Start (Checked c) .pre .1, Start (Checked c) .pre .2)
 
 enum-told : tie.Need-enum-told
 enum-told c = search needs

@@ -38,7 +38,7 @@ returns c =
     silent-ground _ _ _ _ (not-true (s .args .enabled) (c .if1 .taken))
 
 choose-requires : tie.Need-choose-requires
-choose-requires c κs = Start c .pre .count
+choose-requires c κs = (Start c .pre .0 .count, Start c .pre .1)
 
 enum-known-choice : tie.Need-enum-known-choice
 enum-known-choice c = search needs
@@ -77,7 +77,7 @@ entry-ground-requires : tie.Need-entry-ground-requires
 entry-ground-requires c κs =
     let z = c .before in
     let h = z .before .before in
-    let l = Start (Enabled h) .pre .located in
+    let l = Start (Enabled h) .pre .0 .located in
     (l .ends, located-within _ _ _ _ l, entry-formed _ _ _ _ _ (chosen-is h) _ (z .le16 .ensures))
 
 returns-3 : tie.Need-returns-3
@@ -85,7 +85,7 @@ returns-3 c =
     let z = c .before .before in
     let h = z .before .before in
     let s = Start (Enabled h) in
-    speaking-ground _ _ _ _ _ (c .entry-ground .ensures _ (s .pre .located)) (entry-chosen _ _ _ _ _ (chosen-is h) _ (z .le16 .ensures))
+    speaking-ground _ _ _ _ _ (c .entry-ground .ensures _ (s .pre .0 .located)) (entry-chosen _ _ _ _ _ (chosen-is h) _ (z .le16 .ensures))
     (not-false (s .args .enabled) (Enabled h .if1 .left))
 
 pub ground-spec : {M : Type 1} → statement M

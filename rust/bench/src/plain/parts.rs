@@ -1,6 +1,8 @@
 //! The parts of the calls that are measured by themselves. As in the library, a choice or a search comes behind the
 //! check, and an empty name asks for the check alone.
 
+pub use super::pattern::matches;
+
 use super::index::{Seen, Small};
 use super::policy::{Entries, name_of, walk};
 use super::stores::{Stores, record_len};
@@ -35,16 +37,6 @@ pub fn choose(policy: &[u8], namespace: &[u8; 16], name: &[u8]) -> Option<usize>
 /// Where the records of the non-volatile and of the volatile store end.
 pub fn check_stores<'a, I: Seen<'a>>(nv: &'a [u8], volatile: &'a [u8]) -> Option<[usize; 2]> {
     Stores::<I>::check(nv, volatile).map(|stores| [stores.ends[1], stores.ends[0]])
-}
-
-/// Whether an entry's name matches a variable's: as many units, each equal or '#' over a hex digit.
-pub fn matches(pattern: &[u8], name: &[u8]) -> bool {
-    let (wanted, units) = (pattern.as_chunks::<2>().0, name.as_chunks::<2>().0);
-    wanted.len() == units.len()
-        && wanted
-            .iter()
-            .zip(units)
-            .all(|(wanted, unit)| wanted == unit || *wanted == [b'#', 0] && unit[1] == 0 && unit[0].is_ascii_hexdigit())
 }
 
 /// How a search compares a name.

@@ -1,6 +1,7 @@
 //! The policy record: the check, and the choice.
 
 use super::index::Small;
+use super::pattern::{Four, matches, signs};
 use super::{ENTRY_HEADER, all_are, is_closed_name, le16, le32};
 use varpolicy::{MAX_ENTRIES, POLICY_BYTES};
 
@@ -114,24 +115,30 @@ impl<'a> Entries<'a> {
         self.table[self.slot(entry)] != 0
     }
 
-    /// The chosen entry: lowest rank, first among equals.
+    /// The chosen entry: lowest rank, first among equals. Most entries are passed by after a look at how long their names
+    /// are and at the last four units of these, or also at the first four.
     pub fn choose(&self, namespace: &[u8; 16], name: &[u8]) -> Option<&'a [u8]> {
+        let record: &'a [u8; POLICY_BYTES] = self.record.try_into().ok()?;
+        let [first, last] = Four::first_and_last(name);
         let mut best = None;
         let mut best_rank = usize::MAX;
-        let mut start = 0;
+        let mut next = 0;
         for end in &self.ends[..self.count] {
-            let entry = &self.record[start..usize::from(*end)];
-            start = usize::from(*end);
-            if entry[8..24] != *namespace {
+            let (start, end) = (next, usize::from(*end));
+            next = end;
+            // OffsetToName ends the first eight bytes of an entry, and a zero unit ends its name.
+            let name_at = start + (le64(record, start)? >> 48) as usize;
+            if name_at + name.len() + 2 == end {
+                let units = le64(record, end.wrapping_sub(10))?;
+                let begins = || le64(record, name_at).is_none_or(|units| first.may_match(units));
+                if !last.may_match(units) || !begins() || !last.is_like(units) {
+                    continue;
+                }
+            } else if name_at != end {
                 continue;
             }
-            let pattern = name_of(entry);
-            let rank = match pattern.len() {
-                0 => Some(65),
-                len if len == name.len() + 2 => rank_of_match(&pattern[..name.len()], name),
-                _ => None,
-            };
-            if let Some(rank) = rank.filter(|rank| *rank < best_rank) {
+            let entry = &record[start..end];
+            if let Some(rank) = rank_for(entry, namespace, name).filter(|rank| *rank < best_rank) {
                 best_rank = rank;
                 best = Some(entry);
                 if rank == 0 {
@@ -143,18 +150,84 @@ impl<'a> Entries<'a> {
     }
 }
 
-/// The number of '#' in a pattern that matches the name.
-fn rank_of_match(pattern: &[u8], name: &[u8]) -> Option<usize> {
-    let mut rank = 0;
-    for (wanted, unit) in pattern.as_chunks::<2>().0.iter().zip(name.as_chunks::<2>().0) {
-        if *wanted == [b'#', 0] {
-            if !(*unit == [b'#', 0] || unit[1] == 0 && unit[0].is_ascii_hexdigit()) {
-                return None;
-            }
-            rank += 1;
-        } else if wanted != unit {
+/// The number at a place, or nothing if the record ends before. One comparison tells.
+fn le64(record: &[u8; POLICY_BYTES], at: usize) -> Option<u64> {
+    if at > POLICY_BYTES - 8 {
+        return None;
+    }
+    record[at..].first_chunk().map(|bytes| u64::from_le_bytes(*bytes))
+}
+
+/// The rank of an entry that targets the variable. Few entries come here, so it stays out of the loop.
+#[inline(never)]
+fn rank_for(entry: &[u8], namespace: &[u8; 16], name: &[u8]) -> Option<usize> {
+    if entry[8..24] != *namespace {
+        return None;
+    }
+    match name_of(entry) {
+        [] => Some(65),
+        [pattern @ .., _, _] => matches(pattern, name).then(|| signs(pattern)),
+        _ => None,
+    }
+}
+
+#[cfg(test)]
+mod tests {
+    use super::*;
+    use crate::inputs::with_entries;
+    use varpolicy::{Entry, Name};
+
+    /// The rank by the rule, unit by unit.
+    fn slow_rank(entry: &Entry, namespace: &[u8; 16], name: &Name) -> Option<usize> {
+        let (pattern, units) = (entry.name.as_chunks::<2>().0, name.as_chunks::<2>().0);
+        let fits = |(own, unit): (&[u8; 2], &[u8; 2])| match own {
+            [b'#', 0] => unit[1] == 0 && unit[0].is_ascii_hexdigit(),
+            own => own == unit,
+        };
+        if entry.namespace != *namespace {
             return None;
         }
+        if pattern.is_empty() {
+            return Some(65);
+        }
+        let matches = pattern.len() == units.len() && pattern.iter().zip(units).all(fits);
+        matches.then(|| pattern.iter().filter(|own| **own == [b'#', 0]).count())
     }
-    Some(rank)
+
+    #[test]
+    fn the_choice_is_the_first_of_lowest_rank() {
+        let mut seed = 1_u64;
+        let mut below = |most: usize| {
+            seed = seed.wrapping_mul(6_364_136_223_846_793_005).wrapping_add(1);
+            (seed >> 33) as usize % most
+        };
+        for round in 0..2000 {
+            let count = 1 + below(if round % 2 == 0 { 5 } else { 64 });
+            let letters: Vec<u16> = "09aFGV#\u{130}".encode_utf16().collect();
+            let known = if round % 3 == 0 { 8 } else { 6 };
+            let name: Vec<u16> = (0..count).map(|_| letters[below(known)]).collect();
+            let mut entries: Vec<Entry> = Vec::new();
+            for _ in 0..16 {
+                let mut pattern = name.clone();
+                for _ in 0..below(6) {
+                    let place = below(count);
+                    let digits = below(4) > 0 && pattern[place] < 0x47;
+                    pattern[place] = if digits { 0x23 } else { letters[below(8)] };
+                }
+                pattern.truncate(if below(8) == 0 { below(count + 1) } else { count });
+                let namespace = [7 + (below(4) / 3) as u8; 16];
+                let entry = Entry::new(namespace, Name::from_units(pattern).expect("at most 64 units"));
+                if !entries.contains(&entry) {
+                    entries.push(entry);
+                }
+            }
+            let name = Name::from_units(name).expect("at most 64 units");
+            let ranks = entries.iter().map(|entry| slow_rank(entry, &[7; 16], &name)).enumerate();
+            let chosen = ranks.filter_map(|(place, rank)| Some((rank?, place))).min();
+            let lent = with_entries(&entries);
+            let checked = Entries::check(&lent.policy).expect("valid");
+            let found = checked.choose(&[7; 16], &name).map(|entry| entry.to_vec());
+            assert_eq!(found, chosen.map(|(_, place)| entries[place].pack().to_vec()), "round {round}");
+        }
+    }
 }

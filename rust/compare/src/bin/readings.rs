@@ -13,11 +13,12 @@ type Implementation = fn(&mut State, &Call) -> Answer;
 /// A reading: its text, what answers it, and the statuses expected.
 type Reading = (&'static str, fn(Implementation) -> Vec<u32>, &'static [u32]);
 
-const READINGS: [Reading; 18] = [
+const READINGS: [Reading; 19] = [
     ("an entry of 43 bytes, one of 44", least_entry, &[2, 0]),
     ("a name of no units, closed", zero_unit_name, &[2]),
     ("a trigger's name of no units, of one", trigger_name, &[2, 0]),
-    ("'#' over hex digits, over itself, over another letter", wildcards, &[8, 8, 0]),
+    ("'#' over hex digits, over itself, over another letter", wildcards, &[8, 0, 0]),
+    ("`Boot####`, again, the whole namespace; then the variable of that name", sign_in_name, &[0, 20, 0, 8]),
     (
         "one rank: the first registered, locking or not; a whole namespace speaks last, locking or not",
         ranks,
@@ -125,6 +126,12 @@ fn wildcards(implementation: Implementation) -> Vec<u32> {
     let mut bench = Bench::new(implementation, 256);
     assert_eq!(bench.register(&locked_now("Boot####")), 0);
     ["Boot00fF", "Boot####", "Boot000G"].map(|name| bench.set(name, &[1])).to_vec()
+}
+
+fn sign_in_name(implementation: Implementation) -> Vec<u32> {
+    let mut bench = Bench::new(implementation, 256);
+    let registered = ["Boot####", "Boot####", ""].map(|name| bench.register(&locked_now(name)));
+    [&registered[..], &[bench.set("Boot####", &[1])]].concat()
 }
 
 fn ranks(implementation: Implementation) -> Vec<u32> {

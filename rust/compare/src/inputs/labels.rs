@@ -47,6 +47,10 @@ pub const REGISTRATION: [&str; 15] = [
     "repeat, engine locked",
 ];
 
+/// Registrations whose names '#' would tell apart otherwise, if it did there what it does in a choice.
+pub const SIGN_REGISTERED: [&str; 3] =
+    ["a repeat, '#' for '#'", "no repeat: digits for a registered '#'", "no repeat: '#' for registered digits"];
+
 /// What the limits before E5 would have refused or not come to.
 pub const BEYOND: [&str; 7] = [
     "registered: one entry more",
@@ -115,6 +119,15 @@ pub const CHOICE: [&str; 12] = [
 /// Units under a '#', where all others match.
 pub const UNDER_SIGN: [&str; 9] =
     ["0-9", "A-F", "a-f", "'#'", "/ : @ G ` g", "zero", "another below 0x80", "0x80 to 0xff", "0x100 and over"];
+
+/// A variable with '#' in its name, for which nothing speaks or the whole namespace does: entries that are spelled
+/// nearly like it, and where they stand.
+pub fn sign_in_name_labels() -> Vec<String> {
+    let entries = ["spelled like it", "'#' for its '#' and for a digit", "digits for its '#'"];
+    let places = ["alone", "behind the whole namespace", "before it"];
+    let none = crossed(&["no such entry"], &["nothing speaks", "the whole namespace speaks"]);
+    [none, crossed(&entries, &places)].concat()
+}
 
 /// MinSize and MaxSize, with their labels.
 pub(super) const SIZE_VALUES: [(u32, &str); 13] = [
@@ -234,10 +247,16 @@ pub fn switch_byte_labels() -> Vec<String> {
     [starts.to_vec(), crossed(&CALLS_ON_BYTES, &["enabled", "locked", "disabling allowed"])].concat()
 }
 
+pub(super) const LOCK_TYPES: [&str; 4] = ["no lock", "lock now", "lock on create", "lock on state"];
+
+/// Every type of lock, with where the variable is.
+pub fn locks_by_place() -> Vec<String> {
+    crossed(&LOCK_TYPES, &PLACES)
+}
+
 /// Every type of lock, with where the variable is, for deletions and others.
 pub fn lock_labels() -> Vec<String> {
-    let types = ["no lock", "lock now", "lock on create", "lock on state"];
-    crossed(&["set", "delete"], &crossed(&types, &PLACES))
+    crossed(&["set", "delete"], &locks_by_place())
 }
 
 /// Every form of deletion, and the empty append, with where the variable is.

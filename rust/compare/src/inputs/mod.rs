@@ -4,6 +4,7 @@
 mod former;
 pub mod labels;
 mod set;
+mod signs;
 
 use crate::FORMER_POLICY_BYTES;
 use crate::call::Call;
@@ -129,7 +130,7 @@ fn count_registration(coverage: &mut Coverage, state: &State, entry: &[u8]) {
     let sum: usize = entry_sizes(&state.policy).iter().sum();
     let (many, long) = (entries == MAX_ENTRIES, sum + entry.len() > POLICY_BYTES);
     let malformed = decoded.is_none();
-    let repeat = decoded.is_some_and(|entry| policy.holds(&entry));
+    let repeat = decoded.as_ref().is_some_and(|entry| policy.holds(entry));
     let fresh = !malformed && !repeat && !locked;
     let holds = [
         fresh && entries == MAX_ENTRIES - 1,
@@ -149,6 +150,9 @@ fn count_registration(coverage: &mut Coverage, state: &State, entry: &[u8]) {
         repeat && locked,
     ];
     count_if(coverage, Input::Registration, &holds, 0);
+    if let Some(entry) = decoded.filter(|_| !locked) {
+        signs::count_registration(coverage, &policy, &entry);
+    }
 }
 
 /// Counts the labels, from `first_label` on, of what holds.

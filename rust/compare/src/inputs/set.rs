@@ -1,14 +1,13 @@
 //! Counts what a set is given and what it meets in the stores and the policy.
 
 use super::labels::SIZE_VALUES;
+use super::signs::{self, NUMBER_SIGN, lock_number, would_match};
 use super::{count_if, former};
 use crate::coverage::{Coverage, Input};
 use crate::state::State;
 use crate::steps::{Met, is_within};
 use reference::{APPEND, Entry, LockRule, MAX_ENTRIES, NV, Pair, Policy, RT, Trigger};
 use varpolicy::{MAX_STORE_BYTES, Namespace};
-
-const NUMBER_SIGN: u16 = 0x23;
 
 /// Counts what a set is given and what it meets.
 pub(super) fn count(
@@ -28,7 +27,10 @@ pub(super) fn count(
         count_store(coverage, store.len(), variables.iter().map(|variable| variable.record_len()).sum());
     }
     let met = Met::new(state, (&pair, &policy), (namespace, name), (attributes, length));
-    count_under_signs(coverage, &policy, namespace, &met.name);
+    let enabled = state.read_switches().enabled;
+    if enabled && (met.comes_to_policy() || met.name.contains(&0)) {
+        signs::count_units(coverage, &policy, namespace, &met.name);
+    }
     for label in met.steps_at_once() {
         coverage.input(Input::StepsAtOnce, label);
     }
@@ -36,6 +38,9 @@ pub(super) fn count(
         return;
     }
     count_choice(coverage, &policy, namespace, &met);
+    if enabled {
+        signs::count_named(coverage, &policy, namespace, &met);
+    }
     former::count_choice(coverage, &state.policy, &policy, met.chosen);
     count_deletion(coverage, &met);
     if let Some(entry) = met.chosen {
@@ -71,48 +76,12 @@ fn count_store(coverage: &mut Coverage, len: usize, used: usize) {
     coverage.input(Input::StoreLength, known.unwrap_or(other));
 }
 
-/// Whether a unit of an entry's name is met by a unit of a variable's.
-fn meets(wanted: u16, unit: u16) -> bool {
-    let is_digit = matches!(unit, 0x30..=0x39 | 0x41..=0x46 | 0x61..=0x66);
-    wanted == unit || (wanted == NUMBER_SIGN && is_digit)
-}
-
-/// The place in [`super::labels::UNDER_SIGN`] of a unit.
-fn under_sign(unit: u16) -> usize {
-    match unit {
-        0x30..=0x39 => 0,
-        0x41..=0x46 => 1,
-        0x61..=0x66 => 2,
-        NUMBER_SIGN => 3,
-        0x2F | 0x3A | 0x40 | 0x47 | 0x60 | 0x67 => 4,
-        0 => 5,
-        1..=0x7F => 6,
-        0x80..=0xFF => 7,
-        _ => 8,
-    }
-}
-
-/// Counts the units that stand under a '#' of an entry where all other units match.
-fn count_under_signs(coverage: &mut Coverage, policy: &Policy, namespace: &Namespace, name: &[u16]) {
-    let as_long = |entry: &&Entry| entry.namespace == *namespace && entry.name.len() == name.len();
-    for entry in policy.entries.iter().filter(as_long) {
-        let apart = entry.name.iter().zip(name).filter(|(wanted, unit)| !meets(**wanted, **unit)).count();
-        if apart > 1 {
-            continue;
-        }
-        let signs = entry.name.iter().zip(name).filter(|(wanted, _)| **wanted == NUMBER_SIGN);
-        for (_, unit) in signs.filter(|(_, unit)| apart == 0 || !meets(NUMBER_SIGN, **unit)) {
-            coverage.input(Input::UnderSign, under_sign(*unit));
-            coverage.unit_under_sign(*unit);
-        }
-    }
-}
-
 fn count_choice(coverage: &mut Coverage, policy: &Policy, namespace: &Namespace, met: &Met) {
     let Some(chosen) = met.chosen else {
         let elsewhere = |entry: &Entry| entry.namespace != *namespace && entry.name == met.name;
         let begins = |entry: &Entry| entry.name.starts_with(&met.name) || met.name.starts_with(&entry.name);
-        let longer = |entry: &Entry| entry.namespace == *namespace && !entry.name.is_empty() && begins(entry);
+        let other_length = |entry: &Entry| !entry.name.is_empty() && entry.name.len() != met.name.len();
+        let longer = |entry: &Entry| entry.namespace == *namespace && other_length(entry) && begins(entry);
         let label = match &policy.entries {
             entries if entries.iter().any(elsewhere) => 1,
             entries if entries.iter().any(longer) => 2,
@@ -142,14 +111,8 @@ fn count_choice(coverage: &mut Coverage, policy: &Policy, namespace: &Namespace,
 }
 
 fn count_chosen(coverage: &mut Coverage, met: &Met, entry: &Entry) {
-    let lock = match entry.lock {
-        LockRule::NoLock => 0,
-        LockRule::LockNow => 1,
-        LockRule::LockOnCreate => 2,
-        LockRule::LockOnVarState(_) => 3,
-    };
     let deletion = if met.is_deletion() { 12 } else { 0 };
-    coverage.input(Input::Lock, deletion + 3 * lock + met.place());
+    coverage.input(Input::Lock, deletion + 3 * lock_number(&entry.lock) + met.place());
     if met.is_deletion() {
         return;
     }
@@ -232,12 +195,10 @@ fn count_trigger(coverage: &mut Coverage, met: &Met, namespace: &Namespace, trig
 
 /// Whether the trigger's name, if it were a pattern, would target a variable that holds Value.
 fn is_pattern_of_some(pair: &Pair, trigger: &Trigger) -> bool {
-    let targeted = |name: &[u16]| {
-        name.len() == trigger.name.len() && trigger.name.iter().zip(name).all(|(wanted, unit)| meets(*wanted, *unit))
-    };
     let mut variables = pair.non_volatile.iter().chain(&pair.volatile);
     variables.any(|variable| {
-        variable.namespace == trigger.namespace && targeted(&variable.name) && variable.payload == [trigger.value]
+        let targeted = variable.namespace == trigger.namespace && would_match(&trigger.name, &variable.name);
+        targeted && variable.payload == [trigger.value]
     })
 }
 

@@ -7,6 +7,7 @@ mod entries;
 mod limits;
 mod names;
 mod sets;
+mod signs;
 mod stores;
 mod sums;
 mod switches;
@@ -27,7 +28,7 @@ type Outcome = Result<(), String>;
 
 type Part = (&'static str, fn(&mut Sweep) -> Outcome);
 
-const PARTS: [Part; 9] = [
+const PARTS: [Part; 10] = [
     ("entries", entries::run),
     ("engine", engine::run),
     ("choices", choices::run),
@@ -37,6 +38,7 @@ const PARTS: [Part; 9] = [
     ("switches", switches::run),
     ("sums", sums::run),
     ("limits", limits::run),
+    ("signs", signs::run),
 ];
 
 struct Sweep<'a> {

@@ -4,7 +4,7 @@ use super::{ERASED, Outcome, Sweep, delete, engine, locking, packed_names, read,
 use crate::call::Call;
 use crate::make::{G, record, units};
 
-const NUMBER_SIGN: u16 = 0x23;
+pub(super) const NUMBER_SIGN: u16 = 0x23;
 
 pub(super) fn run(sweep: &mut Sweep) -> Outcome {
     lengths(sweep)?;
@@ -51,7 +51,8 @@ fn places(sweep: &mut Sweep) -> Outcome {
     Ok(())
 }
 
-fn digits(count: usize) -> Vec<u16> {
+/// A name of so many digits.
+pub(super) fn digits(count: usize) -> Vec<u16> {
     units("0aF9").into_iter().cycle().take(count).collect()
 }
 
@@ -67,15 +68,19 @@ fn beginnings(sweep: &mut Sweep) -> Outcome {
     Ok(())
 }
 
-/// Each of the 65,536 units under a '#', alone and as one of four units.
+/// A name of so many units with this one at that place.
+pub(super) fn among(count: usize, place: usize, unit: u16) -> Vec<u16> {
+    let mut name = vec![0x5A; count];
+    name[place] = unit;
+    name
+}
+
+/// Each of the 65,536 units under a '#', alone and as one of four and of eight units.
 fn under_number_sign(sweep: &mut Sweep) -> Outcome {
-    let among_four = |place: usize, unit: u16| {
-        let mut name = [0x5A; 4];
-        name[place] = unit;
-        name
-    };
-    let mut entries = vec![locking(G, &[NUMBER_SIGN])];
-    entries.extend((0..4).map(|place| locking(G, &among_four(place, NUMBER_SIGN))));
-    let calls = (0..=u16::MAX).flat_map(|unit| [delete(&[unit]), delete(&among_four(usize::from(unit % 4), unit))]);
-    sweep.history(engine(&entries), calls)
+    for count in [1, 4, 8] {
+        let entries: Vec<Vec<u8>> = (0..count).map(|place| locking(G, &among(count, place, NUMBER_SIGN))).collect();
+        let calls = (0..=u16::MAX).map(|unit| delete(&among(count, usize::from(unit) % count, unit)));
+        sweep.history(engine(&entries), calls)?;
+    }
+    Ok(())
 }

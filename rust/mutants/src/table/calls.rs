@@ -8,7 +8,7 @@ pub(super) const RESTART: &str = "if Pair::decode(non_volatile, volatile).is_non
 const STARTED: &str = "Switches { enabled: true, locked: false, disabling_allowed })";
 const REGISTER_LOCKED: &str =
     "if switches.locked {\n        return RegisterGround::Locked;\n    }\n    let Some(decoded)";
-const REPEATED: &str = "if policy.holds(&decoded) {\n        return RegisterGround::Repeated;";
+pub(super) const REPEATED: &str = "if policy.holds(&decoded) {\n        return RegisterGround::Repeated;";
 pub(super) const TOO_MANY: &str =
     "if policy.entries.len() == MAX_ENTRIES {\n        return RegisterGround::TooMany;\n    }";
 pub(super) const TOO_LONG: &str = "if bytes.len() > POLICY_BYTES {\n        return RegisterGround::TooLong;";

@@ -5,8 +5,9 @@ use super::{Edit, edit};
 const FIELDS: &str = "version != VERSION || size != bytes.len() || min_size > max_size || must_have & cant_have != 0";
 const OFFSET: &str = "cursor.take(offset_to_name.checked_sub(HEADER)?)?";
 const NAME: &str = "[] => Vec::new(),\n            closed";
-const REPEATS: &str = "self.namespace == other.namespace && self.name == other.name";
-const TARGETS: &str = "self.namespace == *namespace && (self.name.is_empty() || name::matches(&self.name, variable))";
+pub(super) const REPEATS: &str = "self.namespace == other.namespace && self.name == other.name";
+pub(super) const TARGETS: &str =
+    "self.namespace == *namespace && (self.name.is_empty() || name::matches(&self.name, variable))";
 const TRIGGER_NAME: &str = "let name = name::decode_closed(cursor.rest())?;";
 const WHOLE: &str = "[] => crate::MAX_UNITS + 1";
 

@@ -7,7 +7,8 @@
 //! the volatile store searched before the other (no variable stands twice); a limit on the sum of Sizes that is one
 //! byte higher (every Size is even); 7 bits of an entry's place (no place has more); the length that an append makes
 //! in 16 bits (it is 2,048 at most); MaxSize asked of an append's own length too (the sum is no shorter); MinSize less
-//! the stored length, 0 at least, asked of it.
+//! the stored length, 0 at least, asked of it; units counted for the rank that are nearly '#' (all entries that target a
+//! variable have them alike).
 
 mod calls;
 mod entry;
@@ -16,6 +17,7 @@ mod limits;
 mod name;
 mod policy;
 mod set;
+mod signs;
 mod store;
 mod sums;
 mod switches;
@@ -47,18 +49,23 @@ impl Edit {
 }
 
 /// The edits of each file in `reference/src`.
-const FILES: [(&str, &[Edit]); 13] = [
+const FILES: [(&str, &[Edit]); 18] = [
     ("lib.rs", limits::EDITS),
     ("lib.rs", former::LIMIT_EDITS),
     ("cursor.rs", limits::CURSOR_EDITS),
     ("name.rs", name::EDITS),
+    ("name.rs", signs::NAME_EDITS),
     ("entry.rs", entry::EDITS),
+    ("entry.rs", signs::ENTRY_EDITS),
     ("policy.rs", policy::EDITS),
     ("policy.rs", former::POLICY_EDITS),
+    ("policy.rs", signs::POLICY_EDITS),
     ("store.rs", store::EDITS),
+    ("store.rs", signs::STORE_EDITS),
     ("engine.rs", calls::EDITS),
     ("engine.rs", former::EDITS),
     ("engine.rs", set::EDITS),
+    ("engine.rs", signs::EDITS),
     ("engine.rs", sums::EDITS),
     ("switches.rs", switches::EDITS),
 ];

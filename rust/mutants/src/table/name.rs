@@ -3,7 +3,7 @@
 use super::{Edit, edit};
 
 const DIGIT: &str = "byte.is_ascii_hexdigit()";
-const UNIT: &str = "wanted == unit || (wanted == NUMBER_SIGN && is_hex_digit(unit))";
+const SIGN: &str = "NUMBER_SIGN => is_hex_digit(unit),";
 const LENGTH: &str = "pattern.len() == name.len() && pattern.iter()";
 const REQUEST: &str = "(1..=MAX_UNITS).contains(&name.len()) && !name.contains(&0)";
 
@@ -20,6 +20,11 @@ pub(super) const EDITS: &[Edit] = &[
     edit("digit-not-F", DIGIT, "(byte.is_ascii_hexdigit() && byte != b'F')", "'F' is no hex digit"),
     edit("digit-not-a", DIGIT, "(byte.is_ascii_hexdigit() && byte != b'a')", "'a' is no hex digit"),
     edit("digit-not-e", DIGIT, "(byte.is_ascii_hexdigit() && byte != b'e')", "'e' is no hex digit"),
+    edit("digit-not-f", DIGIT, "(byte.is_ascii_hexdigit() && byte != b'f')", "'f' is no hex digit"),
+    edit("digit-not-5", DIGIT, "(byte.is_ascii_hexdigit() && byte != b'5')", "'5' is no hex digit"),
+    edit("digit-not-C", DIGIT, "(byte.is_ascii_hexdigit() && byte != b'C')", "'C' is no hex digit"),
+    edit("digit-not-lower", DIGIT, "(byte.is_ascii_hexdigit() && !byte.is_ascii_lowercase())", "a-f are no hex digits"),
+    edit("digit-not-upper", DIGIT, "(byte.is_ascii_hexdigit() && !byte.is_ascii_uppercase())", "A-F are no hex digits"),
     edit("digit-decimal", DIGIT, "byte.is_ascii_digit()", "only 0-9 are hex digits"),
     edit("digit-any-letter", DIGIT, "byte.is_ascii_alphanumeric()", "every letter is a hex digit"),
     edit(
@@ -35,26 +40,32 @@ pub(super) const EDITS: &[Edit] = &[
         "full-width digits are hex digits",
     ),
     edit(
-        "sign-not-over-sign",
-        UNIT,
-        "(wanted == unit && wanted != NUMBER_SIGN) || (wanted == NUMBER_SIGN && is_hex_digit(unit))",
-        "'#' does not match '#'",
+        "digit-swapped",
+        "u8::try_from(unit).is_ok_and",
+        "(unit as u8 == 0 && ((unit >> 8) as u8).is_ascii_hexdigit()) || u8::try_from(unit).is_ok_and",
+        "a hex digit's bytes may be swapped",
     ),
-    edit("sign-over-anything", UNIT, "wanted == unit || wanted == NUMBER_SIGN", "'#' matches every unit"),
+    edit("digit-bit-7", "u8::try_from(unit)", "u8::try_from(unit & !0x80)", "bit 7 of a hex digit does not count"),
     edit(
-        "sign-in-the-variable",
-        UNIT,
-        "wanted == unit || (wanted == NUMBER_SIGN && is_hex_digit(unit)) || (unit == NUMBER_SIGN && \
-         is_hex_digit(wanted))",
-        "'#' in the variable's name matches a digit",
+        "digit-0x10",
+        DIGIT,
+        "(byte.is_ascii_hexdigit() || (0x10..0x1A).contains(&byte))",
+        "the bit that tells letters' cases does not count in 0-9 either",
     ),
-    edit("sign-ordinary", UNIT, "wanted == unit", "'#' is an ordinary character"),
+    edit(
+        "digit-unicode",
+        "u8::try_from(unit).is_ok_and",
+        "char::from_u32(unit.into()).is_some_and(char::is_numeric) || u8::try_from(unit).is_ok_and",
+        "the digits of all scripts are hex digits",
+    ),
+    edit("sign-over-anything", SIGN, "NUMBER_SIGN => true,", "'#' matches every unit"),
+    edit("sign-ordinary", SIGN, "NUMBER_SIGN => unit == NUMBER_SIGN,", "'#' is an ordinary character"),
     edit("sign-is-star", "NUMBER_SIGN: u16 = 0x23", "NUMBER_SIGN: u16 = 0x2A", "'*' instead of '#'"),
     edit(
         "match-case",
-        "wanted == unit || (",
-        "u8::try_from(wanted).is_ok_and(|wanted| u8::try_from(unit).is_ok_and(|unit| \
-         unit.eq_ignore_ascii_case(&wanted))) || wanted == unit || (",
+        "_ => wanted == unit,",
+        "_ => wanted == unit || u8::try_from(wanted).is_ok_and(|wanted| u8::try_from(unit).is_ok_and(|unit| \
+         unit.eq_ignore_ascii_case(&wanted))),",
         "upper and lower case match",
     ),
     edit("match-shorter", LENGTH, "pattern.len() <= name.len() && pattern.iter()", "a beginning matches"),

@@ -9,17 +9,17 @@ const LOOKS_AT_STORES: &str = "    let Some(mut pair) = Pair::decode(non_volatil
 const STEPS_1_TO_3: &str = "    let name = match well_formed(&request) {";
 const PAYLOAD: &str = "if request.payload.len() > MAX_PAYLOAD {";
 const UNKNOWN: &str = "if request.has(!(NV | BS | RT | APPEND)) {";
-const NAME: &str = "    let name = name::decode_request(request.name).ok_or(SetGround::BadName)?;\n";
+pub(super) const NAME: &str = "    let name = name::decode_request(request.name).ok_or(SetGround::BadName)?;\n";
 const WITHOUT_BS: &str = "if request.has(RT | APPEND) && !request.has(BS) {";
 pub(super) const POLICY: &str = "    if switches.enabled\n        && let Some(ground)";
-const ASKED: &str = "if !request.is_deletion() {\n        let length";
+pub(super) const ASKED: &str = "if !request.is_deletion() {\n        let length";
 pub(super) const MIN: &str = "if length < entry.min_size {";
 pub(super) const MAX: &str = "if length > entry.max_size {";
 pub(super) const MUST: &str = "if entry.must_have & !request.attributes != 0 {";
 const CANT: &str = "if request.has(entry.cant_have) {";
-const NOW: &str = "LockRule::LockNow => Some(SetGround::LockedNow),";
+pub(super) const NOW: &str = "LockRule::LockNow => Some(SetGround::LockedNow),";
 const ON_CREATE: &str = "pair.find(request.namespace, name).map(|_| SetGround::LockedOnCreate)";
-const TRIGGER: &str = "pair.find(&trigger.namespace, &trigger.name)?;";
+pub(super) const TRIGGER: &str = "pair.find(&trigger.namespace, &trigger.name)?;";
 const TRIGGERED: &str = "(variable.payload == [trigger.value]).then_some(SetGround::LockedOnVarState)";
 pub(super) const CHOSEN: &str = "    let entry = policy.choose(request.namespace, name)?;\n";
 const DELETED: &str = "pair.of_mut(kind).remove(place);";
@@ -381,9 +381,9 @@ pub(super) const EDITS: &[Edit] = &[
         "step4-trigger-pattern",
         "let (_, _, variable) = pair.find(&trigger.namespace, &trigger.name)?;",
         "let mut variables = pair.non_volatile.iter().chain(&pair.volatile); let variable = \
-         variables.find(|variable| variable.namespace == trigger.namespace && name::matches(&trigger.name, \
-         &variable.name))?;",
-        "'#' in a trigger's name stands for a digit",
+         variables.find(|variable| variable.namespace == trigger.namespace && (variable.name == trigger.name || \
+         name::matches(&trigger.name, &variable.name)))?;",
+        "'#' in a trigger's name stands for a digit too",
     ),
     edit(
         "step4-trigger-first-byte",

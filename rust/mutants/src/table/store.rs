@@ -8,7 +8,7 @@ const DATA: &str = "(1..=MAX_PAYLOAD).contains(&payload.len());";
 const PADDED: &str = "(self.payload_at() + self.payload.len()).next_multiple_of(4)";
 const PADDING: &str = "cursor.take(variable.record_len() - used)?";
 const REST: &str = "while !is_erased(cursor.rest()) {";
-const IS: &str = "self.namespace == *namespace && self.name == name";
+pub(super) const IS: &str = "self.namespace == *namespace && self.name == name";
 const SEEN: &str = "seen.insert((&variable.namespace, &variable.name))";
 
 pub(super) const EDITS: &[Edit] = &[
@@ -221,8 +221,8 @@ pub(super) const EDITS: &[Edit] = &[
     edit(
         "find-by-pattern",
         IS,
-        "self.namespace == *namespace && crate::name::matches(name, &self.name)",
-        "'#' in a request finds digits",
+        "self.namespace == *namespace && (self.name == name || crate::name::matches(name, &self.name))",
+        "'#' in a request finds digits too",
     ),
     edit(
         "find-first-store",

@@ -1,0 +1,83 @@
+//! Inputs that are too many to be listed, and of which each must be hit: units of names, and places in names of every
+//! length.
+
+use reference::MAX_UNITS;
+use std::fmt;
+
+/// What is hit unit by unit, or place by place.
+#[derive(Clone, Copy, PartialEq, Eq, Debug)]
+#[allow(missing_docs)]
+pub enum Each {
+    UnderSign,
+    UnderSignOfFour,
+    UnderSignOfEight,
+    OverItself,
+    OverItselfOfEight,
+    SignOverDigit,
+    SignOverSign,
+    SignOverOther,
+    OtherUnit,
+}
+
+const UNITS: usize = 1 << 16;
+/// The places of all names of 1 to 64 units.
+const PLACES: usize = MAX_UNITS * (MAX_UNITS + 1) / 2;
+
+/// What is hit, in words, and how many there are of it; in the order of [`Each`]. No pattern has the unit zero.
+const TALLIES: [(Each, &str, usize); 9] = [
+    (Each::UnderSign, "units under '#', which is the whole pattern", UNITS),
+    (Each::UnderSignOfFour, "units under '#', one of four units", UNITS),
+    (Each::UnderSignOfEight, "units under '#', one of eight units", UNITS),
+    (Each::OverItself, "units over themselves, the whole pattern", UNITS - 1),
+    (Each::OverItselfOfEight, "units over themselves, one of eight units", UNITS - 1),
+    (Each::SignOverDigit, "places of '#' over a hex digit", PLACES),
+    (Each::SignOverSign, "places of '#' over '#'", PLACES),
+    (Each::SignOverOther, "places of '#' over another unit", PLACES),
+    (Each::OtherUnit, "places of a unit over another", PLACES),
+];
+
+/// The number of a place in a name of so many units.
+pub fn place_number(length: usize, place: usize) -> usize {
+    length * (length - 1) / 2 + place
+}
+
+/// What was hit.
+#[derive(Clone, Debug)]
+pub struct Tallies {
+    hit: Vec<Vec<bool>>,
+}
+
+impl Default for Tallies {
+    fn default() -> Tallies {
+        assert!(TALLIES.iter().enumerate().all(|(place, (each, ..))| *each as usize == place));
+        Tallies { hit: TALLIES.map(|(_, _, count)| vec![false; count]).to_vec() }
+    }
+}
+
+impl Tallies {
+    /// Notes that the one of this number was hit, if there is one.
+    pub fn hit(&mut self, each: Each, number: usize) {
+        if let Some(hit) = self.hit[each as usize].get_mut(number) {
+            *hit = true;
+        }
+    }
+
+    /// Each title with how many were hit, and out of how many.
+    fn rows(&self) -> impl Iterator<Item = (&'static str, usize, usize)> {
+        let hits = self.hit.iter().map(|hit| hit.iter().filter(|hit| **hit).count());
+        TALLIES.iter().zip(hits).map(|((_, title, count), hit)| (*title, hit, *count))
+    }
+
+    /// What was not hit.
+    pub fn missed(&self) -> impl Iterator<Item = String> {
+        let missed = self.rows().filter(|(_, hit, count)| hit < count);
+        missed.map(|(title, hit, count)| format!("{title}: {} of {count}", count - hit))
+    }
+}
+
+impl fmt::Display for Tallies {
+    fn fmt(&self, out: &mut fmt::Formatter) -> fmt::Result {
+        writeln!(out, "\nunits, and places in names of 1 to {MAX_UNITS} units, where all other units match")?;
+        self.rows().try_for_each(|(title, hit, count)| writeln!(out, "  {title:<45}{hit:>8} of {count:>5}"))
+    }
+}
