@@ -211,7 +211,7 @@ hex-digits u = (
   all-among hexDigits all-hex u,
 )
 
-pub hex-small : (u : ℕ) → isHexDigit u ≡ true → u < 256
+hex-small : (u : ℕ) → isHexDigit u ≡ true → u < 256
 unfolding isHexDigit
 hex-small u h = go (or-cases (leb 0x30 u and leb u 0x39) (leb 0x41 u and leb u 0x46 || leb 0x61 u and leb u 0x66) h)
   where
@@ -266,7 +266,7 @@ sign-in-name [] (u ∷ us) h = refl
 sign-in-name (p ∷ ps) (u ∷ us) (inl e) = rw (← e, unit-over-sign p) (and-off (pairwise unitMatches ps us))
 sign-in-name (p ∷ ps) (u ∷ us) (inr h) = rw (sign-in-name ps us h) (and-no (unitMatches p u))
 
--- a unit that an entry's unit matches is that unit, or a hex digit
+-- a unit that an entry's unit matches is that unit, or below 256, as hex digits are
 pub unit-cases : (p u : ℕ) → unitMatches p u ≡ true → (p ≡ u) ⊎ (u < 256)
 unfolding unitMatches
 unit-cases p u h = go (eqb p numberSign) h
@@ -359,7 +359,7 @@ units-later (suc k) (a ∷ []) = let n : 2 * suc k ≡ suc (suc (2 * k)) = omega
 units-later (suc k) (a ∷ b ∷ s) = let n : 2 * suc k ≡ suc (suc (2 * k)) = omega arith in rw n (units-later k s)
 
 -- names that match do so from each later unit on
-pub matches-later : (k : ℕ) (p v : Bytes) → pairwise unitMatches (units p) (units v) ≡ true
+matches-later : (k : ℕ) (p v : Bytes) → pairwise unitMatches (units p) (units v) ≡ true
     → pairwise unitMatches (units (drop (2 * k) p)) (units (drop (2 * k) v)) ≡ true
 matches-later k p v e = rw (units-later k p, units-later k v) (pairwise-later unitMatches k (units p) (units v) e)
 

@@ -8,7 +8,7 @@ use lib.Bits.{bitAnd, bitXor}
 use Rattle.slices.specs.Bytes.{Bytes, le16, le64}
 use Rattle.names.specs.Name.{numberSign, isHexDigit}
 
--- the bits of a unit that an entry's unit must have to match it: of a hex digit those that '#' has too, of another unit all
+-- the bits in which an entry's unit must agree with u to match it: of a hex digit those in which '#' agrees with it, of another unit all
 unfoldable pub unitMask : ℕ → ℕ
 unitMask u = cond (isHexDigit u) (65535 - bitXor u numberSign) 65535
 

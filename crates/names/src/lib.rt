@@ -16,7 +16,7 @@ fn unit_count(s: &[u8]) -> usize
     s.len() / 2
 }
 
-// The unit from byte i on.
+// The unit from byte i on, as 16 bits: of such, unlike of wider numbers, eight are compared at once.
 fn unit(s: &[u8], i: usize) -> u16
     requires { ⌜ i + 2 ≤ length (now s) ⌝ }
     ensures { λ r. ⌜ r ≡ le16 (now (s .entry)) i ⌝ }
@@ -121,15 +121,15 @@ pub fn unit_matches(p: u16, u: u16) -> bool
     itself | wildcard
 }
 
-// The same, as far as the entry's unit tells by itself: '#', or equal. Where not, the units do not match.
+// Whether the units are near: equal, or the entry's is '#', whatever it stands over. Units that are not near do not match.
 fn unit_near(p: u16, u: u16) -> bool
     ensures { λ r. ⌜ (unitMatches p u ≡ true → r ≡ true) ⌝ }
 {
     (p == u) | (p == 0x23)
 }
 
-// Whether the eight units from byte i on are the same in both and no '#': then they match. No exit before the end, here and in
-// the next two: they are compiled to wide compares.
+// Whether the eight units from byte i on are the same in both and no '#': then they match. No exit before the end, here, in
+// `eight_wild` and in `eight_near`: they are compiled to wide compares.
 fn eight_plain(p: &[u8], v: &[u8], i: usize) -> bool
     requires { ⌜ (i + 16 ≤ length (now p)) × (i + 16 ≤ length (now v)) ⌝ }
     ensures { λ r. ⌜ (r ≡ true → matches (units (drop i (now (p .entry)))) (units (drop i (now (v .entry))))
@@ -160,7 +160,7 @@ fn eight_wild(p: &[u8], v: &[u8], i: usize) -> bool
     ok
 }
 
-// The same, for what most names have there first.
+// The same; equal units without '#', the usual case, are found first.
 fn eight_match(p: &[u8], v: &[u8], i: usize) -> bool
     requires { ⌜ (i + 16 ≤ length (now p)) × (i + 16 ≤ length (now v)) ⌝ }
     ensures { λ r. ⌜ matches (units (drop i (now (p .entry)))) (units (drop i (now (v .entry))))
@@ -186,7 +186,8 @@ fn eight_near(p: &[u8], v: &[u8], i: usize) -> bool
     ok
 }
 
-// The bits of a unit that an entry's unit must have to match it: of a hex digit those that '#' has too, of another unit all.
+// The bits in which an entry's unit must agree with this one to match it: of a hex digit those in which '#' agrees with it, of
+// another unit all.
 fn unit_mask(u: u16) -> usize
     ensures is { λ r. ⌜ r ≡ unitMask u ⌝ }
     ensures bound { λ r. ⌜ r < 65536 ⌝ }
@@ -227,7 +228,7 @@ pub fn tail_of(v: &[u8]) -> Tail
     Tail { mask, shown }
 }
 
-// Whether an entry's name, not empty and as long as the variable's, is near in its first units: the first, and of eight and more
+// Whether the first units of an entry's name, not empty and as long as the variable's, are near: the first, and of eight and more
 // the first eight. Where not, the names do not match. This is for a walk over many names, behind the test of their last units.
 pub fn may_match(p: &[u8], v: &[u8]) -> bool
     requires { ⌜ (length (now p) ≡ length (now v)) × (2 ≤ length (now v)) ⌝ }
@@ -275,7 +276,7 @@ fn units_match(p: &[u8], v: &[u8]) -> bool
     ensures { λ r. ⌜ r ≡ matches (units (now (p .entry))) (units (now (v .entry))) ⌝ }
 {
     let mut i = 0;
-    while 16 <= v.len() - i {
+    while i + 16 <= v.len() {
         if !eight_match(p, v, i) {
             return false;
         }

@@ -37,7 +37,7 @@ beats-number r b i at h k = go (eqb b noRank) refl
     go false q = refl
 
 -- an entry that does not target the variable leaves the best so far
-pub stays : (v : Variable) (best : Choice) (index here : ℕ) (e : Bytes) → targets e v ≡ false → better best index here e v ≡ best
+stays : (v : Variable) (best : Choice) (index here : ℕ) (e : Bytes) → targets e v ≡ false → better best index here e v ≡ best
 unfolding better _and_
 stays v best index here e q = rw q
 
@@ -48,7 +48,7 @@ module _ (v : Variable) (e : Bytes) (w : WellFormed e) (b i at index here : ℕ)
   better-by false k = rw k
 
   -- lower than the best so far
-  pub lower : r < b → better (asChoice b i at) index here e v ≡ asChoice r index here
+  lower : r < b → better (asChoice b i at) index here e v ≡ asChoice r index here
   unfolding _and_
   lower h = go (targets e v) refl s
     where
@@ -56,7 +56,7 @@ module _ (v : Variable) (e : Bytes) (w : WellFormed e) (b i at index here : ℕ)
       go true k z = better-by true k ∙ rw (← z, lt-ltb r b h) (asChoice-some r index here (λ y. omega arith))
       go false k z = absurd (omega arith)
 
-  pub not-lower : b ≤ r → better (asChoice b i at) index here e v ≡ asChoice b i at
+  not-lower : b ≤ r → better (asChoice b i at) index here e v ≡ asChoice b i at
   unfolding _and_
   not-lower h = go (targets e v) refl s
     where
@@ -71,7 +71,7 @@ unfolding choiceFrom
 choiceFrom-cons best index at e es v = refl
 
 -- one entry on
-pub choice-step : (v : Variable) (best : Choice) (p : Bytes) (i at n : ℕ) (w : At p i at) → entryLength (drop at p) ≡ n → 0 < n
+choice-step : (v : Variable) (best : Choice) (p : Bytes) (i at n : ℕ) (w : At p i at) → entryLength (drop at p) ≡ n → 0 < n
     → choiceFrom best i at (drop i (entriesOf p)) v ≡ choiceFrom (better best i at (take n (drop at p)) v) (i + 1) (at + n) (drop (i + 1) (entriesOf p)) v
 choice-step v best p i at n w e h =
     ap (λ (es : List Bytes). choiceFrom best i at es v) (split p i at w n e h)
@@ -92,7 +92,7 @@ zero-kept i at index here e v = go (targets e v)
     go true = rw (le-ltb (rank e) 0 (omega arith))
     go false = refl
 
-pub choice-zero : (i at index here : ℕ) (es : List Bytes) (v : Variable) → choiceFrom (Chosen i at 0) index here es v ≡ Chosen i at 0
+choice-zero : (i at index here : ℕ) (es : List Bytes) (v : Variable) → choiceFrom (Chosen i at 0) index here es v ≡ Chosen i at 0
 unfolding choiceFrom
 choice-zero i at index here [] v = refl
 choice-zero i at index here (e ∷ es) v = rw (zero-kept i at index here e v) (choice-zero i at (index + 1) (here + length e) es v)

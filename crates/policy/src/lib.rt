@@ -207,8 +207,8 @@ pub fn clear(policy: &mut [u8])
     slices::fill(policy, 0, n, 0);
 }
 
-// Whether the name of the entry from byte at up to end is empty or may match, as far as its length and its ends tell. Where not, it
-// does not match. Most entries are told apart by the word that the last four units are.
+// Whether the name of the entry from byte at up to end is empty or may match, as far as its length, its last four units and its
+// first ones tell. Where not, it is neither. Most entries are told apart by the word that the last four units are.
 fn may_name(policy: &[u8], at: usize, end: usize, name: &[u8], tail: Tail) -> bool
     requires { ⌜ (end ≤ length (now policy)) × (wellFormed (part at end (now policy)) ≡ true) × TailOf (wholeUnits (now name)) (tail .mask) (tail .shown) ⌝ }
     ensures { λ r. ⌜ ((nameIsEmpty (part at end (now (policy .entry))) || matches (units (nameOf (part at end (now (policy .entry))))) (units (now (name .entry)))) ≡ true

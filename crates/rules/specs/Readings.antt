@@ -102,7 +102,7 @@ readings =
     -- '#' over hex digits, over '#', and over another letter
     ∷ ((register (named-entry 0 1 (boot (0x23 ∷ 0x23 ∷ 0x23 ∷ 0x23 ∷ []))) ∷ write (boot (0x30 ∷ 0x30 ∷ 0x66 ∷ 0x46 ∷ [])) ∷ write (boot (0x23 ∷ 0x23 ∷ 0x23 ∷ 0x23 ∷ [])) ∷ write (boot (0x30 ∷ 0x30 ∷ 0x30 ∷ 0x47 ∷ [])) ∷ []), 0 ∷ 0 ∷ 8 ∷ 0 ∷ 0 ∷ [])
     -- a name with '#' is registered once, and its own variable is guarded by the whole namespace alone
-    ∷ ((register (named-entry 0 1 (boot (0x23 ∷ 0x23 ∷ 0x23 ∷ 0x23 ∷ []))) ∷ register (named-entry 0 1 (boot (0x23 ∷ 0x23 ∷ 0x23 ∷ 0x23 ∷ []))) ∷ register (whole-namespace 1) ∷ write (boot (0x23 ∷ 0x23 ∷ 0x23 ∷ 0x23 ∷ [])) ∷ []), 0 ∷ 0 ∷ 20 ∷ 0 ∷ 8 ∷ [])
+    ∷ ((register (named-entry 0 0 (boot (0x23 ∷ 0x23 ∷ 0x23 ∷ 0x23 ∷ []))) ∷ register (named-entry 0 0 (boot (0x23 ∷ 0x23 ∷ 0x23 ∷ 0x23 ∷ []))) ∷ register (whole-namespace 1) ∷ write (boot (0x23 ∷ 0x23 ∷ 0x23 ∷ 0x23 ∷ [])) ∷ []), 0 ∷ 0 ∷ 20 ∷ 0 ∷ 8 ∷ [])
     -- of two entries of one rank the first registered speaks, be it the one that locks or the other
     ∷ ((register (named-entry 0 1 (boot (0x30 ∷ 0x30 ∷ 0x23 ∷ 0x23 ∷ []))) ∷ register (named-entry 0 0 (boot (0x23 ∷ 0x23 ∷ 0x30 ∷ 0x31 ∷ []))) ∷ write (boot (0x30 ∷ 0x30 ∷ 0x30 ∷ 0x31 ∷ [])) ∷ []), 0 ∷ 0 ∷ 0 ∷ 8 ∷ [])
     ∷ ((register (named-entry 0 0 (boot (0x30 ∷ 0x30 ∷ 0x23 ∷ 0x23 ∷ []))) ∷ register (named-entry 0 1 (boot (0x23 ∷ 0x23 ∷ 0x30 ∷ 0x31 ∷ []))) ∷ write (boot (0x30 ∷ 0x30 ∷ 0x30 ∷ 0x31 ∷ [])) ∷ []), 0 ∷ 0 ∷ 0 ∷ 0 ∷ [])

@@ -232,7 +232,7 @@ fn entry_ground<'a>(
 // The ground that the chosen entry gives, none where no entry is chosen or the engine is disabled.
 fn ground<'a>(
     policy: &[u8],
-    ends: &[u16; policy::ENTRIES],
+    entry_ends: &[u16; policy::ENTRIES],
     enabled: bool,
     nv: &'a [u8],
     vol: &'a [u8],
@@ -242,7 +242,7 @@ fn ground<'a>(
     attributes: u32,
     payload: &[u8],
 ) -> Ground
-    requires { ⌜ Knows known (now nv) (now vol) (now policy) (variable (now namespace) (now name)) × EntryEnds (now ends) (now policy) ⌝ }
+    requires { ⌜ Knows known (now nv) (now vol) (now policy) (variable (now namespace) (now name)) × EntryEnds (now «entry_ends») (now policy) ⌝ }
     ensures { λ r.
         ⌜ r ≡ groundBy (speaking enabled (chosen (entriesOf (now (policy .entry))) (variable (now (namespace .entry)) (now (name .entry)))))
         (lookup (now (nv .entry)) (now (vol .entry)))
@@ -251,7 +251,7 @@ fn ground<'a>(
     if !enabled {
         return Ground::NoGround;
     }
-    let choice = policy::choose(policy, known.count, ends, namespace, name);
+    let choice = policy::choose(policy, known.count, entry_ends, namespace, name);
     let Choice::Chosen {
         index: _,
         at,
@@ -365,7 +365,7 @@ fn decide_write<'a>(
 // All steps, over sound stores and a valid policy record.
 pub fn decide<'a>(
     policy: &[u8],
-    ends: &[u16; policy::ENTRIES],
+    entry_ends: &[u16; policy::ENTRIES],
     enabled: bool,
     nv: &'a [u8],
     vol: &'a [u8],
@@ -375,7 +375,7 @@ pub fn decide<'a>(
     attributes: u32,
     payload: &[u8],
 ) -> Decision
-    requires { ⌜ (sound (now nv) (now vol) ≡ true) × Knows known (now nv) (now vol) (now policy) (variable (now namespace) (now name)) × EntryEnds (now ends) (now policy) ⌝ }
+    requires { ⌜ (sound (now nv) (now vol) ≡ true) × Knows known (now nv) (now vol) (now policy) (variable (now namespace) (now name)) × EntryEnds (now «entry_ends») (now policy) ⌝ }
     ensures { λ r.
         ⌜ r ≡ decision (speaking enabled (chosen (entriesOf (now (policy .entry))) (variable (now (namespace .entry)) (now (name .entry)))))
         (now (nv .entry)) (now (vol .entry))
@@ -387,7 +387,7 @@ pub fn decide<'a>(
     }
     let by_entry = ground(
         policy,
-        ends,
+        entry_ends,
         enabled,
         nv,
         vol,

@@ -54,14 +54,6 @@ module _ (f : ℕ → ℕ → Bool) where
     unfolding pairwise
     pairwise-step = rw (add-one, drop-cons ps k 0, drop-cons us k 0)
 
-    pub pairwise-hit : f (getD ps k 0) (getD us k 0) ≡ true → pairwise f (drop k ps) (drop k us) ≡ pairwise f (drop (k + 1) ps) (drop (k + 1) us)
-    unfolding _and_
-    pairwise-hit e = pairwise-step ∙ rw e
-
-    pub pairwise-miss : f (getD ps k 0) (getD us k 0) ≡ false → pairwise f (drop k ps) (drop k us) ≡ false
-    unfolding _and_
-    pairwise-miss e = pairwise-step ∙ rw e
-
 -- the same bytes are the same list
 pub same-eq : (l m : Bytes) → pairwise eqb l m ≡ true → l ≡ m
 unfolding pairwise

@@ -134,7 +134,7 @@ pub fn choice() -> Group {
     group("the choice alone", cases)
 }
 
-/// The comparison of names of 64 units.
+/// The comparison of names of 64 units, without what a call costs: less that of two empty names.
 pub fn comparison() -> Group {
     let letters = "Variable".repeat(8);
     let digits = "0123456789abcdef".repeat(4);
@@ -150,7 +150,8 @@ pub fn comparison() -> Group {
     ];
     let cases = pairs.map(|(what, pattern, name)| {
         let part = Part::Match { pattern: inputs::text(&pattern), name: inputs::text(&name) };
-        case(format!("compare 64 units, {what}"), part, inputs::empty(), Bar::AtMost(1.0))
+        let case = case(format!("compare 64 units, {what}"), part, inputs::empty(), Bar::AtMost(1.0));
+        Case { without: Some(Work::Part(Part::Match { pattern: Name::EMPTY, name: Name::EMPTY })), ..case }
     });
     group("one name against one pattern", cases.into())
 }

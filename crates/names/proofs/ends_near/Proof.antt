@@ -9,6 +9,10 @@ use Rattle.names.specs.NameLaws.{matches-first, matches-last}
 use Rattle.names.proofs.ends_near.Statement.{statement}
 use Rattle.names.proofs.ends_near.Tie as tie
 
+-- where the first units are near
+abbrev Start : tie.Else1 → tie.Start
+Start c = c .before .before .before .before .before .before
+
 unit-requires : tie.Need-unit-requires
 unit-requires c κs = search needs
 
@@ -27,7 +31,7 @@ returns c m =
     ∙ n .unit-near .ensures (matches-first (x .args .p .now) (x .args .v .now) 0 (omega (arith, x .pre .0, x .pre .2)) (x .pre .2) (u .before .unit .ensures) (u .unit2 .ensures) m)
 
 sub-last : tie.Need-sub-last
-sub-last c = omega (arith, c .before .before .before .before .before .before .pre .2)
+sub-last c = omega (arith, Start c .pre .2)
 
 unit-requires-3 : tie.Need-unit-requires-3
 unit-requires-3 c κs = search needs
@@ -41,7 +45,7 @@ unit-near-requires-2 c κs = search needs
 returns-2 : tie.Need-returns-2
 returns-2 c m =
     let u = c .before in
-    let x = u .before .before .before .before .before .before .before .before in
+    let x = Start (u .before .before) in
     let p = x .args .p .now in
     let v = x .args .v .now in
     c .unit-near2 .ensures

@@ -23,8 +23,8 @@ abbrev μ-loop : tie.MeasureT-loop
 loop-holds : tie.Need-loop-holds Inv-loop μ-loop
 loop-holds c = (omega arith, refl)
 
-sub-loop : tie.Need-sub-loop Inv-loop μ-loop
-sub-loop c = omega arith
+add-loop : tie.Need-add-loop Inv-loop μ-loop
+add-loop c = omega arith
 
 eight-match-requires : tie.Need-eight-match-requires Inv-loop μ-loop
 eight-match-requires c κs = (omega (arith, c .before .before .before .before .pre), omega arith)
@@ -89,7 +89,7 @@ units-match-spec =
     Inv-loop
     μ-loop
     loop-holds
-    sub-loop
+    add-loop
     eight-match-requires
     returns
     add-i

@@ -1,4 +1,5 @@
--- `policy::may_name` meets its contract: a name that is empty or matches the variable's has no byte, or as many units, whose ends are near. Assumes nothing.
+-- `policy::may_name` meets its contract: a name that is empty has no byte, and one that matches the variable's as many units, the last four with the
+-- bits that count and the first ones near. Assumes nothing.
 use Prim.Native.Nat.{_+_, _≤_}
 use mathlib.Core.Path.{sym, _∙_}
 use native.Mathlib.Omega.{arith}

@@ -130,7 +130,8 @@ fn wildcards(implementation: Implementation) -> Vec<u32> {
 
 fn sign_in_name(implementation: Implementation) -> Vec<u32> {
     let mut bench = Bench::new(implementation, 256);
-    let registered = ["Boot####", "Boot####", ""].map(|name| bench.register(&locked_now(name)));
+    let entries = [entry("Boot####"), entry("Boot####"), locked_now("")];
+    let registered = entries.map(|entry| bench.register(&entry));
     [&registered[..], &[bench.set("Boot####", &[1])]].concat()
 }
 
