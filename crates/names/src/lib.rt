@@ -160,18 +160,6 @@ fn eight_wild(p: &[u8], v: &[u8], i: usize) -> bool
     ok
 }
 
-// The same; equal units without '#', the usual case, are found first.
-fn eight_match(p: &[u8], v: &[u8], i: usize) -> bool
-    requires { ⌜ (i + 16 ≤ length (now p)) × (i + 16 ≤ length (now v)) ⌝ }
-    ensures { λ r. ⌜ matches (units (drop i (now (p .entry)))) (units (drop i (now (v .entry))))
-        ≡ (r and matches (units (drop (i + 16) (now (p .entry)))) (units (drop (i + 16) (now (v .entry))))) ⌝ }
-{
-    if eight_plain(p, v, i) {
-        return true;
-    }
-    eight_wild(p, v, i)
-}
-
 // Whether the eight units from byte i on are near. Where not, the names do not match.
 fn eight_near(p: &[u8], v: &[u8], i: usize) -> bool
     requires { ⌜ (i + 16 ≤ length (now p)) × (i + 16 ≤ length (now v)) ⌝ }
@@ -270,15 +258,30 @@ fn few_match(p: &[u8], v: &[u8]) -> bool
     true
 }
 
-// Whether as many units match.
+// Whether as many units match, each '#' looked at.
+fn wild_match(p: &[u8], v: &[u8]) -> bool
+    requires { ⌜ length (now p) ≡ length (now v) ⌝ }
+    ensures { λ r. ⌜ r ≡ matches (units (now (p .entry))) (units (now (v .entry))) ⌝ }
+{
+    let mut i = 0;
+    while 16 <= v.len() - i {
+        if !eight_wild(p, v, i) {
+            return false;
+        }
+        i += 16;
+    }
+    few_match(&p[i..], &v[i..])
+}
+
+// The same; as far as the units are equal and no '#', the usual case, by fewer tests.
 fn units_match(p: &[u8], v: &[u8]) -> bool
     requires { ⌜ length (now p) ≡ length (now v) ⌝ }
     ensures { λ r. ⌜ r ≡ matches (units (now (p .entry))) (units (now (v .entry))) ⌝ }
 {
     let mut i = 0;
-    while i + 16 <= v.len() {
-        if !eight_match(p, v, i) {
-            return false;
+    while 16 <= v.len() - i {
+        if !eight_plain(p, v, i) {
+            return wild_match(&p[i..], &v[i..]);
         }
         i += 16;
     }

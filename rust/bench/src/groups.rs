@@ -150,7 +150,7 @@ pub fn comparison() -> Group {
     ];
     let cases = pairs.map(|(what, pattern, name)| {
         let part = Part::Match { pattern: inputs::text(&pattern), name: inputs::text(&name) };
-        let case = case(format!("compare 64 units, {what}"), part, inputs::empty(), Bar::AtMost(1.0));
+        let case = case(format!("compare 64 units, {what}"), part, inputs::empty(), Bar::AtMost(1.25));
         Case { without: Some(Work::Part(Part::Match { pattern: Name::EMPTY, name: Name::EMPTY })), ..case }
     });
     group("one name against one pattern", cases.into())
