@@ -32,7 +32,7 @@
   the System V convention too: those of a program built for Microsoft's take their arguments in other
   registers.
 
-  Stack: the deepest call, varpolicy_set, takes 9,176 bytes with its return address (read off the
+  Stack: the deepest call, varpolicy_set, takes 9,528 bytes with its return address (read off the
   machine code); read, restart and power-on take nearly as much. The red zone and what memcpy, memmove
   and memset take come on top.
 
