@@ -216,13 +216,21 @@ pub fn tail_of(v: &[u8]) -> Tail
     Tail { mask, shown }
 }
 
+// Whether the first unit is near, of names that are not empty. Where not, the names do not match.
+fn first_near(p: &[u8], v: &[u8]) -> bool
+    requires { ⌜ (2 ≤ length (now p)) × (2 ≤ length (now v)) ⌝ }
+    ensures { λ r. ⌜ (matches (units (now (p .entry))) (units (now (v .entry))) ≡ true → r ≡ true) ⌝ }
+{
+    unit_near(unit(p, 0), unit(v, 0))
+}
+
 // Whether the first units of an entry's name, not empty and as long as the variable's, are near: the first, and of eight and more
 // the first eight. Where not, the names do not match. This is for a walk over many names, behind the test of their last units.
 pub fn may_match(p: &[u8], v: &[u8]) -> bool
     requires { ⌜ (length (now p) ≡ length (now v)) × (2 ≤ length (now v)) ⌝ }
     ensures { λ r. ⌜ (matches (units (now (p .entry))) (units (now (v .entry))) ≡ true → r ≡ true) ⌝ }
 {
-    if !unit_near(unit(p, 0), unit(v, 0)) {
+    if !first_near(p, v) {
         return false;
     }
     if 16 <= v.len() {
@@ -236,7 +244,7 @@ fn ends_near(p: &[u8], v: &[u8]) -> bool
     requires { ⌜ (length (now p) ≡ length (now v)) × (length (now v) % 2 ≡ 0) × (2 ≤ length (now v)) ⌝ }
     ensures { λ r. ⌜ (matches (units (now (p .entry))) (units (now (v .entry))) ≡ true → r ≡ true) ⌝ }
 {
-    if !unit_near(unit(p, 0), unit(v, 0)) {
+    if !first_near(p, v) {
         return false;
     }
     let last = v.len() - 2;
@@ -273,19 +281,29 @@ fn wild_match(p: &[u8], v: &[u8]) -> bool
     few_match(&p[i..], &v[i..])
 }
 
-// The same; as far as the units are equal and no '#', the usual case, by fewer tests.
-fn units_match(p: &[u8], v: &[u8]) -> bool
+// How many bytes from the start on, by sixteens, are the same in both and have no '#'. What is behind them decides.
+fn plain_length(p: &[u8], v: &[u8]) -> usize
     requires { ⌜ length (now p) ≡ length (now v) ⌝ }
-    ensures { λ r. ⌜ r ≡ matches (units (now (p .entry))) (units (now (v .entry))) ⌝ }
+    ensures within { λ r. ⌜ r ≤ length (now (v .entry)) ⌝ }
+    ensures behind { λ r. ⌜ matches (units (now (p .entry))) (units (now (v .entry))) ≡ matches (units (drop r (now (p .entry)))) (units (drop r (now (v .entry)))) ⌝ }
 {
     let mut i = 0;
     while 16 <= v.len() - i {
         if !eight_plain(p, v, i) {
-            return wild_match(&p[i..], &v[i..]);
+            return i;
         }
         i += 16;
     }
-    few_match(&p[i..], &v[i..])
+    i
+}
+
+// Whether as many units match; as far as they are equal and no '#', the usual case, by fewer tests.
+fn units_match(p: &[u8], v: &[u8]) -> bool
+    requires { ⌜ length (now p) ≡ length (now v) ⌝ }
+    ensures { λ r. ⌜ r ≡ matches (units (now (p .entry))) (units (now (v .entry))) ⌝ }
+{
+    let i = plain_length(p, v);
+    wild_match(&p[i..], &v[i..])
 }
 
 // The one comparison of a name with a pattern: an entry's name against a variable's, as many units, each matching. The first and

@@ -50,11 +50,7 @@ loop-again c =
     )
 
 returns : tie.Need-returns Inv-loop μ-loop
-returns c =
-    let l = c .before in
-    let a = l .before .before .before .args in
-    let e : l .loop .j ≡ 16 = omega arith in
-    λ t. l .loop .inv .2 t .0
+returns c = λ t. c .before .loop .inv .2 t .0
 
 pub eight-near-spec : {M : Type 1} → statement M
 eight-near-spec =

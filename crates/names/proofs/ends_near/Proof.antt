@@ -9,9 +9,14 @@ use Rattle.names.specs.NameLaws.{matches-first, matches-last}
 use Rattle.names.proofs.ends_near.Statement.{statement}
 use Rattle.names.proofs.ends_near.Tie as tie
 
--- where the first units are near
-abbrev Start : tie.Else1 → tie.Start
-Start c = c .before .before .before .before .before .before
+first-near-requires : tie.Need-first-near-requires
+first-near-requires c κs = search needs
+
+returns : tie.Need-returns
+returns c m = sym (not-true (c .before .first-near .result) (c .if1 .taken)) ∙ c .before .first-near .ensures m
+
+sub-last : tie.Need-sub-last
+sub-last c = search needs
 
 unit-requires : tie.Need-unit-requires
 unit-requires c κs = search needs
@@ -22,46 +27,24 @@ unit-requires-2 c κs = search needs
 unit-near-requires : tie.Need-unit-near-requires
 unit-near-requires c κs = search needs
 
-returns : tie.Need-returns
-returns c m =
-    let n = c .before in
-    let u = n .before in
-    let x = u .before .before .before .before in
-    sym (not-true (n .unit-near .result) (c .if1 .taken))
-    ∙ n .unit-near .ensures (matches-first (x .args .p .now) (x .args .v .now) 0 (omega (arith, x .pre .0, x .pre .2)) (x .pre .2) (u .before .unit .ensures) (u .unit2 .ensures) m)
-
-sub-last : tie.Need-sub-last
-sub-last c = omega (arith, Start c .pre .2)
-
-unit-requires-3 : tie.Need-unit-requires-3
-unit-requires-3 c κs = search needs
-
-unit-requires-4 : tie.Need-unit-requires-4
-unit-requires-4 c κs = search needs
-
-unit-near-requires-2 : tie.Need-unit-near-requires-2
-unit-near-requires-2 c κs = search needs
-
 returns-2 : tie.Need-returns-2
 returns-2 c m =
     let u = c .before in
-    let x = Start (u .before .before) in
+    let x = u .before .before .before .before .before .before in
     let p = x .args .p .now in
     let v = x .args .v .now in
-    c .unit-near2 .ensures
-    (matches-first p v (length v - 2) (omega (arith, x .pre .0, x .pre .2)) (omega (arith, x .pre .2)) (u .before .unit3 .ensures) (u .unit4 .ensures)
+    c .unit-near .ensures
+    (matches-first p v (length v - 2) (omega (arith, x .pre .0, x .pre .2)) (omega (arith, x .pre .2)) (u .before .unit .ensures) (u .unit2 .ensures)
     (matches-last p v (x .pre .1) m 2 (x .pre .2) refl))
 
 pub ends-near-spec : {M : Type 1} → statement M
 ends-near-spec =
     tie.close
     (tie.spec
+    first-near-requires
+    returns
+    sub-last
     unit-requires
     unit-requires-2
     unit-near-requires
-    returns
-    sub-last
-    unit-requires-3
-    unit-requires-4
-    unit-near-requires-2
     returns-2)
