@@ -198,7 +198,8 @@ varpolicy_restart (
                                        at most VARPOLICY_MAX_ENTRIES well-formed entries, no two for one
                                        namespace and name, and then zeros.
   @retval VARPOLICY_WRITE_PROTECTED    The engine is locked.
-  @retval VARPOLICY_INVALID_PARAMETER  The entry is malformed.
+  @retval VARPOLICY_INVALID_PARAMETER  The entry is malformed. One cause that is easily overlooked: a
+                                       '#' in the name of its trigger.
   @retval VARPOLICY_ALREADY_STARTED    An entry of the same namespace and name is registered.
   @retval VARPOLICY_OUT_OF_RESOURCES   VARPOLICY_MAX_ENTRIES are registered, or the Sizes would sum to more
                                        than VARPOLICY_POLICY_BYTES.

@@ -4,4 +4,6 @@ pub mod MachineLaws
 pub mod UnambiguousLaws
 pub mod Demand3
 pub mod StoredSizes
+pub mod OldEntries
+pub mod OldEntriesLaws
 pub mod OldDumps

@@ -8,15 +8,16 @@ use native.Mathlib.Omega.{arith}
 use lib.ListN.{length, take, length-append}
 use borrow.Author.Tests.{le-leb}
 use Rattle.limits.specs.Limits.{maxEntries, policyBytes}
-use Rattle.lists.specs.Lists.{All, over}
+use Rattle.lists.specs.Lists.{over}
 use Rattle.lists.specs.ListsLaws.{all-right, all-here, length-perm, flat-perm, over-over}
 use Rattle.slices.specs.Test.{_and_}
-use Rattle.slices.specs.Bytes.{Bytes, padded}
-use Rattle.slices.specs.Chunks.{flat, packed}
+use Rattle.slices.specs.Bytes.{Bytes}
+use Rattle.slices.specs.Chunks.{flat}
 use Rattle.names.specs.Name.{named}
-use Rattle.entry.specs.Entry.{sameTarget}
+use Rattle.entry.specs.Entry.{wellFormed, sameTarget}
+use Rattle.entry.specs.EntryLaws.{well-formed-header}
 use Rattle.policy.specs.Policy.{entriesOf, sizesSum, packPolicy, policyValid}
-use Rattle.policy.specs.PolicyLaws.{WellFormed, Entries, policyValid-length, policy-entries, pack-entriesOf, entriesOf-formed, entriesOf-pack, entries-policy, sizesSum-flat}
+use Rattle.policy.specs.PolicyLaws.{Entries, policyValid-length, policy-entries, pack-entriesOf, entriesOf-formed, entriesOf-pack, entries-policy, sizesSum-flat, flat-unique}
 use Rattle.policy.specs.Choice.{chosen}
 use Rattle.stores.specs.Pair.{sound}
 use Rattle.status.specs.declared.Status.{Status}
@@ -25,7 +26,7 @@ use Rattle.status.specs.Status.{isSuccess}
 use Rattle.switches.specs.declared.Switches.{Switches}
 use Rattle.switches.specs.Switches.{freshSwitches}
 use Rattle.rules.specs.Set.{Request, badRequest, requestStatus, decision}
-use Rattle.rules.specs.Engine.{State, Call, stateOf, powerOnStatus, restartStatus, registerStatus, dumpStatus, speaking, decisionBy, decisionIn, status, given, refusal, answer, after, effect, step}
+use Rattle.rules.specs.Engine.{State, Call, Answer, stateOf, onlyStatus, powerOnStatus, restartStatus, registerStatus, dumpStatus, speaking, decisionBy, decisionIn, status, given, refusal, answer, after, effect, step}
 use Rattle.rules.specs.Engine.Call.{powerOn, restart, register, dump, lock, disable, query, read, set}
 use Rattle.rules.specs.EngineLaws.{step-status, refused-changes-nothing, granted-effect}
 use Rattle.rules.specs.StateLaws.{Sound, power-on-lists, restart-lists, register-lists, step-sound, restart-done}
@@ -259,12 +260,6 @@ dump-holds s c k h = go (isSuccess (status s c)) refl (sym (outcome-status s c) 
     go true e i = subst (Does s c) k (does s c e) .1
     go false e i = absurd (granted-refused (sym i))
 
--- well-formed entries end to end come apart in one way: their record has that list
-pub unique : {ds es : List Bytes} → All WellFormed ds → All WellFormed es → flat ds ≡ flat es → ds ≡ es
-unfolding packed
-unique {ds} {es} p q h =
-    sym (entriesOf-pack ds p) ∙ ap (λ (l : Bytes). entriesOf (padded policyBytes 0 l)) h ∙ entriesOf-pack es q
-
 -- ---- A REBUILD: a list of calls that all answer 0, and where it leads
 pub record Runs (s : State) (cs : List Call) (z : State) : Type 0 where
   pub done : AllGranted machine s cs
@@ -273,15 +268,20 @@ pub record Runs (s : State) (cs : List Call) (z : State) : Type 0 where
 runs-nil : (s : State) → Runs s [] s
 runs-nil s = record { done = tt; ends = refl }
 
+runs-step : (s : State) (c : Call) (a : Answer) (z : State) (cs : List Call) (y : State) → step s c ≡ (a, z) → isSuccess (a .status) ≡ true
+    → Runs z cs y → Runs s (c ∷ cs) y
+runs-step s c a z cs y e h r =
+    let next : step s c .1 ≡ z = ap (λ (p : Answer × State). p .1) e in
+    record {
+      done = (ap outcomeBy (ap (λ (p : Answer × State). isSuccess (p .0 .status)) e ∙ h), subst⁻¹ (λ (x : State). AllGranted machine x cs) next (r .done));
+      ends = ap (λ (x : State). end machine x cs) next ∙ r .ends;
+    }
+
 runs-cons : (s : State) (c : Call) (z : State) (cs : List Call) (y : State) → isSuccess (status s c) ≡ true
     → effect s c ≡ z → Runs z cs y → Runs s (c ∷ cs) y
 runs-cons s c z cs y h e r =
     let k : isSuccess (step s c .0 .status) ≡ true = ap isSuccess (step-status s c) ∙ h in
-    let next : step s c .1 ≡ z = granted-effect s c k ∙ e in
-    record {
-      done = (ap outcomeBy k, subst⁻¹ (λ (x : State). AllGranted machine x cs) next (r .done));
-      ends = ap (λ (x : State). end machine x cs) next ∙ r .ends;
-    }
+    runs-step s c (step s c .0) z cs y (ap (λ (x : State). (step s c .0, x)) (granted-effect s c k ∙ e)) k r
 
 runs-append : (s : State) (cs : List Call) (z : State) (ds : List Call) (y : State) → Runs s cs z → Runs z ds y → Runs s (cs ++ ds) y
 runs-append s [] z ds y a b = subst⁻¹ (λ (x : State). Runs x ds y) (a .ends) b
@@ -304,14 +304,19 @@ register-done es e fs a =
       le-leb (length (flat es) + length e) policyBytes room,
     )
 
+pub register-granted : (k : State) (es : List Bytes) (e : Bytes) (fs : List Bytes) → k .switches .locked ≡ false → Entries (es ++ (e ∷ fs))
+    → step (withEntries k es) (register e) ≡ (onlyStatus Success, withEntries k (es ++ (e ∷ [])))
+unfolding step
+register-granted k es e fs u a =
+    let b = entries-left es (e ∷ fs) a in
+    rw (entries-policy es b, entriesOf-pack es (b .formed), u, register-done es e fs a)
+
 pub registers-run : (k : State) (es fs : List Bytes) → k .switches .locked ≡ false → Entries (es ++ fs) → Runs (withEntries k es) (map register fs) (withEntries k (es ++ fs))
 registers-run k es [] u a = rw (append-nil es) (runs-nil (withEntries k es))
 registers-run k es (e ∷ fs) u a =
-    let b = entries-left es (e ∷ fs) a in
     let j : (es ++ (e ∷ [])) ++ fs ≡ es ++ (e ∷ fs) = append-assoc es (e ∷ []) fs in
-    runs-cons (withEntries k es) (register e) (withEntries k (es ++ (e ∷ []))) (map register fs) (withEntries k (es ++ (e ∷ fs)))
-    (rw (entries-policy es b, entriesOf-pack es (b .formed), u, register-done es e fs a))
-    (rw (entriesOf-pack es (b .formed)))
+    runs-step (withEntries k es) (register e) (onlyStatus Success) (withEntries k (es ++ (e ∷ []))) (map register fs) (withEntries k (es ++ (e ∷ fs)))
+    (register-granted k es e fs u a) refl
     (subst (λ (l : List Bytes). Runs (withEntries k (es ++ (e ∷ []))) (map register fs) (withEntries k l)) j
     (registers-run k (es ++ (e ∷ [])) fs u (subst⁻¹ Entries j a)))
 
@@ -356,7 +361,7 @@ ordered-again s x o d = ap (λ (p : Bytes). stateOf (s .nv) (s .vol) p (s .switc
 -- ---- THE LAWS
 pub laws : Laws machine Reached
 laws = record {
-  unique = λ {ds} {es} p q h. unique p q h;
+  unique = λ {ds} {es} p q h. flat-unique wellFormed well-formed-header p q h;
   areFormed = λ {t} {s} w. entriesOf-formed (s .policy);
   asListed = λ {t} {s} w.
       ap (λ (p : Bytes). stateOf (s .nv) (s .vol) p (s .switches))

@@ -18,7 +18,7 @@ use Rattle.slices.specs.TestLaws.{and-left, and-right, and-intro}
 use Rattle.slices.specs.Bytes.{Bytes, AreBytes, pairwise}
 use Rattle.slices.specs.BytesLaws.{pairwise-length, same-eq}
 use Rattle.slices.specs.PartLaws.{bytes-part}
-use Rattle.names.specs.Name.{Variable, units, noZero, isName, named, unitMatches}
+use Rattle.names.specs.Name.{Variable, units, each, isName, named, unitMatches}
 use Rattle.names.specs.NameLaws.{isName-length, isName-even, named-namespace, named-name, units-length, wildcards-le, unit-cases}
 use Rattle.entry.specs.Entry.{offsetToName, namespaceOf, nameIsEmpty, nameOf, targets, rank}
 use Rattle.history.specs.History.{Unambiguous}
@@ -135,7 +135,7 @@ module _ (e f : Bytes) (v : Variable) (h : AreBytes e) (n : named v ≡ true) (p
       and-intro _ _ (and-left _ _ t) y
 
   named-A : named (respelled v letterA) ≡ true
-  unfolding named isName units noZero _and_
+  unfolding named isName units each _and_
   named-A = rw (eq-eqb (length (v .namespace)) namespaceBytes (named-namespace v n))
 
   by-namespace : nameIsEmpty e ≡ true → nameIsEmpty f ≡ true → ⊥

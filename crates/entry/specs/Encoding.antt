@@ -9,8 +9,9 @@ use lib.ListN.{length, getD}
 use lib.Dec.{leb}
 use lib.Bits.{bitAnd}
 use Rattle.limits.specs.Limits.{namespaceBytes, entryVersion, entryHeader}
+use Rattle.lists.specs.Lists.{Among}
 use Rattle.slices.specs.Bytes.{Bytes, le16Bytes, le32Bytes, part}
-use Rattle.names.specs.Name.{isName}
+use Rattle.names.specs.Name.{units, isName, numberSign}
 use Rattle.entry.specs.Entry.{namespaceOf, minSize, maxSize, attributesMustHave, attributesCantHave, lockPolicyType, nameOf, triggerOf, triggerValue}
 
 -- the lock rule: of types 0 to 2 the type; of type 3 the trigger's namespace, Value, the reserved byte, and its name without the zero unit
@@ -58,10 +59,10 @@ encodeNumbers f = le32Bytes (f .minSize) ++ (le32Bytes (f .maxSize) ++ (le32Byte
 unfoldable pub encodeEntry : Fields → Bytes
 encodeEntry f = le32Bytes entryVersion ++ (le16Bytes (sizeFor f) ++ (le16Bytes (offsetFor f) ++ (f .namespace ++ encodeNumbers f)))
 
--- in range (RULES.md, 3.1), field by field
+-- in range (RULES.md, 3.1 and 3.2), field by field; a trigger's name has no '#'
 abbrev pub LockInRange : Lock → Type 0
 LockInRange (plain k) = k ≤ 2
-LockInRange (onVarState namespace value reserved name) = (length namespace ≡ namespaceBytes) × (isName name ≡ true)
+LockInRange (onVarState namespace value reserved name) = (length namespace ≡ namespaceBytes) × (isName name ≡ true) × (Among numberSign (units name) → ⊥)
 
 pub record InRange (f : Fields) : Type 0 where
   pub namespace : length (f .namespace) ≡ namespaceBytes

@@ -14,23 +14,25 @@ use lib.Dec.{leb}
 use lib.Bits.{bitAnd}
 use borrow.Author.Tests.{eq-eqb, le-leb, lt-leb, eqb-true, leb-true}
 use Rattle.limits.specs.Limits.{maxNameSize, entryVersion, triggerNameAt, maxEntryBytes}
+use Rattle.lists.specs.Lists.{Among}
 use Rattle.slices.specs.TestLaws.{and-left, and-right, and-intro}
 use Rattle.slices.specs.Bytes.{Bytes, le16, le32, le16Bytes, le32Bytes, part}
 use Rattle.slices.specs.PartLaws.{drop-step, drop-take, part-take, part-rest, part-none, length-part}
 use Rattle.slices.specs.NumberLaws.{le16-drop, le32-drop, le16-bytes, le32-bytes, bytes-le16, bytes-le32}
-use Rattle.names.specs.Name.{Variable, isName, isTerminated}
-use Rattle.names.specs.NameLaws.{isName-length, isTerminated-length, isTerminated-zeros, name-terminated}
+use Rattle.names.specs.Name.{Variable, units, isName, isTerminated, numberSign}
+use Rattle.names.specs.NameLaws.{isName-length, isTerminated-length, isTerminated-zeros, name-terminated, name-plain-terminated, wildcards-none}
 use Rattle.entry.specs.Entry.{version, sizeField, offsetToName, namespaceOf, minSize, maxSize, attributesMustHave, attributesCantHave, lockPolicyType, headerOk, lockOk, nameOk, nameIsEmpty, wellFormed, nameOf, triggerOf, triggerValue}
 use Rattle.entry.specs.EntryLaws.{
   sized,
   nameOf-name,
-  take-part,
+  part-shorter,
   type-3,
   trigger-least,
   trigger-terminated,
   trigger-length,
   trigger-part,
   trigger-name,
+  trigger-wildcards,
 }
 use Rattle.entry.specs.Encoding.{
   Lock,
@@ -72,7 +74,7 @@ terminated-name (b ∷ l) h = refl
 -- a terminated part is its name and a zero unit
 part-name : (a : ℕ) (e : Bytes) → a ≤ length e → isTerminated (part a (length e) e) ≡ true → part a (length e - 2) e ++ (0 ∷ 0 ∷ []) ≡ drop a e
 part-name a e h t =
-    ap (λ (n : Bytes). n ++ (0 ∷ 0 ∷ [])) (sym (take-part a e h)) ∙ sym (isTerminated-zeros (part a (length e) e) t) ∙ part-rest a (length e) e (le-refl (length e))
+    ap (λ (n : Bytes). n ++ (0 ∷ 0 ∷ [])) (sym (part-shorter a (length e) e (le-refl (length e)))) ∙ sym (isTerminated-zeros (part a (length e) e) t) ∙ part-rest a (length e) e (le-refl (length e))
 
 -- the name with its zero unit is the entry's end
 name-end : (e : Bytes) → wellFormed e ≡ true → terminated (nameOf e) ≡ drop (offsetToName e) e
@@ -143,7 +145,8 @@ module _ (e : Bytes) (w : wellFormed e ≡ true) where
       go : (t : Bool) → leb (lockPolicyType e) 2 ≡ t
           → LockInRange (cond t (plain (lockPolicyType e)) (onVarState (part 44 60 e) (triggerValue e) (getD e 61 0) (part 62 (offsetToName e - 2) e)))
       go true q = leb-true (lockPolicyType e) 2 q
-      go false q = (length-part 44 60 e (omega (arith, trigger-least e w q, sized e w .offset-most)), trigger-name e w q)
+      go false q =
+          (length-part 44 60 e (omega (arith, trigger-least e w q, sized e w .offset-most)), trigger-name e w q, wildcards-none _ .0 (trigger-wildcards e w q))
 
   offset-is : offsetFor (fieldsOf e) ≡ offsetToName e
   unfolding offsetFor fieldsOf
@@ -343,14 +346,14 @@ module _ (f : Fields) (r : InRange f) where
         ap (take (offsetToName (encodeEntry f) - 62)) drop-62
         ∙ take-at (m ++ (0 ∷ 0 ∷ [])) (terminated (f .name)) (offsetToName (encodeEntry f) - 62) (omega (arith, offset-trigger))
 
-    trigger-lock : lockOk (encodeEntry f) ≡ true
+    trigger-lock : (Among numberSign (units m) → ⊥) → lockOk (encodeEntry f) ≡ true
     unfolding lockOk
-    trigger-lock =
+    trigger-lock p =
         let t : lockPolicyType (encodeEntry f) ≡ 3 = get-type ∙ ap typeOf q in
         rw (lt-leb (lockPolicyType (encodeEntry f)) 2 (omega arith))
         (and-intro _ _ (eq-eqb (lockPolicyType (encodeEntry f)) 3 t)
         (and-intro _ _ (le-leb 62 (offsetToName (encodeEntry f)) (omega (arith, offset-trigger)))
-        (and-intro _ _ (le-leb (offsetToName (encodeEntry f)) (length (encodeEntry f)) (omega (arith, get-offset, length-encode, offset-size))) (rw get-trigger (name-terminated m h)))))
+        (and-intro _ _ (le-leb (offsetToName (encodeEntry f)) (length (encodeEntry f)) (omega (arith, get-offset, length-encode, offset-size))) (rw get-trigger (name-plain-terminated m h (wildcards-none (units m) .1 p))))))
 
     drop-trigger : drop 44 (encodeEntry f) ≡ n ++ (v ∷ c ∷ ((m ++ (0 ∷ 0 ∷ [])) ++ terminated (f .name)))
     drop-trigger = drop-44 ∙ ap (λ (k : Lock). lockBytes k ++ terminated (f .name)) q ∙ append-assoc n ((v ∷ c ∷ []) ++ (m ++ (0 ∷ 0 ∷ []))) (terminated (f .name))
@@ -378,7 +381,7 @@ module _ (f : Fields) (r : InRange f) where
     where
       go : (k : Lock) → f .lock ≡ k → LockInRange k → lockOk (encodeEntry f) ≡ true
       go (plain k) q h = plain-lock k q h
-      go (onVarState n v c m) q h = trigger-lock n v c m q (h .0) (h .1)
+      go (onVarState n v c m) q h = trigger-lock n v c m q (h .0) (h .1) (h .2)
 
   empty : f .name ≡ [] → offsetToName (encodeEntry f) ≡ length (encodeEntry f)
   unfolding sizeFor

@@ -24,7 +24,7 @@ use Rattle.limits.specs.Limits.{
 }
 use Rattle.slices.specs.Test.{_and_}
 use Rattle.slices.specs.Bytes.{Bytes, le16, le32, part, same}
-use Rattle.names.specs.Name.{Variable, isTerminated, units, matches, wildcards}
+use Rattle.names.specs.Name.{Variable, isTerminated, isPlainTerminated, units, matches, wildcards}
 use Rattle.entry.specs.declared.LockRule.{LockRule}
 use Rattle.entry.specs.declared.LockRule.the-variants.{NoLock, LockNow, LockOnCreate, LockOnVarState}
 use Rattle.entry.specs.declared.Entry.{Entry}
@@ -68,12 +68,12 @@ headerOk e =
     and leb (minSize e) (maxSize e)
     and eqb (bitAnd (attributesMustHave e) (attributesCantHave e)) 0
 
--- the lock part (RULES.md, 3.2): none for types 0 to 2; for type 3 a trigger, whose name with its zero unit ends at OffsetToName
+-- the lock part (RULES.md, 3.2): none for types 0 to 2; for type 3 a trigger, whose name has no '#' and ends with its zero unit at OffsetToName
 unfoldable pub lockOk : Bytes → Bool
 lockOk e =
     cond (leb (lockPolicyType e) 2) (eqb (offsetToName e) entryHeader)
     (eqb (lockPolicyType e) 3
-    and leb triggerNameAt (offsetToName e) and leb (offsetToName e) (length e) and isTerminated (part triggerNameAt (offsetToName e) e))
+    and leb triggerNameAt (offsetToName e) and leb (offsetToName e) (length e) and isPlainTerminated (part triggerNameAt (offsetToName e) e))
 
 -- the entry's name from OffsetToName to Size: empty, or a name with its zero unit
 abbrev pub nameIsEmpty : Bytes → Bool

@@ -6,7 +6,7 @@ use mathlib.Core.Bool.{Bool, true, false, cond, _||_, false≢true}
 use mathlib.Core.Logic.{_⊎_, inl, inr}
 use native.Mathlib.Omega.{arith}
 use native.Mathlib.Nat.{le-refl}
-use lib.ListN.{length, take, drop, length-drop}
+use lib.ListN.{length, take, drop}
 use lib.Seq.{take-take}
 use lib.Dec.{eqb, leb}
 use borrow.Author.Tests.{eq-eqb, ne-eqb, leb-true, eqb-true}
@@ -16,9 +16,9 @@ use Rattle.slices.specs.Test.{_and_}
 use Rattle.slices.specs.TestLaws.{and-left, and-right, and-intro}
 use Rattle.slices.specs.Bytes.{Bytes, part, same}
 use Rattle.slices.specs.BytesLaws.{same-eq, same-sym, same-of}
-use Rattle.slices.specs.PartLaws.{length-part, part-none, part-rest}
-use Rattle.names.specs.Name.{isName, isTerminated, units, Variable, numberSign, matches, wildcards}
-use Rattle.names.specs.NameLaws.{isName-length, isName-even, isTerminated-length, isTerminated-name, units-length, wildcards-le, sign-in-name}
+use Rattle.slices.specs.PartLaws.{length-part, part-none}
+use Rattle.names.specs.Name.{isName, isTerminated, isPlainTerminated, units, Variable, numberSign, matches, wildcards}
+use Rattle.names.specs.NameLaws.{isName-length, isName-even, isTerminated-length, isTerminated-name, plain-terminated, plain-wildcards, units-length, wildcards-le, sign-in-name}
 use Rattle.entry.specs.Entry.{headerOk, lockOk, nameOk, wellFormed, sizeField, offsetToName, lockPolicyType, nameIsEmpty, nameOf, namespaceOf, targets, rank, sameTarget}
 
 -- ---- lengths and places
@@ -44,30 +44,45 @@ lock-bounds e false q h =
     let h₁ = rw q at h in
     let h₂ = and-right _ _ (and-right _ _ h₁) in
     let k = leb-true triggerNameAt (offsetToName e) (and-left _ _ (and-right _ _ h₁)) in
-    let n = isTerminated-length (part triggerNameAt (offsetToName e) e) (and-right _ _ h₂) in
+    let n = isTerminated-length (part triggerNameAt (offsetToName e) e) (plain-terminated _ (and-right _ _ h₂)) in
     let m = length-part triggerNameAt (offsetToName e) e (leb-true (offsetToName e) (length e) (and-left _ _ h₂)) in
     (omega arith, omega (arith, n, m))
 
+-- what the header alone tells
+module _ (e : Bytes) (h : headerOk e ≡ true) where
+  pub header-least : entryHeader ≤ length e
+  unfolding headerOk
+  header-least = leb-true entryHeader (length e) (and-left _ _ h)
+
+  pub header-stated : sizeField e ≡ length e
+  unfolding headerOk
+  header-stated = eqb-true (sizeField e) (length e) (and-left _ _ (and-right _ _ (and-right _ _ h)))
+
+pub well-formed-header : (e : Bytes) → wellFormed e ≡ true → headerOk e ≡ true
+unfolding wellFormed
+well-formed-header e w = and-left _ _ w
+
 pub sized : (e : Bytes) → wellFormed e ≡ true → Sized e
-unfolding wellFormed headerOk nameOk
+unfolding wellFormed nameOk
 sized e w =
-    let h = and-left _ _ w in
+    let h = well-formed-header e w in
     let n = and-right _ _ (and-right _ _ w) in
     let l = leb-true (offsetToName e) (length e) (and-left _ _ n) in
     let k = lock-bounds e (leb (lockPolicyType e) 2) refl (and-left _ _ (and-right _ _ w)) in
     record {
-      least = leb-true entryHeader (length e) (and-left _ _ h);
+      least = header-least e h;
       most = omega (arith, k, name-most e (nameIsEmpty e) refl (and-right _ _ n) l);
-      stated = eqb-true (sizeField e) (length e) (and-left _ _ (and-right _ _ (and-right _ _ h)));
+      stated = header-stated e h;
       offset-least = k .0;
       offset-most = l;
     }
 
 -- ---- the name
-pub take-part : (a : ℕ) (e : Bytes) → a ≤ length e → take (length (part a (length e) e) - 2) (part a (length e) e) ≡ part a (length e - 2) e
-take-part a e h =
-    let k : length e - a - 2 ≡ length e - 2 - a = omega arith in
-    rw (part-rest a (length e) e (le-refl (length e)), length-drop a e, k)
+-- a part without its last two bytes
+pub part-shorter : (a b : ℕ) (e : Bytes) → b ≤ length e → take (length (part a b e) - 2) (part a b e) ≡ part a (b - 2) e
+part-shorter a b e h =
+    let k : b - a - 2 ≡ b - 2 - a = omega arith in
+    rw (length-part a b e h, k) (take-take (b - 2 - a) (b - a) (drop a e) (omega arith))
 
 -- the entry's name is empty, or a name that step 1 of a set takes
 pub nameOf-name : (e : Bytes) → wellFormed e ≡ true → (nameOf e ≡ []) ⊎ (isName (nameOf e) ≡ true)
@@ -77,7 +92,7 @@ nameOf-name e w = go (nameIsEmpty e) refl (and-right _ _ (and-right _ _ (and-rig
     go : (t : Bool) → nameIsEmpty e ≡ t → (t || isTerminated (part (offsetToName e) (length e) e)) ≡ true
         → (part (offsetToName e) (length e - 2) e ≡ []) ⊎ (isName (part (offsetToName e) (length e - 2) e) ≡ true)
     go true q h = inl (part-none (offsetToName e) (length e - 2) e (omega (arith, eqb-true (offsetToName e) (length e) q)))
-    go false q h = inr (rw (take-part (offsetToName e) e (sized e w .offset-most)) at (isTerminated-name _ h))
+    go false q h = inr (rw (part-shorter (offsetToName e) (length e) e (le-refl (length e))) at (isTerminated-name _ h))
 
 -- a name that is not empty has at least one unit and its zero unit
 pub name-least : (e : Bytes) → wellFormed e ≡ true → nameIsEmpty e ≡ false → offsetToName e + 4 ≤ length e
@@ -134,7 +149,7 @@ guarded-by-namespace e v h t = go (nameIsEmpty e) (and-right _ _ t)
 
 -- ---- the trigger of a type 3 entry
 module _ (e : Bytes) (w : wellFormed e ≡ true) (q : leb (lockPolicyType e) 2 ≡ false) where
-  trigger-tests : (eqb (lockPolicyType e) 3 and leb triggerNameAt (offsetToName e) and leb (offsetToName e) (length e) and isTerminated (part triggerNameAt (offsetToName e) e)) ≡ true
+  trigger-tests : (eqb (lockPolicyType e) 3 and leb triggerNameAt (offsetToName e) and leb (offsetToName e) (length e) and isPlainTerminated (part triggerNameAt (offsetToName e) e)) ≡ true
   unfolding wellFormed lockOk
   trigger-tests = rw q at (and-left _ _ (and-right _ _ w))
 
@@ -144,19 +159,24 @@ module _ (e : Bytes) (w : wellFormed e ≡ true) (q : leb (lockPolicyType e) 2 �
   pub trigger-least : triggerNameAt ≤ offsetToName e
   trigger-least = leb-true triggerNameAt (offsetToName e) (and-left _ _ (and-right _ _ trigger-tests))
 
+  trigger-plain : isPlainTerminated (part triggerNameAt (offsetToName e) e) ≡ true
+  trigger-plain = and-right _ _ (and-right _ _ (and-right _ _ trigger-tests))
+
   pub trigger-terminated : isTerminated (part triggerNameAt (offsetToName e) e) ≡ true
-  trigger-terminated = and-right _ _ (and-right _ _ (and-right _ _ trigger-tests))
+  trigger-terminated = plain-terminated (part triggerNameAt (offsetToName e) e) trigger-plain
 
   pub trigger-length : length (part triggerNameAt (offsetToName e) e) ≡ offsetToName e - triggerNameAt
   trigger-length = length-part triggerNameAt (offsetToName e) e (sized e w .offset-most)
 
   pub trigger-part : take (length (part triggerNameAt (offsetToName e) e) - 2) (part triggerNameAt (offsetToName e) e) ≡ part triggerNameAt (offsetToName e - 2) e
-  trigger-part =
-      let k : offsetToName e - triggerNameAt - 2 ≡ offsetToName e - 2 - triggerNameAt = omega arith in
-      rw (trigger-length, k) (take-take (offsetToName e - 2 - triggerNameAt) (offsetToName e - triggerNameAt) (drop triggerNameAt e) (omega arith))
+  trigger-part = part-shorter triggerNameAt (offsetToName e) e (sized e w .offset-most)
 
   pub trigger-name : isName (part triggerNameAt (offsetToName e - 2) e) ≡ true
   trigger-name = rw trigger-part at (isTerminated-name (part triggerNameAt (offsetToName e) e) trigger-terminated)
+
+  -- its name has no '#'
+  pub trigger-wildcards : wildcards (units (part triggerNameAt (offsetToName e - 2) e)) ≡ 0
+  trigger-wildcards = rw trigger-part at (plain-wildcards (part triggerNameAt (offsetToName e) e) trigger-plain)
 
 -- ---- the same namespace and name
 pub record Same (e f : Bytes) : Type 0 where

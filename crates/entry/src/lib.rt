@@ -1,7 +1,7 @@
 // The packed policy entry.
 ghost use mathlib.Core.Path.{_≡_};
 ghost use mathlib.Core.Bool.{true};
-ghost use Rattle.entry.specs.Entry.{headerOk, lockOk, nameOk, wellFormed, nameOf, lockOf, entryOf, parse, sameTarget};
+ghost use Rattle.entry.specs.Entry.{offsetToName, headerOk, lockOk, nameOk, wellFormed, nameOf, lockOf, entryOf, parse, sameTarget};
 
 // The trigger of the fourth lock rule: the value that locks, and where its namespace and its name stand in the entry's bytes.
 // The name's last byte before its closing zero unit is at name_end - 1.
@@ -58,12 +58,12 @@ fn header_ok(e: &[u8]) -> bool
     true
 }
 
-// LockPolicyType and OffsetToName; of type 3 the trigger's name, a part of the entry's bytes.
-fn lock_ok(e: &[u8]) -> bool
+// LockPolicyType and OffsetToName; of type 3 the trigger's name, which has no '#': a part of the entry's bytes.
+fn lock_ok(e: &[u8], offset: usize) -> bool
+    requires { ⌜ offset ≡ offsetToName (now e) ⌝ }
     ensures { λ r. ⌜ r ≡ lockOk (now (e .entry)) ⌝ }
 {
     let kind = slices::byte(e, limits::LOCK_TYPE_AT);
-    let offset = slices::le16(e, limits::OFFSET_TO_NAME_AT) as usize;
     if kind <= 2 {
         return offset == limits::ENTRY_HEADER;
     }
@@ -76,34 +76,35 @@ fn lock_ok(e: &[u8]) -> bool
     if e.len() < offset {
         return false;
     }
-    names::is_terminated(&e[limits::TRIGGER_NAME_AT..offset])
+    names::is_plain_terminated(&e[limits::TRIGGER_NAME_AT..offset])
 }
 
 // The entry's own name: empty, or a name with its zero unit.
-fn name_ok(e: &[u8]) -> bool
+fn name_ok(e: &[u8], offset: usize) -> bool
+    requires { ⌜ offset ≡ offsetToName (now e) ⌝ }
     ensures { λ r. ⌜ r ≡ nameOk (now (e .entry)) ⌝ }
 {
-    let start = slices::le16(e, limits::OFFSET_TO_NAME_AT) as usize;
-    if e.len() < start {
+    if e.len() < offset {
         return false;
     }
-    if start == e.len() {
+    if offset == e.len() {
         return true;
     }
-    names::is_terminated(&e[start..])
+    names::is_terminated(&e[offset..])
 }
 
 // Whether the bytes are a well-formed entry.
 pub fn well_formed(e: &[u8]) -> bool
     ensures { λ r. ⌜ r ≡ wellFormed (now (e .entry)) ⌝ }
 {
-    if header_ok(e) {
-        if lock_ok(e) {
-            return name_ok(e);
-        }
+    if !header_ok(e) {
         return false;
     }
-    false
+    let offset = slices::get16(e, limits::OFFSET_TO_NAME_AT);
+    if !lock_ok(e, offset) {
+        return false;
+    }
+    name_ok(e, offset)
 }
 
 // The lock rule of a well-formed entry.

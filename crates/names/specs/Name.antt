@@ -2,7 +2,7 @@
 -- Assumes nothing: these are definitions.
 use Prim.Native.Nat.{ℕ, _+_, _-_, _*_, _%_}
 use mathlib.Core.List.{List, [], _∷_}
-use mathlib.Core.Bool.{Bool, true, false, not, _||_, cond}
+use mathlib.Core.Bool.{Bool, true, false, not, _&&_, _||_, cond}
 use lib.ListN.{length, getD, take}
 use lib.Dec.{eqb, leb}
 use Rattle.limits.specs.Limits.{maxNameBytes, namespaceBytes}
@@ -15,19 +15,30 @@ units [] = []
 units (a ∷ []) = []
 units (a ∷ b ∷ rest) = (a + 256 * b) ∷ units rest
 
+-- every unit passes the test
+unfoldable pub each : (ℕ → Bool) → List ℕ → Bool
+each test [] = true
+each test (u ∷ rest) = test u and each test rest
+
 -- no unit is zero
-unfoldable pub noZero : List ℕ → Bool
-noZero [] = true
-noZero (u ∷ rest) = not (eqb u 0) and noZero rest
+abbrev pub noZero : List ℕ → Bool
+noZero = each (λ u. not (eqb u 0))
+
+-- so many bytes are 1 to 64 whole units
+abbrev pub nameLength : ℕ → Bool
+nameLength n = eqb (n % 2) 0 and leb 2 n and leb n maxNameBytes
 
 -- a name (RULES.md, 2.1): 1 to 64 whole units, none zero, without the closing zero unit
 unfoldable pub isName : Bytes → Bool
-isName s = eqb (length s % 2) 0 and leb 2 (length s) and leb (length s) maxNameBytes and noZero (units s)
+isName s = nameLength (length s) and noZero (units s)
 
--- a name and then one zero unit: how entries, triggers and stored variables carry it
+-- the last unit is zero
+abbrev pub closed : Bytes → Bool
+closed s = leb 2 (length s) and eqb (getD s (length s - 2) 0) 0 and eqb (getD s (length s - 1) 0) 0
+
+-- a name and then one zero unit: how entries and stored variables carry it; a trigger's is `isPlainTerminated`
 unfoldable pub isTerminated : Bytes → Bool
-isTerminated s =
-    leb 2 (length s) and eqb (getD s (length s - 2) 0) 0 and eqb (getD s (length s - 1) 0) 0 and isName (take (length s - 2) s)
+isTerminated s = closed s and isName (take (length s - 2) s)
 
 -- a variable (RULES.md, 2.2), as a request or a trigger names it: a namespace, and a name without its closing zero unit
 pub record Variable : Type 0 where
@@ -73,3 +84,17 @@ oneIf false = 0
 unfoldable pub wildcards : List ℕ → ℕ
 wildcards [] = 0
 wildcards (u ∷ rest) = oneIf (eqb u numberSign) + wildcards rest
+
+-- a name that has no '#', and then one zero unit: how an entry carries its trigger's (RULES.md, 3.2)
+unfoldable pub isPlainTerminated : Bytes → Bool
+isPlainTerminated s = isTerminated s and eqb (wildcards (units (take (length s - 2) s))) 0
+
+-- ---- what the code's checker is told and asks; NameLaws.antt joins it to the above
+
+-- '#' may be in the name, or there is none
+abbrev pub signsIn : Bool → Bytes → Bool
+signsIn signs s = signs || eqb (wildcards (units s)) 0
+
+-- a unit of a trigger's name: neither zero nor '#'
+abbrev pub plainUnit : ℕ → Bool
+plainUnit u = not (eqb u 0) && not (eqb u numberSign)

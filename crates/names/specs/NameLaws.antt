@@ -5,19 +5,21 @@ use mathlib.Core.List.{List, [], _∷_, _++_}
 use mathlib.Core.Bool.{Bool, true, false, not, _||_, _&&_, cond, false≢true}
 use mathlib.Core.Logic.{_↔_, _⊎_, inl, inr}
 use native.Mathlib.Omega.{arith}
+use native.Mathlib.Nat.{zero-add}
 use lib.ListN.{length, getD, take, drop, drop-of-length-le, length-append, length-drop, length-take, take-append-drop}
 use lib.Seq.{getD-append-add, getD-append-seam, take-append-seam}
 use lib.Dec.{eqb, leb}
+use lib.Bits.{bitAnd, and-zero-l}
 use borrow.Author.Tests.{eq-eqb, ne-eqb, le-leb, leb-true, eqb-true, eqb-false}
 use Rattle.limits.specs.Limits.{maxNameBytes, namespaceBytes}
 use Rattle.lists.specs.Lists.{All, nil, more, Among}
 use Rattle.lists.specs.ListsLaws.{all-among, among-left, among-right}
 use Rattle.slices.specs.Test.{_and_}
-use Rattle.slices.specs.TestLaws.{or-cases, and-left, and-right, and-intro, and-no, and-off, and-assoc, and-eager}
+use Rattle.slices.specs.TestLaws.{or-cases, and-left, and-right, and-intro, and-no, and-off, and-yes, and-assoc, and-eager}
 use Rattle.slices.specs.Bytes.{Bytes, le16, pairwise}
 use Rattle.slices.specs.BytesLaws.{pairwise-later, same-eq, same-of}
 use Rattle.slices.specs.PartLaws.{drop-step}
-use Rattle.names.specs.Name.{units, noZero, isName, isTerminated, Variable, named, hexDigits, isHexDigit, unitMatches, wildcards, numberSign, oneIf}
+use Rattle.names.specs.Name.{units, each, noZero, isName, isTerminated, Variable, named, hexDigits, isHexDigit, unitMatches, wildcards, numberSign, oneIf, isPlainTerminated, nameLength, closed, signsIn, plainUnit}
 
 pub units-length : (s : Bytes) → length (units s) ≡ length s / 2
 unfolding units
@@ -56,24 +58,24 @@ module _ (s : Bytes) (i : ℕ) (h : i + 2 ≤ length s) where
       let e : i + 1 + 1 ≡ i + 2 = omega arith in
       rw (drop-step s i (omega arith), drop-step s (i + 1) (omega arith), e)
 
-  noZero-step : noZero (units (drop i s)) ≡ (not (eqb (le16 s i) 0) and noZero (units (drop (i + 2) s)))
-  unfolding noZero
-  noZero-step = rw units-step
+  module _ (test : ℕ → Bool) where
+    each-step : each test (units (drop i s)) ≡ (test (le16 s i) and each test (units (drop (i + 2) s)))
+    unfolding each
+    each-step = rw units-step
 
-  pub noZero-hit : le16 s i ≡ 0 → noZero (units (drop i s)) ≡ false
-  unfolding _and_
-  noZero-hit e = noZero-step ∙ rw (eq-eqb (le16 s i) 0 e)
+    pub each-hit : test (le16 s i) ≡ false → each test (units (drop i s)) ≡ false
+    each-hit e = each-step ∙ rw e (and-off (each test (units (drop (i + 2) s))))
 
-  pub noZero-miss : (le16 s i ≡ 0 → ⊥) → noZero (units (drop i s)) ≡ noZero (units (drop (i + 2) s))
-  unfolding _and_
-  noZero-miss e = noZero-step ∙ rw (ne-eqb (le16 s i) 0 e)
+    pub each-miss : test (le16 s i) ≡ true → each test (units (drop i s)) ≡ each test (units (drop (i + 2) s))
+    unfolding _and_
+    each-miss e = each-step ∙ rw e
 
--- the same where the loop goes on after a zero
-pub noZero-more : {x : Bool} {u : ℕ} (ok : Bool) (s : Bytes) (i j : ℕ) → i + j + 2 ≤ length s → x ≡ (ok and noZero (units (drop (i + j) s))) → u ≡ le16 s (i + j)
-    → x ≡ ((ok && not (eqb u 0)) and noZero (units (drop (i + (j + 2)) s)))
-noZero-more ok s i j h e v =
+-- the same where the loop goes on after a unit that does not pass
+pub each-more : (test : ℕ → Bool) {a b : Bool} (ok : Bool) (s : Bytes) (i j : ℕ) → i + j + 2 ≤ length s → a ≡ (ok and each test (units (drop (i + j) s)))
+    → b ≡ test (le16 s (i + j)) → a ≡ ((ok && b) and each test (units (drop (i + (j + 2)) s)))
+each-more test ok s i j h e v =
     let n : i + (j + 2) ≡ i + j + 2 = omega arith in
-    e ∙ rw (v, n, and-eager, noZero-step s (i + j) h) (sym (and-assoc ok (not (eqb (le16 s (i + j)) 0)) (noZero (units (drop (i + j + 2) s)))))
+    e ∙ rw (v, n, and-eager, each-step s (i + j) h test) (sym (and-assoc ok (test (le16 s (i + j))) (each test (units (drop (i + j + 2) s)))))
 
 -- no whole unit is left
 units-end : (s : Bytes) (i : ℕ) → length s < i + 2 → units (drop i s) ≡ []
@@ -85,9 +87,9 @@ units-end s i h = go (drop i s) (omega (arith, length-drop i s))
     go (a ∷ []) k = refl
     go (a ∷ b ∷ t) k = absurd (omega arith)
 
-pub noZero-end : (s : Bytes) (i : ℕ) → length s < i + 2 → noZero (units (drop i s)) ≡ true
-unfolding noZero
-noZero-end s i h = rw (units-end s i h)
+pub each-end : (test : ℕ → Bool) (s : Bytes) (i : ℕ) → length s < i + 2 → each test (units (drop i s)) ≡ true
+unfolding each
+each-end test s i h = rw (units-end s i h)
 
 module _ (s : Bytes) (i : ℕ) (h : i + 2 ≤ length s) where
   wildcards-step : wildcards (units (drop i s)) ≡ oneIf (eqb (le16 s i) numberSign) + wildcards (units (drop (i + 2) s))
@@ -114,22 +116,48 @@ wildcards-le (u ∷ us) = at-most (eqb u numberSign) (wildcards-le us)
     at-most true h = omega arith
     at-most false h = omega arith
 
+-- each unit is neither zero nor '#' exactly if none is zero and the number of '#' is 0
+pub plain-units : (us : List ℕ) → (noZero us and eqb (wildcards us) 0) ≡ each plainUnit us
+unfolding each wildcards _and_
+plain-units [] = refl
+plain-units (u ∷ us) = go (not (eqb u 0)) (eqb u numberSign) (plain-units us)
+  where
+    go : (z b : Bool) → (noZero us and eqb (wildcards us) 0) ≡ each plainUnit us
+        → ((z and noZero us) and eqb (oneIf b + wildcards us) 0) ≡ ((z && not b) and each plainUnit us)
+    go true true e = rw (ne-eqb (1 + wildcards us) 0 (λ k. omega arith)) (and-no (noZero us))
+    go true false e = rw zero-add e
+    go false b e = refl
+
+-- no '#' among the units exactly if their number is zero
+pub wildcards-none : (us : List ℕ) → wildcards us ≡ 0 ↔ (Among numberSign us → ⊥)
+unfolding wildcards
+wildcards-none [] = ((λ e h. h), λ h. refl)
+wildcards-none (u ∷ us) = go (eqb u numberSign) refl (wildcards-none us)
+  where
+    go : (b : Bool) → eqb u numberSign ≡ b → (wildcards us ≡ 0 ↔ (Among numberSign us → ⊥)) → (oneIf b + wildcards us ≡ 0) ↔ (Among numberSign (u ∷ us) → ⊥)
+    go true q f = ((λ e. absurd (omega arith)), λ h. absurd (h (inl (sym (eqb-true u numberSign q)))))
+    go false q f = ((λ e h. go₁ (eqb-false u numberSign q) (f .0 (omega arith)) h), λ h. omega (arith, f .1 (λ k. h (inr k))))
+      where
+        go₁ : (u ≡ numberSign → ⊥) → (Among numberSign us → ⊥) → Among numberSign (u ∷ us) → ⊥
+        go₁ n m (inl e) = n (sym e)
+        go₁ n m (inr k) = m k
+
 -- ---- what a test that holds tells
 
 pub isName-length : (s : Bytes) → isName s ≡ true → (2 ≤ length s) × (length s ≤ maxNameBytes)
 unfolding isName
 isName-length s e =
-    let e₁ = and-right _ _ e in
-    (leb-true 2 (length s) (and-left _ _ e₁), leb-true (length s) maxNameBytes (and-left _ _ (and-right _ _ e₁)))
+    let e₁ = and-right _ _ (and-left _ _ e) in
+    (leb-true 2 (length s) (and-left _ _ e₁), leb-true (length s) maxNameBytes (and-right _ _ e₁))
 
 pub isName-even : (s : Bytes) → isName s ≡ true → length s % 2 ≡ 0
 unfolding isName
-isName-even s e = eqb-true _ _ (and-left _ _ e)
+isName-even s e = eqb-true _ _ (and-left _ _ (and-left _ _ e))
 
 -- a terminated name is a name and two bytes more
 pub isTerminated-name : (s : Bytes) → isTerminated s ≡ true → isName (take (length s - 2) s) ≡ true
 unfolding isTerminated
-isTerminated-name s e = and-right _ _ (and-right _ _ (and-right _ _ e))
+isTerminated-name s e = and-right _ _ e
 
 pub isTerminated-length : (s : Bytes) → isTerminated s ≡ true → (4 ≤ length s) × (length s ≤ maxNameBytes + 2)
 isTerminated-length s e =
@@ -137,17 +165,19 @@ isTerminated-length s e =
     omega (arith, length-take (length s - 2) s)
 
 -- and those two bytes are zero
-pub isTerminated-zeros : (s : Bytes) → isTerminated s ≡ true → s ≡ take (length s - 2) s ++ (0 ∷ 0 ∷ [])
+pub isTerminated-end : (s : Bytes) → isTerminated s ≡ true → drop (length s - 2) s ≡ 0 ∷ 0 ∷ []
 unfolding isTerminated
-isTerminated-zeros s e =
-    let h = leb-true 2 (length s) (and-left _ _ e) in
-    let e₁ = and-right _ _ e in
+isTerminated-end s e =
+    let c = and-left _ _ e in
+    let h = leb-true 2 (length s) (and-left _ _ c) in
+    let c₁ = and-right _ _ c in
     let k : length s - 2 + 1 ≡ length s - 1 = omega arith in
-    let low : getD s (length s - 2) 0 ≡ 0 = eqb-true _ _ (and-left _ _ e₁) in
-    let high : getD s (length s - 1) 0 ≡ 0 = eqb-true _ _ (and-left _ _ (and-right _ _ e₁)) in
-    let d : drop (length s - 2) s ≡ 0 ∷ 0 ∷ [] =
-    drop-step s (length s - 2) (omega arith) ∙ rw (low, k, drop-step s (length s - 1) (omega arith), high, drop-of-length-le s {i = length s - 1 + 1} (omega arith)) in
-    sym (take-append-drop (length s - 2) s) ∙ ap (λ (l : Bytes). take (length s - 2) s ++ l) d
+    let low : getD s (length s - 2) 0 ≡ 0 = eqb-true _ _ (and-left _ _ c₁) in
+    let high : getD s (length s - 1) 0 ≡ 0 = eqb-true _ _ (and-right _ _ c₁) in
+    drop-step s (length s - 2) (omega arith) ∙ rw (low, k, drop-step s (length s - 1) (omega arith), high, drop-of-length-le s {i = length s - 1 + 1} (omega arith))
+
+pub isTerminated-zeros : (s : Bytes) → isTerminated s ≡ true → s ≡ take (length s - 2) s ++ (0 ∷ 0 ∷ [])
+isTerminated-zeros s e = sym (take-append-drop (length s - 2) s) ∙ ap (λ (l : Bytes). take (length s - 2) s ++ l) (isTerminated-end s e)
 
 -- a name with a zero unit behind it is terminated
 pub name-terminated : (s : Bytes) → isName s ≡ true → isTerminated (s ++ (0 ∷ 0 ∷ [])) ≡ true
@@ -158,9 +188,26 @@ name-terminated s e =
     let b : length (s ++ (0 ∷ 0 ∷ [])) - 1 ≡ length s + 1 = omega arith in
     let low : getD (s ++ (0 ∷ 0 ∷ [])) (length s) 0 ≡ 0 = getD-append-seam s 0 (0 ∷ []) 0 in
     let high : getD (s ++ (0 ∷ 0 ∷ [])) (length s + 1) 0 ≡ 0 = getD-append-add s (0 ∷ 0 ∷ []) 1 0 in
-    and-intro _ _ (le-leb 2 (length (s ++ (0 ∷ 0 ∷ []))) (omega arith))
+    and-intro _ _
+    (and-intro _ _ (le-leb 2 (length (s ++ (0 ∷ 0 ∷ []))) (omega arith))
     (and-intro _ _ (eq-eqb _ _ (ap (λ (i : ℕ). getD (s ++ (0 ∷ 0 ∷ [])) i 0) a ∙ low))
-    (and-intro _ _ (eq-eqb _ _ (ap (λ (i : ℕ). getD (s ++ (0 ∷ 0 ∷ [])) i 0) b ∙ high)) (rw (a, take-append-seam s (0 ∷ 0 ∷ [])) e)))
+    (eq-eqb _ _ (ap (λ (i : ℕ). getD (s ++ (0 ∷ 0 ∷ [])) i 0) b ∙ high))))
+    (rw (a, take-append-seam s (0 ∷ 0 ∷ [])) e)
+
+-- the same without '#'
+pub plain-terminated : (s : Bytes) → isPlainTerminated s ≡ true → isTerminated s ≡ true
+unfolding isPlainTerminated
+plain-terminated s e = and-left _ _ e
+
+pub plain-wildcards : (s : Bytes) → isPlainTerminated s ≡ true → wildcards (units (take (length s - 2) s)) ≡ 0
+unfolding isPlainTerminated
+plain-wildcards s e = eqb-true _ 0 (and-right _ _ e)
+
+pub name-plain-terminated : (s : Bytes) → isName s ≡ true → wildcards (units s) ≡ 0 → isPlainTerminated (s ++ (0 ∷ 0 ∷ [])) ≡ true
+unfolding isPlainTerminated
+name-plain-terminated s e n =
+    let k : length (s ++ (0 ∷ 0 ∷ [])) - 2 ≡ length s = omega (arith, length-append s (0 ∷ 0 ∷ [])) in
+    and-intro _ _ (name-terminated s e) (rw (k, take-append-seam s (0 ∷ 0 ∷ [])) (eq-eqb (wildcards (units s)) 0 n))
 
 pub named-namespace : (v : Variable) → named v ≡ true → length (v .namespace) ≡ namespaceBytes
 unfolding named
@@ -169,6 +216,50 @@ named-namespace v e = eqb-true _ _ (and-left _ _ e)
 pub named-name : (v : Variable) → named v ≡ true → isName (v .name) ≡ true
 unfolding named
 named-name v e = and-right _ _ e
+
+-- ---- the tests that the code makes, in the order of the code
+
+pub name-tests : (s : Bytes) (signs : Bool) → (isName s and signsIn signs s) ≡ (nameLength (length s) and cond signs (noZero (units s)) (each plainUnit (units s)))
+unfolding isName
+name-tests s true = and-yes (nameLength (length s) and noZero (units s))
+name-tests s false = and-assoc (nameLength (length s)) (noZero (units s)) _ ∙ ap (λ b. nameLength (length s) and b) (plain-units (units s))
+
+pub terminated-tests : (s : Bytes) (signs : Bool)
+    → (isTerminated s and signsIn signs (take (length s - 2) s)) ≡ (closed s and (isName (take (length s - 2) s) and signsIn signs (take (length s - 2) s)))
+unfolding isTerminated
+terminated-tests s signs = and-assoc (closed s) (isName (take (length s - 2) s)) (signsIn signs (take (length s - 2) s))
+
+pub closed-least : (s : Bytes) → closed s ≡ true → 2 ≤ length s
+closed-least s e = leb-true 2 (length s) (and-left _ _ e)
+
+-- a unit with a bit of a mask that '#' has none of is neither zero nor '#'
+module _ (mask : ℕ) (none : bitAnd numberSign mask ≡ 0) where
+  clear-plain : (u : ℕ) → not (eqb (bitAnd u mask) 0) ≡ true → plainUnit u ≡ true
+  clear-plain u h = go (eqb u 0) refl (eqb u numberSign) refl
+    where
+      same-bits : (v : ℕ) → u ≡ v → bitAnd v mask ≡ 0 → false ≡ true
+      same-bits v e z = sym (ap (λ (w : ℕ). not (eqb (bitAnd w mask) 0)) e ∙ ap not (eq-eqb _ 0 z)) ∙ h
+
+      go : (a : Bool) → eqb u 0 ≡ a → (b : Bool) → eqb u numberSign ≡ b → (not a && not b) ≡ true
+      go true p b q = same-bits 0 (eqb-true u 0 p) (and-zero-l mask)
+      go false p true q = same-bits numberSign (eqb-true u numberSign q) none
+      go false p false q = refl
+
+  -- one turn of a loop over such units
+  pub plain-clear : {a : Bool} {u : ℕ} (s : Bytes) (i j : ℕ) → i + j + 2 ≤ length s → u ≡ le16 s (i + j) → (ok : Bool)
+      → (ok ≡ true → a ≡ each plainUnit (units (drop (i + j) s))) → (ok && not (eqb (bitAnd u mask) 0)) ≡ true → a ≡ each plainUnit (units (drop (i + (j + 2)) s))
+  plain-clear s i j h v true f t =
+      let n : i + (j + 2) ≡ i + j + 2 = omega arith in
+      f refl ∙ rw n (each-miss s (i + j) h plainUnit (clear-plain (le16 s (i + j)) (rw v at t)))
+  plain-clear s i j h v false f t = absurd (false≢true t)
+
+-- the code asks for a unit that is zero or '#'
+pub plain-unless : {u : ℕ} (v : ℕ) {t : Bool} → u ≡ v → (eqb u 0 || eqb u numberSign) ≡ t → plainUnit v ≡ not t
+plain-unless {u} v h e = rw (← h) (go (eqb u 0) (eqb u numberSign) e)
+  where
+    go : (a b : Bool) {t : Bool} → (a || b) ≡ t → (not a && not b) ≡ not t
+    go true b k = ap not k
+    go false b k = ap not k
 
 -- ---- which units are hex digits
 

@@ -1,13 +1,13 @@
 // Names of variables, entries and triggers: bytes of 16-bit little-endian units.
 ghost use mathlib.Core.Path.{_≡_};
 ghost use mathlib.Core.Bool.{true};
-ghost use Prim.Native.Nat.{_+_, _%_, _≤_, _<_};
-ghost use lib.ListN.{length, drop};
+ghost use Prim.Native.Nat.{_+_, _-_, _%_, _≤_, _<_};
+ghost use lib.ListN.{length, take, drop};
 ghost use Rattle.limits.specs.Limits.{namespaceBytes};
 ghost use Rattle.slices.specs.Test.{_and_};
 ghost use Rattle.slices.specs.Bytes.{le16, same};
 ghost use Rattle.names.specs.Tail.{unitMask, maskAt, TailOf};
-ghost use Rattle.names.specs.Name.{units, noZero, isName, isTerminated, isHexDigit, unitMatches, matches, wildcards};
+ghost use Rattle.names.specs.Name.{units, each, noZero, isName, isTerminated, isHexDigit, unitMatches, matches, wildcards, isPlainTerminated, nameLength, closed, signsIn, plainUnit};
 
 // The number of whole units.
 fn unit_count(s: &[u8]) -> usize
@@ -68,26 +68,87 @@ fn no_zero(s: &[u8]) -> bool
     few_not_zero(&s[i..])
 }
 
-// The one checker: whether the bytes are a name without its closing zero unit, 1 to 64 whole units, none zero.
-pub fn is_name(s: &[u8]) -> bool
-    ensures { λ r. ⌜ r ≡ isName (now (s .entry)) ⌝ }
+// Whether each of the eight units from byte i on has a bit that '#' has not: then none is zero or '#'. As above, one wide compare.
+fn eight_clear(s: &[u8], i: usize) -> bool
+    requires { ⌜ i + 16 ≤ length (now s) ⌝ }
+    ensures { λ r. ⌜ (r ≡ true → each plainUnit (units (drop i (now (s .entry)))) ≡ each plainUnit (units (drop (i + 16) (now (s .entry))))) ⌝ }
 {
-    let n = s.len();
+    let mut ok = true;
+    let mut j = 0;
+    while j < 16 {
+        ok = ok & (slices::get16(s, i + j) & 0xFFDC != 0);
+        j += 2;
+    }
+    ok
+}
+
+// How many bytes from the start on, by sixteens, have only such units. What is behind them decides.
+fn clear_length(s: &[u8]) -> usize
+    ensures within { λ r. ⌜ r ≤ length (now (s .entry)) ⌝ }
+    ensures behind { λ r. ⌜ each plainUnit (units (now (s .entry))) ≡ each plainUnit (units (drop r (now (s .entry)))) ⌝ }
+{
+    let mut i = 0;
+    while 16 <= s.len() - i {
+        if !eight_clear(s, i) {
+            return i;
+        }
+        i += 16;
+    }
+    i
+}
+
+// Whether no unit is zero or '#', unit by unit.
+fn few_plain(s: &[u8]) -> bool
+    ensures { λ r. ⌜ r ≡ each plainUnit (units (now (s .entry))) ⌝ }
+{
+    let mut i = 0;
+    while 2 <= s.len() - i {
+        let own = slices::get16(s, i);
+        if (own == 0) | (own == 0x23) {
+            return false;
+        }
+        i += 2;
+    }
+    true
+}
+
+// Whether no unit is zero or '#', in one pass.
+fn plain_units(s: &[u8]) -> bool
+    ensures { λ r. ⌜ r ≡ each plainUnit (units (now (s .entry))) ⌝ }
+{
+    few_plain(&s[clear_length(s)..])
+}
+
+// Whether so many bytes are 1 to 64 whole units.
+fn name_length(n: usize) -> bool
+    ensures { λ r. ⌜ r ≡ nameLength n ⌝ }
+{
     if n % 2 != 0 {
         return false;
     }
     if n < 2 {
         return false;
     }
-    if limits::MAX_NAME_BYTES < n {
-        return false;
-    }
-    no_zero(s)
+    n <= limits::MAX_NAME_BYTES
 }
 
-// Whether the bytes are a name and then one zero unit.
-pub fn is_terminated(s: &[u8]) -> bool
-    ensures { λ r. ⌜ r ≡ isTerminated (now (s .entry)) ⌝ }
+// The one checker: whether the bytes are a name without its closing zero unit, 1 to 64 whole units, none zero, and none '#' either
+// unless `signs` allows it. One pass over the units.
+fn check_name(s: &[u8], signs: bool) -> bool
+    ensures { λ r. ⌜ r ≡ (isName (now (s .entry)) and signsIn signs (now (s .entry))) ⌝ }
+{
+    if !name_length(s.len()) {
+        return false;
+    }
+    if signs {
+        return no_zero(s);
+    }
+    plain_units(s)
+}
+
+// Whether the last unit is zero.
+fn is_closed(s: &[u8]) -> bool
+    ensures { λ r. ⌜ r ≡ closed (now (s .entry)) ⌝ }
 {
     let n = s.len();
     if n < 2 {
@@ -96,10 +157,38 @@ pub fn is_terminated(s: &[u8]) -> bool
     if s[n - 2] != 0 {
         return false;
     }
-    if s[n - 1] != 0 {
+    s[n - 1] == 0
+}
+
+// The same for a name and then one zero unit.
+fn check_terminated(s: &[u8], signs: bool) -> bool
+    ensures { λ r. ⌜ r ≡ (isTerminated (now (s .entry)) and signsIn signs (take (length (now (s .entry)) - 2) (now (s .entry)))) ⌝ }
+{
+    if !is_closed(s) {
         return false;
     }
-    is_name(&s[..n - 2])
+    check_name(&s[..s.len() - 2], signs)
+}
+
+// Whether the bytes are a name.
+pub fn is_name(s: &[u8]) -> bool
+    ensures { λ r. ⌜ r ≡ isName (now (s .entry)) ⌝ }
+{
+    check_name(s, true)
+}
+
+// Whether the bytes are a name and then one zero unit.
+pub fn is_terminated(s: &[u8]) -> bool
+    ensures { λ r. ⌜ r ≡ isTerminated (now (s .entry)) ⌝ }
+{
+    check_terminated(s, true)
+}
+
+// Whether the bytes are a name that has no '#', and then one zero unit: how an entry carries its trigger's.
+pub fn is_plain_terminated(s: &[u8]) -> bool
+    ensures { λ r. ⌜ r ≡ isPlainTerminated (now (s .entry)) ⌝ }
+{
+    check_terminated(s, false)
 }
 
 // Whether the unit is a hex digit: 0 to 9, A to F or a to f. Without a branch, so that eight units are tested at once.

@@ -13,9 +13,13 @@ use Rattle.entry.specs.Entry.{sizeField, wellFormed, sameTarget}
 use Rattle.policy.specs.declared.PolicyCheck.{PolicyCheck}
 use Rattle.policy.specs.declared.PolicyCheck.the-variants.{Valid, Invalid}
 
--- the length of the well-formed entry that the bytes begin with, or 0
-unfoldable pub entryLength : Bytes → ℕ
-entryLength p = cond (leb (sizeField p) (length p) and wellFormed (take (sizeField p) p)) (sizeField p) 0
+-- the length of the entry that the bytes begin with, or 0; `ok` tells what a well-formed entry is, and differs between editions
+unfoldable pub lengthBy : (Bytes → Bool) → Bytes → ℕ
+lengthBy ok p = cond (leb (sizeField p) (length p) and ok (take (sizeField p) p)) (sizeField p) 0
+
+-- by today's rule
+abbrev pub entryLength : Bytes → ℕ
+entryLength = lengthBy wellFormed
 
 -- the entries of a policy record, each as its bytes, in the order registered
 abbrev pub entriesOf : Bytes → List Bytes
@@ -33,17 +37,17 @@ packPolicy es = packed policyBytes 0 es
 abbrev pub emptyPolicy : Bytes
 emptyPolicy = packPolicy []
 
--- valid under limits: a record of `bytes` bytes, at most `most` entries
-unfoldable pub validWithin : ℕ → ℕ → Bytes → Bool
-validWithin most bytes p =
+-- valid by the rule `ok` and under limits: a record of `bytes` bytes, at most `most` entries
+unfoldable pub validWithin : (Bytes → Bool) → ℕ → ℕ → Bytes → Bool
+validWithin ok most bytes p =
     eqb (length p) bytes
-    and leb (length (entriesOf p)) most
-    and allAre 0 (drop (sizesSum p) p)
-    and distinct sameTarget (entriesOf p)
+    and leb (length (chunks (lengthBy ok) p)) most
+    and allAre 0 (drop (used (lengthBy ok) p) p)
+    and distinct sameTarget (chunks (lengthBy ok) p)
 
 -- valid (RULES.md, 7): not a ground for 10
 abbrev pub policyValid : Bytes → Bool
-policyValid p = validWithin maxEntries policyBytes p
+policyValid p = validWithin wellFormed maxEntries policyBytes p
 
 unfoldable pub policyCheck : Bytes → PolicyCheck
 policyCheck p = cond (policyValid p) (Valid (length (entriesOf p)) (sizesSum p)) Invalid

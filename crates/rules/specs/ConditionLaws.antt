@@ -21,7 +21,7 @@ use Rattle.slices.specs.Test.{_and_}
 use Rattle.slices.specs.TestLaws.{and-left, and-right, and-intro}
 use Rattle.slices.specs.Bytes.{Bytes, pairwise}
 use Rattle.slices.specs.BytesLaws.{same-eq, same-of}
-use Rattle.names.specs.Name.{Variable, units, noZero, isName, named, unitMatches, numberSign, wildcards, oneIf}
+use Rattle.names.specs.Name.{Variable, units, each, noZero, nameLength, isName, named, unitMatches, numberSign, wildcards, oneIf}
 use Rattle.names.specs.NameLaws.{units-length, units-at, hex-digits}
 use Rattle.entry.specs.Entry.{namespaceOf, nameIsEmpty, nameOf, targets, rank}
 use Rattle.policy.specs.Choice.{chosen}
@@ -247,13 +247,13 @@ tells-needs-bs a = tells-and _ _ (tells-or _ _ (tells-rt a) (tells-append a)) (t
 -- ---- names
 
 noZero-at : (us : List ℕ) → noZero us ≡ true → (k : ℕ) → k < length us → Not (getD us k 0 ≡ 0)
-unfolding noZero
+unfolding each
 noZero-at [] e k h z = omega arith
 noZero-at (u ∷ us) e zero h z = tells-not _ (tells-eq u 0) .0 (and-left _ _ e) z
 noZero-at (u ∷ us) e (suc k) h z = noZero-at us (and-right (not (eqb u 0)) (noZero us) e) k (omega arith) z
 
 at-noZero : (us : List ℕ) → ((k : ℕ) → k < length us → Not (getD us k 0 ≡ 0)) → noZero us ≡ true
-unfolding noZero
+unfolding each
 at-noZero [] f = refl
 at-noZero (u ∷ us) f =
     and-intro _ _ (tells-not _ (tells-eq u 0) .1 (f 0 (omega arith))) (at-noZero us (λ k h. f (suc k) (omega arith)))
@@ -262,32 +262,31 @@ pub tells-name : (s : Bytes) → Tells (isName s) (Name s)
 unfolding isName
 tells-name s = (to, back)
   where
-    to : (eqb (length s % 2) 0 and leb 2 (length s) and leb (length s) maxNameBytes and noZero (units s)) ≡ true → Name s
+    to : (nameLength (length s) and noZero (units s)) ≡ true → Name s
     to e =
-        let even = eqb-true (length s % 2) 0 (and-left _ _ e) in
-        let e₁ = and-right (eqb (length s % 2) 0) _ e in
-        let two = leb-true 2 (length s) (and-left _ _ e₁) in
-        let e₂ = and-right (leb 2 (length s)) _ e₁ in
-        let most = leb-true (length s) maxNameBytes (and-left _ _ e₂) in
+        let l = and-left (nameLength (length s)) (noZero (units s)) e in
+        let even = eqb-true (length s % 2) 0 (and-left _ _ l) in
+        let l₁ = and-right (eqb (length s % 2) 0) _ l in
+        let two = leb-true 2 (length s) (and-left _ _ l₁) in
+        let most = leb-true (length s) maxNameBytes (and-right (leb 2 (length s)) _ l₁) in
         record {
           count = length s / 2;
           whole = omega arith;
           some = omega arith;
           most = omega arith;
-          nonzero = λ k h z. noZero-at (units s) (and-right (leb (length s) maxNameBytes) _ e₂) k (omega (arith, units-length s)) (units-at s k h ∙ z);
+          nonzero = λ k h z. noZero-at (units s) (and-right (nameLength (length s)) _ e) k (omega (arith, units-length s)) (units-at s k h ∙ z);
         }
 
-    back : Name s → (eqb (length s % 2) 0 and leb 2 (length s) and leb (length s) maxNameBytes and noZero (units s)) ≡ true
+    back : Name s → (nameLength (length s) and noZero (units s)) ≡ true
     back n =
         let w = n .whole in
         let l = n .some in
         let m = n .most in
-        and-intro _ _ (eq-eqb (length s % 2) 0 (omega arith))
-        (and-intro _ _ (le-leb 2 (length s) (omega arith))
-        (and-intro _ _ (le-leb (length s) maxNameBytes (omega arith))
+        and-intro _ _
+        (and-intro _ _ (eq-eqb (length s % 2) 0 (omega arith)) (and-intro _ _ (le-leb 2 (length s) (omega arith)) (le-leb (length s) maxNameBytes (omega arith))))
         (at-noZero (units s) (λ k h z.
         let u = units-length s in
-        n .nonzero k (omega arith) (sym (units-at s k (omega arith)) ∙ z)))))
+        n .nonzero k (omega arith) (sym (units-at s k (omega arith)) ∙ z)))
 
 pub tells-named : (v : Variable) → Tells (named v) (Named v)
 unfolding named

@@ -1,6 +1,8 @@
 -- What holds of every call from every state. Assumes nothing.
 use Prim.Native.Nat.{ℕ}
 use mathlib.Core.Path.{_≡_, refl, sym, ap, subst, subst⁻¹, _∙_}
+use mathlib.Core.Option.{some, none}
+use native.Mathlib.Omega.{arith}
 use mathlib.Core.Bool.{Bool, true, false, not, cond}
 use lib.ListN.{length}
 use lib.Dec.{eqb, leb}
@@ -39,6 +41,9 @@ other-length p h = go (policyValid p) refl
     go true e = absurd (h (policyValid-length p e))
     go false e = refl
 
+not-none : {A : Type 0} {a : A} → some a ≡ none → ⊥
+not-none h = let z : _≡_ {A = ℕ} 0 1 = cc in omega arith
+
 -- ---- the rows
 
 abbrev pub OnlyIf : Bool → Type 0 → Type 0
@@ -57,24 +62,25 @@ abbrev pub Kept : Parts → State → State → Type 0
 Kept w s t = SameParts (parts (not (w .nv)) (not (w .vol)) (not (w .policy)) (not (w .switches))) t s
 
 -- what holds of each call by its row: what it gives has the status 0; it keeps what it does not write; its answer depends on what it is lent;
--- if it is lent a policy record, one of another length is 10
+-- if it is lent a policy record, one of another length is 10, and one that is not valid too, but of a start, which hands switches back
 record ByRow (s : State) (c : Call) : Type 0 where
   done : given s c .status ≡ Success
   keeps : Kept (uses c .writes) s (effect s c)
   lent : (t : State) → SameParts (uses c .lent) s t → step s c .0 ≡ step t c .0
   length10 : OtherLength (s .policy) → OnlyIf (uses c .lent .policy) (status s c ≡ VolumeCorrupted)
+  invalid10 : uses c .handsBack ≡ none → policyValid (s .policy) ≡ false → OnlyIf (uses c .lent .policy) (status s c ≡ VolumeCorrupted)
 
 by-row : (s : State) (c : Call) → ByRow s c
 unfolding step
-by-row s (powerOn allowed) = record { done = refl; keeps = record { nv = refl; vol = tt; policy = tt; switches = tt }; lent = λ t e. rw (e .nv, e .vol, e .policy); length10 = power-on-length s }
-by-row s (restart allowed) = record { done = refl; keeps = record { nv = refl; vol = refl; policy = tt; switches = tt }; lent = λ t e. rw (e .nv, e .vol, e .policy); length10 = restart-length s }
-by-row s (register x) = record { done = refl; keeps = record { nv = refl; vol = refl; policy = tt; switches = refl }; lent = λ t e. rw (e .policy, e .switches); length10 = λ h. rw (other-length (s .policy) h) }
-by-row s (dump buffer) = record { done = refl; keeps = record { nv = refl; vol = refl; policy = refl; switches = refl }; lent = λ t e. rw (e .policy); length10 = λ h. rw (other-length (s .policy) h) }
-by-row s lock = record { done = refl; keeps = record { nv = refl; vol = refl; policy = refl; switches = tt }; lent = λ t e. rw (e .switches); length10 = λ h. tt }
-by-row s disable = record { done = refl; keeps = record { nv = refl; vol = refl; policy = refl; switches = tt }; lent = λ t e. rw (e .switches); length10 = λ h. tt }
-by-row s query = record { done = refl; keeps = record { nv = refl; vol = refl; policy = refl; switches = refl }; lent = λ t e. rw (e .switches); length10 = λ h. tt }
-by-row s (read v) = record { done = refl; keeps = record { nv = refl; vol = refl; policy = refl; switches = refl }; lent = λ t e. rw (e .nv, e .vol); length10 = λ h. tt }
-by-row s (set r) = record { done = refl; keeps = record { nv = tt; vol = tt; policy = refl; switches = refl }; lent = λ t e. rw (e .nv, e .vol, e .policy, e .switches); length10 = λ h. rw (other-length (s .policy) h, and-no (sound (s .nv) (s .vol))) }
+by-row s (powerOn allowed) = record { done = refl; keeps = record { nv = refl; vol = tt; policy = tt; switches = tt }; lent = λ t e. rw (e .nv, e .vol, e .policy); length10 = power-on-length s; invalid10 = λ n. absurd (not-none n) }
+by-row s (restart allowed) = record { done = refl; keeps = record { nv = refl; vol = refl; policy = tt; switches = tt }; lent = λ t e. rw (e .nv, e .vol, e .policy); length10 = restart-length s; invalid10 = λ n. absurd (not-none n) }
+by-row s (register x) = record { done = refl; keeps = record { nv = refl; vol = refl; policy = tt; switches = refl }; lent = λ t e. rw (e .policy, e .switches); length10 = λ h. rw (other-length (s .policy) h); invalid10 = λ n v. rw v }
+by-row s (dump buffer) = record { done = refl; keeps = record { nv = refl; vol = refl; policy = refl; switches = refl }; lent = λ t e. rw (e .policy); length10 = λ h. rw (other-length (s .policy) h); invalid10 = λ n v. rw v }
+by-row s lock = record { done = refl; keeps = record { nv = refl; vol = refl; policy = refl; switches = tt }; lent = λ t e. rw (e .switches); length10 = λ h. tt; invalid10 = λ n v. tt }
+by-row s disable = record { done = refl; keeps = record { nv = refl; vol = refl; policy = refl; switches = tt }; lent = λ t e. rw (e .switches); length10 = λ h. tt; invalid10 = λ n v. tt }
+by-row s query = record { done = refl; keeps = record { nv = refl; vol = refl; policy = refl; switches = refl }; lent = λ t e. rw (e .switches); length10 = λ h. tt; invalid10 = λ n v. tt }
+by-row s (read v) = record { done = refl; keeps = record { nv = refl; vol = refl; policy = refl; switches = refl }; lent = λ t e. rw (e .nv, e .vol); length10 = λ h. tt; invalid10 = λ n v. tt }
+by-row s (set r) = record { done = refl; keeps = record { nv = tt; vol = tt; policy = refl; switches = refl }; lent = λ t e. rw (e .nv, e .vol, e .policy, e .switches); length10 = λ h. rw (other-length (s .policy) h, and-no (sound (s .nv) (s .vol))); invalid10 = λ n v. rw (v, and-no (sound (s .nv) (s .vol))) }
 
 -- ---- the status, and a refusal
 
@@ -175,3 +181,8 @@ store-writer (set r) = sets r
 pub other-length-corrupted : (s : State) (c : Call) → uses c .lent .policy ≡ true → (length (s .policy) ≡ policyBytes → ⊥)
     → step s c .0 .status ≡ VolumeCorrupted
 other-length-corrupted s c l h = step-status s c ∙ subst (λ b. OnlyIf b (status s c ≡ VolumeCorrupted)) l (by-row s c .length10 h)
+
+-- ONE THAT IS NOT VALID IS 10 TOO, in every call that is lent one and is no start
+pub invalid-corrupted : (s : State) (c : Call) → uses c .lent .policy ≡ true → uses c .handsBack ≡ none → policyValid (s .policy) ≡ false
+    → step s c .0 .status ≡ VolumeCorrupted
+invalid-corrupted s c l n v = step-status s c ∙ subst (λ b. OnlyIf b (status s c ≡ VolumeCorrupted)) l (by-row s c .invalid10 n v)

@@ -96,7 +96,7 @@ packs-records : (b : Bool) (s : Bytes) (rs : List Bytes) → store.Packs b s rs 
 unfolding packed padded
 packs-records b s rs k = record { formed = k .records; small = k .small; room = k .fits; is = sym (k .is) }
 
-pub entries-packs : {most bytes : ℕ} (p : Bytes) (es : List Bytes) → EntriesWithin most bytes p es → policy.PacksUnder most bytes es p
+pub entries-packs : {ok : Bytes → Bool} {most bytes : ℕ} (p : Bytes) (es : List Bytes) → EntriesWithin ok most bytes p es → policy.PacksUnder ok most bytes es p
 unfolding packed padded
 entries-packs p es k =
     record {
@@ -104,7 +104,7 @@ entries-packs p es k =
       packs = sym (k .is);
     }
 
-pub packs-entries : {most bytes : ℕ} (p : Bytes) (es : List Bytes) → policy.PacksUnder most bytes es p → EntriesWithin most bytes p es
+pub packs-entries : {ok : Bytes → Bool} {most bytes : ℕ} (p : Bytes) (es : List Bytes) → policy.PacksUnder ok most bytes es p → EntriesWithin ok most bytes p es
 unfolding packed padded
 packs-entries p es k =
     record {

@@ -103,10 +103,10 @@ pub record IsChosen (es : List Bytes) (v : Variable) (e : Bytes) : Type 0 where
 
 -- ---- what a state holds
 
--- es are the entries of a policy record of `bytes` bytes: well formed (EncodingLaws.antt says it again: the encoding of fields in range), at
--- most `most` of them, no two of one namespace and name, end to end, then only zeros
-pub record EntriesWithin (most bytes : ℕ) (policy : Bytes) (es : List Bytes) : Type 0 where
-  pub formed : All (λ e. wellFormed e ≡ true) es
+-- es are the entries of a policy record of `bytes` bytes: well formed by the rule `ok` of an edition (today's rule is said again in EncodingLaws.antt: the
+-- encoding of fields in range), at most `most` of them, no two of one namespace and name, end to end, then only zeros
+pub record EntriesWithin (ok : Bytes → Bool) (most bytes : ℕ) (policy : Bytes) (es : List Bytes) : Type 0 where
+  pub formed : All (λ e. ok e ≡ true) es
   pub few : length es ≤ most
   pub apart : Pairs (λ e f. Not ((namespaceOf e ≡ namespaceOf f) × (nameOf e ≡ nameOf f))) es
   pub room : length (flat es) ≤ bytes
@@ -114,7 +114,7 @@ pub record EntriesWithin (most bytes : ℕ) (policy : Bytes) (es : List Bytes) :
 
 -- the entries of a policy record within the limits (RULES.md, 7 and 11)
 abbrev pub PolicyEntries : Bytes → List Bytes → Type 0
-PolicyEntries policy es = EntriesWithin maxEntries policyBytes policy es
+PolicyEntries policy es = EntriesWithin wellFormed maxEntries policyBytes policy es
 
 abbrev pub HasEntries : State → List Bytes → Type 0
 HasEntries s es = PolicyEntries (s .policy) es

@@ -38,15 +38,15 @@ sized-entry size offset min max type tail =
 abbrev entry : ℕ → ℕ → ℕ → ℕ → Bytes → Bytes
 entry size offset min type tail = sized-entry size offset min 0xFFFFFFFF type tail
 
--- a well-formed one of types 0 to 2 with a name, one with a MaxSize, and one of type 3 on the trigger "T" with Value 0
+-- one of types 0 to 2 with a name, one with a MaxSize, and one of type 3 with a trigger and Value 0
 abbrev named-entry : ℕ → ℕ → List ℕ → Bytes
 named-entry min type us = entry (46 + 2 * length us) 44 min type (closed us)
 
 abbrev capped : ℕ → ℕ → List ℕ → Bytes
 capped max type us = sized-entry (46 + 2 * length us) 44 0 max type (closed us)
 
-abbrev triggered : List ℕ → Bytes
-triggered us = entry (68 + 2 * length us) 66 0 3 (G ++ (0 ∷ 0 ∷ []) ++ closed (0x54 ∷ []) ++ closed us)
+abbrev triggered : List ℕ → List ℕ → Bytes
+triggered ts us = entry (66 + 2 * length ts + 2 * length us) (64 + 2 * length ts) 0 3 (G ++ (0 ∷ 0 ∷ []) ++ closed ts ++ closed us)
 
 abbrev whole-namespace : ℕ → Bytes
 whole-namespace type = entry 44 44 0 type []
@@ -99,6 +99,8 @@ readings =
     ∷ ((register (named-entry 0 0 []) ∷ []), 0 ∷ 2 ∷ [])
     -- a trigger's name of no units, and of one
     ∷ ((register (entry 64 64 0 3 (G ++ (0 ∷ 0 ∷ []) ++ closed [])) ∷ register (entry 66 66 0 3 (G ++ (0 ∷ 0 ∷ []) ++ closed T)) ∷ []), 0 ∷ 2 ∷ 0 ∷ [])
+    -- '#' in a trigger's name, behind and before another unit; a hex digit in its place
+    ∷ ((register (triggered (0x41 ∷ 0x23 ∷ []) A) ∷ register (triggered (0x23 ∷ 0x41 ∷ []) A) ∷ register (triggered (0x41 ∷ 0x30 ∷ []) A) ∷ []), 0 ∷ 2 ∷ 2 ∷ 0 ∷ [])
     -- '#' over hex digits, over '#', and over another letter
     ∷ ((register (named-entry 0 1 (boot (0x23 ∷ 0x23 ∷ 0x23 ∷ 0x23 ∷ []))) ∷ write (boot (0x30 ∷ 0x30 ∷ 0x66 ∷ 0x46 ∷ [])) ∷ write (boot (0x23 ∷ 0x23 ∷ 0x23 ∷ 0x23 ∷ [])) ∷ write (boot (0x30 ∷ 0x30 ∷ 0x30 ∷ 0x47 ∷ [])) ∷ []), 0 ∷ 0 ∷ 8 ∷ 0 ∷ 0 ∷ [])
     -- a name with '#' is registered once, and its own variable is guarded by the whole namespace alone
@@ -110,7 +112,7 @@ readings =
     ∷ ((register (whole-namespace 1) ∷ register (named-entry 0 0 (boot (0x23 ∷ 0x23 ∷ 0x23 ∷ 0x23 ∷ []))) ∷ write (boot (0x30 ∷ 0x30 ∷ 0x30 ∷ 0x31 ∷ [])) ∷ write A ∷ []), 0 ∷ 0 ∷ 0 ∷ 0 ∷ 8 ∷ [])
     ∷ ((register (whole-namespace 0) ∷ register (named-entry 0 1 (boot (0x23 ∷ 0x23 ∷ 0x23 ∷ 0x23 ∷ []))) ∷ write (boot (0x30 ∷ 0x30 ∷ 0x30 ∷ 0x31 ∷ [])) ∷ write A ∷ []), 0 ∷ 0 ∷ 0 ∷ 8 ∷ 0 ∷ [])
     -- a trigger with Value 0: absent, with the byte 0, with two bytes 0
-    ∷ ((register (triggered A) ∷ write A ∷ setting T 3 (0 ∷ []) ∷ write A ∷ setting T 3 (0 ∷ 0 ∷ []) ∷ write A ∷ []), 0 ∷ 0 ∷ 0 ∷ 0 ∷ 8 ∷ 0 ∷ 0 ∷ [])
+    ∷ ((register (triggered T A) ∷ write A ∷ setting T 3 (0 ∷ []) ∷ write A ∷ setting T 3 (0 ∷ 0 ∷ []) ∷ write A ∷ []), 0 ∷ 0 ∷ 0 ∷ 0 ∷ 8 ∷ 0 ∷ 0 ∷ [])
     -- lock on create: before and after
     ∷ ((register (named-entry 0 2 A) ∷ write A ∷ write A ∷ delete A ∷ []), 0 ∷ 0 ∷ 0 ∷ 8 ∷ 8 ∷ [])
     -- MinSize 2, which a deletion is not held to
@@ -132,4 +134,4 @@ readings =
 -- THE READINGS HOLD
 pub readings-hold : All Holds readings
 unfolding rulesOpened
-readings-hold = more refl (more refl (more refl (more refl (more refl (more refl (more refl (more refl (more refl (more refl (more refl (more refl (more refl (more refl (more refl (more refl (more refl (more refl (more refl nil))))))))))))))))))
+readings-hold = more refl (more refl (more refl (more refl (more refl (more refl (more refl (more refl (more refl (more refl (more refl (more refl (more refl (more refl (more refl (more refl (more refl (more refl (more refl (more refl nil)))))))))))))))))))

@@ -1,7 +1,8 @@
 -- Laws of tests joined. Assumes nothing.
-use mathlib.Core.Path.{_≡_, refl, sym}
-use mathlib.Core.Bool.{Bool, true, false, _&&_, _||_, false≢true}
+use mathlib.Core.Path.{_≡_, refl, sym, ap, _∙_}
+use mathlib.Core.Bool.{Bool, true, false, not, _&&_, _||_, false≢true}
 use mathlib.Core.Logic.{_⊎_, inl, inr}
+use borrow.Author.Tests.{not-true, not-false}
 use Rattle.slices.specs.Test.{_and_}
 
 pub and-left : (a b : Bool) → (a and b) ≡ true → a ≡ true
@@ -43,6 +44,16 @@ pub and-eager : (a b : Bool) → (a && b) ≡ (a and b)
 unfolding _and_
 and-eager true b = refl
 and-eager false b = refl
+
+-- the code's answer t to two tests, the second made where the first, whose answer is r, holds
+module _ {t x r : Bool} (y : Bool) (e : t ≡ (x and y)) (f : r ≡ x) where
+  pub first-fails : not r ≡ true → false ≡ t
+  unfolding _and_
+  first-fails n = sym (e ∙ ap (λ b. b and y) (sym f ∙ not-true r n))
+
+  pub first-holds : {q : Bool} → not r ≡ false → q ≡ y → q ≡ t
+  unfolding _and_
+  first-holds n g = g ∙ sym (e ∙ ap (λ b. b and y) (sym f ∙ not-false r n))
 
 -- one of two tests holds
 pub or-cases : (a b : Bool) → (a || b) ≡ true → (a ≡ true) ⊎ (b ≡ true)

@@ -9,7 +9,7 @@ use mathlib.Core.Bool.{Bool, true, false}
 use native.Mathlib.Omega.{arith}
 use native.Mathlib.Nat.{add-sub-cancel-left}
 use lib.ListN.{length, getD, take, drop, replicate, length-append, length-drop, length-replicate, take-append-drop}
-use lib.Seq.{take-at, drop-at, take-append-seam, drop-append-seam, drop-append-add, drop-drop, getD-append-seam, getD-append-add, take-take, drop-length}
+use lib.Seq.{take-at, drop-at, take-append-seam, drop-append-seam, drop-append-add, drop-drop, take-take}
 use borrow.Author.Tests.{le-leb, eq-eqb, leb-true, eqb-true}
 use Rattle.limits.specs.Limits.{maxPayload, maxNameBytes, namespaceBytes}
 use Rattle.slices.specs.Test.{_and_}
@@ -17,22 +17,12 @@ use Rattle.slices.specs.TestLaws.{and-left, and-right, and-intro}
 use Rattle.slices.specs.Bytes.{Bytes, le32Bytes, part, pairwise, same, allAre}
 use Rattle.slices.specs.BytesLaws.{same-eq, same-of, allAre-is, allAre-replicate}
 use Rattle.slices.specs.NumberLaws.{le32-drop, le32-bytes, bytes-le32}
-use Rattle.slices.specs.PartLaws.{length-part, drop-step, drop-take}
+use Rattle.slices.specs.PartLaws.{length-part, drop-take}
 use Rattle.names.specs.Name.{Variable, isName, isTerminated, named}
-use Rattle.names.specs.NameLaws.{isName-length, isTerminated-name, named-namespace, named-name}
+use Rattle.names.specs.NameLaws.{isName-length, isTerminated-name, isTerminated-end, name-terminated, named-namespace, named-name}
 use Rattle.store.specs.Record.{attributesOf, nameSize, dataSize, namespaceOf, nameOf, payloadOf, variableOf, recordSize, attributesOk, recordMark, headerOk, bodyOk, recordOk, isOf, encodeRecord}
 use Rattle.store.specs.RecordLaws.{Sizes, header-sizes, header-attributes, header-mark}
 use Rattle.store.specs.Parts.{Storable}
-
--- a name with its zero unit
-terminated : (n : Bytes) → isName n ≡ true → isTerminated (n ++ (0 ∷ 0 ∷ [])) ≡ true
-unfolding isTerminated _and_
-terminated n e =
-    let k : length (n ++ (0 ∷ 0 ∷ [])) ≡ length n + 2 = length-append n (0 ∷ 0 ∷ []) in
-    let a : length n + 2 - 2 ≡ length n = omega arith in
-    let b : length n + 2 - 1 ≡ length n + 1 = omega arith in
-    rw (k, a, b, take-append-seam n (0 ∷ 0 ∷ []), getD-append-seam n 0 (0 ∷ []) 0, getD-append-add n (0 ∷ 0 ∷ []) 1 0, e)
-    (and-intro _ _ (le-leb 2 (length n + 2) (omega arith)) refl)
 
 module _ (a : ℕ) (v : Variable) (p : Bytes) where
   abbrev padding : Bytes
@@ -142,7 +132,7 @@ module _ (nonVolatile : Bool) (a : ℕ) (v : Variable) (p : Bytes) (s : Storable
   body-encode : bodyOk (encodeRecord a v p) ≡ true
   unfolding bodyOk
   body-encode =
-      and-intro _ _ (ap isTerminated (terminated-encode a v p hg (hn .1)) ∙ terminated (v .name) (named-name v (s .called))) (padding-encode a v p hg (hn .1) (s .most))
+      and-intro _ _ (ap isTerminated (terminated-encode a v p hg (hn .1)) ∙ name-terminated (v .name) (named-name v (s .called))) (padding-encode a v p hg (hn .1) (s .most))
 
   pub encode-ok : recordOk nonVolatile (encodeRecord a v p) ≡ true
   unfolding recordOk
@@ -156,17 +146,6 @@ cut : (a b : ℕ) (r : Bytes) → a ≤ b → drop a r ≡ part a b r ++ drop b 
 cut a b r h =
     let k : a + (b - a) ≡ b = omega arith in
     sym (take-append-drop (b - a) (drop a r)) ∙ rw (drop-drop (b - a) a r, k)
-
-closing : (t : Bytes) → isTerminated t ≡ true → drop (length t - 2) t ≡ 0 ∷ 0 ∷ []
-unfolding isTerminated
-closing t e =
-    let l : 2 ≤ length t = leb-true 2 (length t) (and-left _ _ e) in
-    let e₁ = and-right _ _ e in
-    let z₀ : getD t (length t - 2) 0 ≡ 0 = eqb-true _ _ (and-left _ _ e₁) in
-    let z₁ : getD t (length t - 1) 0 ≡ 0 = eqb-true _ _ (and-left _ _ (and-right _ _ e₁)) in
-    let i : length t - 2 + 1 ≡ length t - 1 = omega arith in
-    let j : length t - 1 + 1 ≡ length t = omega arith in
-    rw (drop-step t (length t - 2) (omega arith), i, drop-step t (length t - 1) (omega arith), j, z₀, z₁, drop-length t)
 
 module _ (nonVolatile : Bool) (r : Bytes) (e : recordOk nonVolatile r ≡ true) where
   size-is : length r ≡ recordSize (nameSize r) (dataSize r)
@@ -254,7 +233,7 @@ module _ (nonVolatile : Bool) (r : Bytes) (e : recordOk nonVolatile r ≡ true) 
       let i : 32 + nameSize r - 32 ≡ nameSize r = omega arith in
       let j : nameSize r - (nameSize r - 2) ≡ 32 + nameSize r - (30 + nameSize r) = omega arith in
       let k : 32 + (nameSize r - 2) ≡ 30 + nameSize r = omega arith in
-      let c : drop (nameSize r - 2) (part 32 (32 + nameSize r) r) ≡ 0 ∷ 0 ∷ [] = rw called-length at (closing (part 32 (32 + nameSize r) r) called) in
+      let c : drop (nameSize r - 2) (part 32 (32 + nameSize r) r) ≡ 0 ∷ 0 ∷ [] = rw called-length at (isTerminated-end (part 32 (32 + nameSize r) r) called) in
       let d : drop (nameSize r - 2) (part 32 (32 + nameSize r) r) ≡ part (30 + nameSize r) (32 + nameSize r) r =
       rw (i, drop-take (nameSize r) (nameSize r - 2) (drop 32 r), drop-drop, j, k) in
       ap (λ (l : Bytes). l ++ drop (32 + nameSize r) r) (sym c ∙ d) ∙ sym (cut (30 + nameSize r) (32 + nameSize r) r (omega arith))

@@ -5,7 +5,7 @@ use crate::case::{Bar, Case, Group, Growth, Work};
 use crate::inputs::{self, Policy, VOLATILE, variable};
 use crate::lent::Lent;
 use crate::parts::Part;
-use varpolicy::{Attributes, MAX_ENTRIES, MAX_STORE_BYTES, MIN_ENTRY_SIZE, Name, POLICY_BYTES};
+use varpolicy::{Attributes, Entry, MAX_ENTRIES, MAX_STORE_BYTES, MIN_ENTRY_SIZE, Name, POLICY_BYTES};
 
 /// How many entries a policy record holds, from a quarter of the most to the most.
 const COUNTS: [usize; 4] = [MAX_ENTRIES / 4, MAX_ENTRIES / 2, MAX_ENTRIES / 4 * 3, MAX_ENTRIES];
@@ -13,6 +13,10 @@ const COUNTS: [usize; 4] = [MAX_ENTRIES / 4, MAX_ENTRIES / 2, MAX_ENTRIES / 4 * 
 /// How long the names of numbered entries are. With the second length the most entries fill the record.
 const UNITS: [usize; 2] = [8, 41];
 const _: () = assert!(MAX_ENTRIES * (MIN_ENTRY_SIZE + 2 * (UNITS[1] + 1)) == POLICY_BYTES);
+
+/// How long the names of triggers are, and how many entries with such triggers and names of 8 units are checked. With
+/// the second length an entry has 164 bytes, so the record holds 99 of them.
+const TRIGGERS: [(usize, [usize; 2]); 2] = [(3, [COUNTS[1], COUNTS[3]]), (41, [COUNTS[1], COUNTS[2]])];
 
 // ---- whole calls
 
@@ -79,13 +83,14 @@ fn over_entries(count: usize) -> Vec<Case> {
 
 /// The registration of one entry more.
 pub fn register() -> Group {
-    let case = |count: usize, units: usize| {
-        let mut entries = inputs::numbered(count, units);
+    let case = |what: &str, units: usize, mut entries: Vec<Entry>| {
+        let name = format!("register as entry {}, {what} of {units} units", entries.len());
         let last = entries.pop().expect("an entry").pack().to_vec();
-        let name = format!("register as entry {count}, names of {units} units");
         call(name, Call::Register { entry: last }, &inputs::with_entries(&entries), 1.25)
     };
-    let cases = UNITS.into_iter().flat_map(|units| COUNTS.map(|count| case(count, units))).collect();
+    let named = |units: usize| COUNTS.map(|count| case("names", units, inputs::numbered(count, units)));
+    let triggered = TRIGGERS.map(|(units, [count, _])| case("triggers", units, inputs::with_triggers(count, units)));
+    let cases = UNITS.into_iter().flat_map(named).chain(triggered).collect();
     let title = "registering an entry";
     Group { title, columns: &["library", "ordinary"], ratios: &["to ord."], cases, growth: Vec::new() }
 }
@@ -158,9 +163,13 @@ pub fn comparison() -> Group {
 
 /// The check of the policy record.
 pub fn policy_check() -> Group {
-    let case = |count: usize, units: usize| {
-        let lent = inputs::with_entries(&inputs::numbered(count, units));
-        case(format!("check, {count} entries, names of {units} units"), Part::CheckPolicy, lent, Bar::AtMost(1.25))
+    let case = |what: &str, units: usize, entries: Vec<Entry>| {
+        let name = format!("check, {} entries, {what} of {units} units", entries.len());
+        case(name, Part::CheckPolicy, inputs::with_entries(&entries), Bar::AtMost(1.25))
+    };
+    let named = |units: usize| COUNTS.map(|count| case("names", units, inputs::numbered(count, units)));
+    let triggered = |(units, counts): (usize, [usize; 2])| {
+        counts.map(|count| case("triggers", units, inputs::with_triggers(count, units)))
     };
     let growth = |(place, units): (usize, usize)| Growth {
         name: format!("check, {} entries of {units} units, times that of {}", COUNTS[3], COUNTS[1]),
@@ -171,7 +180,7 @@ pub fn policy_check() -> Group {
         title: "the check of the policy record",
         columns: &["library", "part", "ordinary"],
         ratios: &["to ord."],
-        cases: UNITS.into_iter().flat_map(|units| COUNTS.map(|count| case(count, units))).collect(),
+        cases: UNITS.into_iter().flat_map(named).chain(TRIGGERS.into_iter().flat_map(triggered)).collect(),
         growth: UNITS.into_iter().enumerate().map(growth).collect(),
     }
 }

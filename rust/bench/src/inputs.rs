@@ -123,6 +123,12 @@ pub fn numbered(count: usize, units: usize) -> Vec<Entry> {
     (0..count).map(|number| Entry::new(OURS, text(&format!("{}{number:04X}", "N".repeat(units - 4))))).collect()
 }
 
+/// `count` entries with names of 8 units and one trigger, whose name has `units` units.
+pub fn with_triggers(count: usize, units: usize) -> Vec<Entry> {
+    let lock = Lock::OnVarState { namespace: OURS, name: text(&"EndOfDxe".repeat(8)[..units]), value: 1 };
+    numbered(count, 8).into_iter().map(|entry| Entry { lock, ..entry }).collect()
+}
+
 /// What a policy is, its entries, and the name of a variable to set.
 pub type Policy = (&'static str, Vec<Entry>, Name);
 

@@ -44,7 +44,8 @@ library: libvarpolicy.a. part: the same function in libbench_parts.a, compiled b
 over the same bytes. standard, small: with the standard library's hash table, or a small one on the stack. pairwise:
 every key compared with all before it. whole, by unit: a walk over the records that compares a name at once, or its
 first unit first. Every call checks all it is lent: two stores of 32,768 bytes with records of 40 bytes or, where there
-are entries, one of 256 bytes. Names of one slot share a slot of the filter in the library's check.
+are entries, one of 256 bytes. Names of one slot share a slot of the filter in the library's check. In rows of triggers
+all entries have the same one, and names of 8 units.
 A choice or a search trusts the check before it, so it is the difference of two calls of one function, with and without
 it: a set with the engine enabled and disabled, or a name and an empty one. Both run the same machine code, whatever the
 compiler inlined; the count of a function by its name would depend on that. The checks are calls that stop behind them.

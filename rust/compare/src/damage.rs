@@ -8,7 +8,7 @@ use reference::{MAX_ENTRIES, POLICY_BYTES};
 use varpolicy::MAX_STORE_BYTES;
 
 /// What can be done to an entry.
-pub const ENTRY: [&str; 20] = [
+pub const ENTRY: [&str; 21] = [
     "Version",
     "Size",
     "OffsetToName",
@@ -27,6 +27,7 @@ pub const ENTRY: [&str; 20] = [
     "trigger name empty",
     "trigger name of 65 units",
     "trigger cut short",
+    "trigger name with '#'",
     "one bit",
     "random bytes",
 ];
@@ -76,6 +77,12 @@ pub fn entry(random: &mut Random, pool: &Pool) -> (usize, Vec<u8>) {
         14 => fields.name.push(0),
         15..=17 => damage_trigger(random, &mut fields, kind),
         18 => {
+            if fields.lock_type != 3 {
+                fields = fields.with_trigger(make::G, &make::units("T0"), 0);
+            }
+            fields.put_sign_in_trigger(random);
+        }
+        19 => {
             let mut bytes = fields.pack();
             let place = random.below(bytes.len());
             bytes[place] ^= 1 << random.below(8);
@@ -209,7 +216,7 @@ fn records(store: &[u8]) -> Vec<(usize, usize)> {
 }
 
 /// What can be done to a policy record.
-pub const POLICY: [&str; 8] = [
+pub const POLICY: [&str; 9] = [
     "one bit",
     "one byte of an entry's header",
     "another length",
@@ -218,6 +225,7 @@ pub const POLICY: [&str; 8] = [
     "one entry over the limit",
     "gap between entries",
     "damaged entry at the end",
+    "'#' in a trigger's name",
 ];
 
 /// Does one thing to a policy record, which is told by its place in [`POLICY`].
@@ -253,12 +261,35 @@ pub fn policy(random: &mut Random, pool: &Pool, record: &mut Vec<u8>) -> usize {
             }
         }
         1 if used > 0 => record[random.below(44)] = random.byte(),
+        8 => put_sign_in_a_trigger(random, record, &sizes),
         _ => {
             let place = random.below(used.max(1));
             record[place] ^= 1 << random.below(8);
         }
     }
     kind
+}
+
+/// Puts '#' at some place of the trigger's name of an entry, or an entry with such a trigger behind the others.
+fn put_sign_in_a_trigger(random: &mut Random, record: &mut [u8], sizes: &[usize]) {
+    let mut start = 0;
+    let mut places = Vec::new();
+    for size in sizes {
+        let entry = &record[start..start + size];
+        let offset = usize::from(u16::from_le_bytes([entry[6], entry[7]]));
+        if entry[40] == 3 && (66..=*size).contains(&offset) {
+            places.push(start + 62 + 2 * random.below(offset / 2 - 32));
+        }
+        start += size;
+    }
+    let entry = EntryFields::new(make::numbered(start), &[]).with_trigger(make::G, &make::units("T#"), 0).pack();
+    let (at, bytes) = match places.is_empty() {
+        true => (start, entry),
+        false => (random.pick(&places), vec![0x23, 0]),
+    };
+    if let Some(place) = record.get_mut(at..at + bytes.len()) {
+        place.copy_from_slice(&bytes);
+    }
 }
 
 /// The Sizes of the entries in a record, as far as they look like entries.

@@ -154,7 +154,13 @@ impl Run<'_> {
                 self.comparison.coverage.input(Input::Entry, kind);
                 Call::Register { entry }
             }
-            70..=85 => Call::Register { entry: self.pool.entry_fields(random).pack() },
+            70..=85 => {
+                let mut fields = self.pool.entry_fields(random);
+                if fields.lock_type == 3 && random.one_in(6) {
+                    fields.put_sign_in_trigger(random);
+                }
+                Call::Register { entry: fields.pack() }
+            }
             86..=91 => make::dump(random, needed),
             92..=93 => Call::Lock,
             94..=95 => Call::Disable,

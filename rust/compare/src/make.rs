@@ -95,11 +95,18 @@ impl EntryFields {
         }
     }
 
-    /// Locks while the trigger holds `value`.
+    /// Locks while the trigger holds `value`. With '#' in the trigger's name the entry is malformed.
     pub fn with_trigger(mut self, namespace: Namespace, name: &[u16], value: u8) -> EntryFields {
         self.lock_type = 3;
         self.trigger = [namespace.to_vec(), vec![value, 0], closed(name)].concat();
         self
+    }
+
+    /// Puts '#' at some place of the trigger's name.
+    pub fn put_sign_in_trigger(&mut self, random: &mut Random) {
+        let name = &mut self.trigger[18..];
+        let place = random.below(name.len() / 2 - 1);
+        name[2 * place..2 * place + 2].copy_from_slice(&[0x23, 0]);
     }
 
     /// The packed bytes.
@@ -344,6 +351,11 @@ impl Pool {
         pattern
     }
 
+    /// The name of a trigger: a good name with 0 for each '#'.
+    fn trigger_name(&self, random: &mut Random) -> Vec<u16> {
+        self.name(random).into_iter().map(|unit| if unit == 0x23 { 0x30 } else { unit }).collect()
+    }
+
     /// The fields of a well-formed entry.
     pub fn entry_fields(&self, random: &mut Random) -> EntryFields {
         let mut fields = EntryFields::new(self.namespace(random), &self.pattern(random));
@@ -362,7 +374,7 @@ impl Pool {
             3 => fields.lock_type = 1,
             4..=5 => fields.lock_type = 2,
             _ => {
-                let (namespace, name) = (self.namespace(random), self.name(random));
+                let (namespace, name) = (self.namespace(random), self.trigger_name(random));
                 fields = fields.with_trigger(namespace, &name, random.pick(&[0, 0, 1, 0xFF]));
                 if random.one_in(4) {
                     fields.trigger[17] = random.byte();

@@ -17,14 +17,29 @@ pub enum Each {
     SignOverSign,
     SignOverOther,
     OtherUnit,
+    TriggerUnit,
+    TriggerUnitOfEight,
+    SignInTrigger,
+    SignBesideTrigger,
+    TriggerBelow,
+    TriggerAbove,
+    TriggerLowByte,
+    TriggerHighByte,
+    TriggerAcross,
+    LentToPowerOn,
+    LentToRestart,
+    LentToRegister,
+    LentToDump,
+    LentToSet,
 }
 
 const UNITS: usize = 1 << 16;
 /// The places of all names of 1 to 64 units.
 const PLACES: usize = MAX_UNITS * (MAX_UNITS + 1) / 2;
 
-/// What is hit, in words, and how many there are of it; in the order of [`Each`]. No pattern has the unit zero.
-const TALLIES: [(Each, &str, usize); 9] = [
+/// What is hit, in words, and how many there are of it; in the order of [`Each`]. No pattern and no trigger has the
+/// unit zero, and a name of one unit has no place between two.
+const TALLIES: [(Each, &str, usize); 23] = [
     (Each::UnderSign, "units under '#', which is the whole pattern", UNITS),
     (Each::UnderSignOfFour, "units under '#', one of four units", UNITS),
     (Each::UnderSignOfEight, "units under '#', one of eight units", UNITS),
@@ -34,6 +49,20 @@ const TALLIES: [(Each, &str, usize); 9] = [
     (Each::SignOverSign, "places of '#' over '#'", PLACES),
     (Each::SignOverOther, "places of '#' over another unit", PLACES),
     (Each::OtherUnit, "places of a unit over another", PLACES),
+    (Each::TriggerUnit, "units that are a trigger's whole name", UNITS - 1),
+    (Each::TriggerUnitOfEight, "units of a trigger's name of eight", UNITS - 1),
+    (Each::SignInTrigger, "places of '#' in a trigger's name: 2", PLACES),
+    (Each::SignBesideTrigger, "places of '#' in a name beside a trigger: 0", PLACES),
+    (Each::TriggerBelow, "places of 0x22 in a trigger's name: 0", PLACES),
+    (Each::TriggerAbove, "places of 0x24 in it: 0", PLACES),
+    (Each::TriggerLowByte, "places of the low byte of '#' alone in it: 0", PLACES),
+    (Each::TriggerHighByte, "places of 0x23 as a high byte in it: 0", PLACES),
+    (Each::TriggerAcross, "places of '#' across two units of it: 0", PLACES - MAX_UNITS),
+    (Each::LentToPowerOn, "places of '#' in it, lent to power-on: 0", PLACES),
+    (Each::LentToRestart, "places of '#' in it, lent to restart: 0", PLACES),
+    (Each::LentToRegister, "places of '#' in it, lent to register: 10", PLACES),
+    (Each::LentToDump, "places of '#' in it, lent to dump: 10", PLACES),
+    (Each::LentToSet, "places of '#' in it, lent to set: 10", PLACES),
 ];
 
 /// The number of a place in a name of so many units.
@@ -77,7 +106,7 @@ impl Tallies {
 
 impl fmt::Display for Tallies {
     fn fmt(&self, out: &mut fmt::Formatter) -> fmt::Result {
-        writeln!(out, "\nunits, and places in names of 1 to {MAX_UNITS} units, where all other units match")?;
+        writeln!(out, "\nunits, and places in names of 1 to {MAX_UNITS} units, where nothing else decides")?;
         self.rows().try_for_each(|(title, hit, count)| writeln!(out, "  {title:<45}{hit:>8} of {count:>5}"))
     }
 }

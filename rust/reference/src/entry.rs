@@ -47,7 +47,7 @@ pub enum LockRule {
 pub struct Trigger {
     /// Its namespace.
     pub namespace: Namespace,
-    /// Its name, in which '#' is an ordinary character.
+    /// Its name, which has no '#'.
     pub name: Vec<u16>,
     /// The value of its one byte that locks.
     pub value: u8,
@@ -140,6 +140,10 @@ impl Trigger {
         let value = cursor.u8()?;
         let reserved = cursor.u8()?;
         let name = name::decode_closed(cursor.rest())?;
+        // It is one variable's name, and no pattern.
+        if name::has_number_sign(&name) {
+            return None;
+        }
         Some(Trigger { namespace, name, value, reserved })
     }
 
@@ -171,6 +175,35 @@ mod tests {
         }
         assert!(entry("").targets(&[7; 16], &name));
         assert!(!entry("").targets(&[8; 16], &name));
+    }
+
+    fn with_trigger(name: &str, trigger: &[u16]) -> Entry {
+        let trigger = Trigger { namespace: [0x23; 16], name: trigger.to_vec(), value: 0x23, reserved: 0 };
+        Entry { lock: LockRule::LockOnVarState(trigger), ..entry(name) }
+    }
+
+    #[test]
+    fn a_trigger_has_no_number_sign_at_any_place() {
+        for count in 1..=crate::MAX_UNITS {
+            for place in 0..count {
+                let mut trigger = vec![0x41; count];
+                trigger[place] = 0x23;
+                assert_eq!(Entry::decode(&with_trigger("A", &trigger).encode()), None, "{place} of {count}");
+            }
+        }
+        assert_eq!(Entry::decode(&with_trigger("", &[0x23; 64]).encode()), None);
+    }
+
+    #[test]
+    fn what_is_nearly_a_number_sign_may_stand_in_a_trigger() {
+        let near: [&[u16]; 7] =
+            [&[0x22], &[0x24], &[0x2300], &[0x0123], &[0x2323], &[0xFF03], &[0x2341, 0x4100, 0x2300, 0x0041]];
+        for trigger in near {
+            for name in ["", "A", "#", "Boot####"] {
+                let entry = with_trigger(name, trigger);
+                assert_eq!(Entry::decode(&entry.encode()), Some(entry), "{trigger:x?}");
+            }
+        }
     }
 
     #[test]

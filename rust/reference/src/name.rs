@@ -31,6 +31,11 @@ pub(crate) fn encode_closed(name: &[u16]) -> Vec<u8> {
     closed.flat_map(|unit| unit.to_le_bytes()).collect()
 }
 
+/// Whether a name has a '#'.
+pub(crate) fn has_number_sign(name: &[u16]) -> bool {
+    name.contains(&NUMBER_SIGN)
+}
+
 /// How many '#' a name has.
 pub(crate) fn wildcards(name: &[u16]) -> usize {
     name.iter().filter(|unit| **unit == NUMBER_SIGN).count()

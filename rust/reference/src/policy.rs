@@ -51,3 +51,30 @@ impl Policy {
         targeting.min_by_key(|entry| entry.rank())
     }
 }
+
+#[cfg(test)]
+mod tests {
+    use super::*;
+    use crate::entry::{LockRule, Trigger};
+
+    /// A record of entries of type 3 with these triggers, each for the whole of another namespace.
+    fn record(triggers: &[&str]) -> Vec<u8> {
+        let entries = triggers.iter().enumerate().map(|(number, trigger)| {
+            let name = trigger.encode_utf16().collect();
+            let lock = LockRule::LockOnVarState(Trigger { namespace: [7; 16], name, value: 1, reserved: 0 });
+            let (namespace, name) = ([number as u8; 16], Vec::new());
+            Entry { namespace, name, min_size: 0, max_size: 9, must_have: 0, cant_have: 0, lock, reserved: [0; 3] }
+        });
+        let mut bytes = Policy { entries: entries.collect() }.encode();
+        bytes.resize(POLICY_BYTES, 0);
+        bytes
+    }
+
+    #[test]
+    fn a_record_holds_no_trigger_with_a_number_sign() {
+        assert_eq!(Policy::decode(&record(&["A0", "T", "B"])).map(|policy| policy.entries.len()), Some(3));
+        for triggers in [&["A#"][..], &["A#", "T", "B"], &["T", "#", "B"], &["T", "B", "#A"]] {
+            assert_eq!(Policy::decode(&record(triggers)), None, "{triggers:?}");
+        }
+    }
+}

@@ -6,6 +6,7 @@
 
 mod command;
 mod describe;
+mod signs;
 mod simulation;
 mod text;
 mod ties;
@@ -41,8 +42,9 @@ Reads a history from FILE or standard input, one call to a line:
   ATTRIBUTES  NV|BS|RT|APPEND, a number such as 0x8, or 0
   PAYLOAD     hex digits, \"text\", or COUNT*HH, in any number
   FIELDS      min=N max=N must=ATTRIBUTES cant=ATTRIBUTES lock=no|now|on-create|on-state, and with
-              lock=on-state also trigger=NAMESPACE:NAME value=HH; min and max measure the payload as it
-              would be afterwards, an append's with what is stored
+              lock=on-state also trigger=NAMESPACE:NAME value=HH, where NAME is one variable's and may
+              have no #; min and max measure the payload as it would be afterwards, an append's with
+              what is stored
 
 ; and // begin a comment, but not in a note. Before the first power-on the engine is locked.
 ";

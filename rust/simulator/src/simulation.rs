@@ -1,7 +1,7 @@
 //! The state that a history keeps, and what each command does to it.
 
 use crate::command::{Command, Expected, Order, Part};
-use crate::{describe, ties};
+use crate::{describe, signs, ties};
 use std::collections::BTreeMap;
 use varpolicy::calls::{self, Request, Started};
 use varpolicy::{Namespace, POLICY_BYTES, Status, SwitchBytes, Switches};
@@ -50,7 +50,7 @@ impl Simulation {
                 let started = calls::restart(&self.nv, &self.volatile, &mut self.policy, disabling_allowed);
                 self.started(started)
             }
-            Command::Register { entry } => calls::register(&mut self.policy, self.switches, &entry).to_string(),
+            Command::Register { entry } => self.register(&entry),
             Command::Set { namespace, name, attributes, payload } => {
                 let request = Request { namespace: &namespace, name: &name, attributes, payload: &payload };
                 calls::set(&mut self.nv, &mut self.volatile, &self.policy, self.switches, request).to_string()
@@ -83,6 +83,16 @@ impl Simulation {
         let locked = if switches.locked { "locked" } else { "unlocked" };
         let allowed = if switches.disabling_allowed { "allowed" } else { "not allowed" };
         format!("{status} {enabled}, {locked}, disabling {allowed}")
+    }
+
+    /// Registers an entry, and tells the reason of a refusal if '#' in the trigger's name is the only one.
+    fn register(&mut self, entry: &[u8]) -> String {
+        match calls::register(&mut self.policy, self.switches, entry) {
+            refused @ Status::InvalidParameter if signs::are_the_only_defect(entry) => {
+                format!("{refused} the trigger's name has a '#'")
+            }
+            status => status.to_string(),
+        }
     }
 
     fn read(&self, namespace: &Namespace, name: &[u8]) -> String {

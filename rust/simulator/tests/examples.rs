@@ -102,11 +102,36 @@ places: later answers may differ
 }
 
 #[test]
+fn a_number_sign_in_a_trigger_is_told_where_it_is_the_reason() {
+    let history = b"namespace G 5C67D181F686DF48BD959A6E4F0925C3\nregister G \"A\" lock=on-state trigger=G:\"T#\" value=01\n\
+        power-on\nregister G \"A\" lock=on-state trigger=G:\"T#\" value=01\n\
+        register G \"A#\" min=2 max=1 lock=on-state trigger=G:\"T#\" value=01\n\
+        register G \"A#\" lock=on-state trigger=G:\"\" value=01\nregister G \"A#\" lock=on-state trigger=G:\"T0\" value=01\n\
+        register G \"A#\" lock=on-state trigger=G:\"\\u0023\" value=01\nregister raw 2300\ndump\n";
+    let output = simulate(history);
+    assert!(output.status.success());
+    let expected = "\
+2: register G \"A\" lock=on-state trigger=G:\"T#\" value=01 -> WRITE_PROTECTED
+3: power-on -> SUCCESS enabled, unlocked, disabling not allowed
+4: register G \"A\" lock=on-state trigger=G:\"T#\" value=01 -> INVALID_PARAMETER the trigger's name has a '#'
+5: register G \"A#\" min=2 max=1 lock=on-state trigger=G:\"T#\" value=01 -> INVALID_PARAMETER
+6: register G \"A#\" lock=on-state trigger=G:\"\" value=01 -> INVALID_PARAMETER
+7: register G \"A#\" lock=on-state trigger=G:\"T0\" value=01 -> SUCCESS
+8: register G \"A#\" lock=on-state trigger=G:\"\\u0023\" value=01 -> INVALID_PARAMETER the trigger's name has a '#'
+9: register raw 2300 -> INVALID_PARAMETER
+10: dump -> SUCCESS 74 bytes
+    0: G \"A#\" lock=on-state trigger=G:\"T0\" value=01
+";
+    assert_eq!(String::from_utf8_lossy(&output.stdout), expected);
+}
+
+#[test]
 fn help_tells_what_another_order_and_a_number_sign_do() {
     let output = Command::new(env!("CARGO_BIN_EXE_simulate")).arg("--help").output().expect("simulate runs");
     let help = String::from_utf8_lossy(&output.stdout);
     let order = "rank target one variable and change places";
-    for words in ["equal\n", order, "but not in a note", "matches a hex digit and nothing else"] {
+    let trigger = "NAME is one variable's and may\n              have no #";
+    for words in ["equal\n", order, "but not in a note", "matches a hex digit and nothing else", trigger] {
         assert!(help.contains(words), "{words}");
     }
 }

@@ -86,7 +86,7 @@ pub fn restart(nv: &[u8], volatile: &[u8], policy: &mut [u8], disabling_allowed:
 ///
 /// * VOLUME_CORRUPTED: `policy` is not a policy record.
 /// * WRITE_PROTECTED: the engine is locked.
-/// * INVALID_PARAMETER: the entry is malformed.
+/// * INVALID_PARAMETER: the entry is malformed; `#` in its trigger's name makes it so.
 /// * ALREADY_STARTED: an entry of the same namespace and name is registered.
 /// * OUT_OF_RESOURCES: [`MAX_ENTRIES`](crate::MAX_ENTRIES) are registered, or the Sizes would sum to more than
 ///   [`POLICY_BYTES`](crate::POLICY_BYTES).

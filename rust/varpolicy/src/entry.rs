@@ -2,7 +2,7 @@ use crate::{Attributes, MAX_ENTRY_SIZE, MAX_NAME_UNITS, Namespace};
 use core::ops::Deref;
 
 /// A name of at most 64 units, as the bytes of its units without a closing zero. `#` is an ordinary
-/// character here; in the name of an entry it stands for a hex digit, or for itself.
+/// character here; in the name of an entry it stands for a hex digit, and a trigger's name may not have it.
 #[derive(Clone, Copy, PartialEq, Eq, Debug)]
 pub struct Name {
     bytes: [u8; 2 * MAX_NAME_UNITS],
@@ -51,7 +51,8 @@ pub enum Lock {
     OnVarState {
         /// The namespace of the other variable.
         namespace: Namespace,
-        /// Its name.
+        /// Its name, which is no pattern: registration answers INVALID_PARAMETER to an entry with `#` in it, as
+        /// to one where it is empty.
         name: Name,
         /// The byte that locks.
         value: u8,

@@ -77,6 +77,25 @@ fn entries_are_registered_dumped_and_enforced() {
 }
 
 #[test]
+fn a_trigger_has_no_number_sign() {
+    let (mut nv, mut volatile, mut policy) = ([0xFF; 128], [0xFF; 128], [0; POLICY_BYTES]);
+    let mut engine = Engine::power_on(&mut nv, &mut volatile, &mut policy, true).unwrap();
+    let entry = |trigger: &str| {
+        let lock = Lock::OnVarState { namespace: G, name: name(trigger), value: 1 };
+        Entry { lock, ..Entry::new(G, name("Boot####")) }.pack()
+    };
+    for trigger in ["", "#", "#T", "T#", "T#T", "Boot####"] {
+        assert_eq!(engine.register(&entry(trigger)), Err(Status::InvalidParameter), "{trigger}");
+    }
+    assert_eq!(engine.dump(&mut []), Ok(0));
+    assert_eq!(engine.register(&entry("T0")), Ok(()));
+    assert_eq!(engine.register(&entry("T#")), Err(Status::InvalidParameter));
+    let mut buffer = [0; 100];
+    assert_eq!(engine.dump(&mut buffer), Ok(entry("T0").len()));
+    assert_eq!(buffer[..entry("T0").len()], entry("T0")[..]);
+}
+
+#[test]
 fn a_name_has_at_most_64_units() {
     assert_eq!(Name::new(&"A".repeat(64)).map(|name| name.len()), Some(128));
     assert_eq!(Name::new(&"A".repeat(65)), None);

@@ -6,19 +6,13 @@ use borrow.Author.Needs.{needs}
 use Rattle.entry.proofs.name_ok.Statement.{statement}
 use Rattle.entry.proofs.name_ok.Tie as tie
 
-le16-requires : tie.Need-le16-requires
-le16-requires c κs = search needs
-
-cast-start : tie.Need-cast-start
-cast-start c = search needs
-
 returns : tie.Need-returns
 unfolding _and_ nameOk
-returns c = simp (← c .before .le16 .ensures, lt-leb _ _ (c .if1 .taken))
+returns c = simp (← c .before .before .pre, lt-leb _ _ (c .if1 .taken))
 
 returns-2 : tie.Need-returns-2
 unfolding _and_ nameOk
-returns-2 c = simp (← c .before .before .le16 .ensures, le-leb _ _ (c .before .if1 .left), eq-eqb _ _ (c .if2 .taken))
+returns-2 c = simp (← c .before .before .before .pre, le-leb _ _ (c .before .if1 .left), eq-eqb _ _ (c .if2 .taken))
 
 sub-is-terminated : tie.Need-sub-is-terminated
 sub-is-terminated c = search needs
@@ -34,14 +28,12 @@ is-terminated-requires c κs = search needs
 
 returns-3 : tie.Need-returns-3
 unfolding _and_ nameOk
-returns-3 c = simp (← c .before .before .before .before .le16 .ensures, le-leb _ _ (c .before .before .before .if1 .left), ne-eqb _ _ (c .before .before .if2 .left)) (c .is-terminated .ensures)
+returns-3 c = simp (← c .before .before .before .before .before .pre, le-leb _ _ (c .before .before .before .if1 .left), ne-eqb _ _ (c .before .before .if2 .left)) (c .is-terminated .ensures)
 
 pub name-ok-spec : {M : Type 1} → statement M
 name-ok-spec =
     tie.close
     (tie.spec
-    le16-requires
-    cast-start
     returns
     returns-2
     sub-is-terminated

@@ -3,10 +3,12 @@ use mathlib.Core.Path.{_≡_, ap, _∙_}
 use Prim.Native.Nat.{ℕ, _≤_, _-_, _+_, _*_, _/_}
 use native.Mathlib.Omega.{arith}
 use native.Mathlib.Nat.{add-zero}
+use mathlib.Core.Bool.{not}
 use lib.ListN.{drop}
+use lib.Dec.{eqb}
 use Rattle.slices.specs.Test.{_and_}
 use Rattle.names.specs.Name.{units, noZero}
-use Rattle.names.specs.NameLaws.{noZero-more}
+use Rattle.names.specs.NameLaws.{each-more}
 use Rattle.names.proofs.eight_not_zero.Statement.{statement}
 use Rattle.names.proofs.eight_not_zero.Tie as tie
 
@@ -36,7 +38,7 @@ loop-again : tie.Need-loop-again Inv-loop μ-loop
 loop-again c =
     let l = c .before .before in
     let a = l .before .before .args in
-    (omega arith, omega arith, noZero-more (l .loop .ok) (a .s .now) (a .i) (l .loop .j) (omega arith) (l .loop .inv .2) (c .get16 .ensures .0))
+    (omega arith, omega arith, each-more _ (l .loop .ok) (a .s .now) (a .i) (l .loop .j) (omega arith) (l .loop .inv .2) (ap (λ u. not (eqb u 0)) (c .get16 .ensures .0)))
 
 returns : tie.Need-returns Inv-loop μ-loop
 returns c =

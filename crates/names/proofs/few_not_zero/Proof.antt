@@ -1,11 +1,13 @@
 -- `names::few_not_zero` meets its contract. The invariant: the answer from byte i on is the answer. The measure is what is left of the bytes.
 -- Assumes nothing.
-use mathlib.Core.Path.{_≡_, refl, sym, _∙_}
+use mathlib.Core.Path.{_≡_, refl, sym, ap, _∙_}
+use mathlib.Core.Bool.{not}
+use borrow.Author.Tests.{eq-eqb, ne-eqb}
 use Prim.Native.Nat.{_≤_, _-_}
 use native.Mathlib.Omega.{arith}
 use lib.ListN.{length, drop}
 use Rattle.names.specs.Name.{units, noZero}
-use Rattle.names.specs.NameLaws.{noZero-hit, noZero-miss, noZero-end}
+use Rattle.names.specs.NameLaws.{each-hit, each-miss, each-end}
 use Rattle.names.proofs.few_not_zero.Statement.{statement}
 use Rattle.names.proofs.few_not_zero.Tie as tie
 
@@ -27,7 +29,7 @@ get16-requires c κs = omega arith
 returns : tie.Need-returns Inv-loop μ-loop
 returns c =
     let l = c .before .before .before in
-    sym (l .loop .inv .1 ∙ noZero-hit _ (l .loop .i) (omega arith) (sym (c .before .get16 .ensures .0) ∙ c .if1 .taken))
+    sym (l .loop .inv .1 ∙ each-hit _ (l .loop .i) (omega arith) _ (ap not (eq-eqb _ 0 (sym (c .before .get16 .ensures .0) ∙ c .if1 .taken))))
 
 add-i : tie.Need-add-i Inv-loop μ-loop
 add-i c = omega arith
@@ -38,10 +40,10 @@ loop-less c = omega arith
 loop-again : tie.Need-loop-again Inv-loop μ-loop
 loop-again c =
     let l = c .before .before .before in
-    (omega arith, l .loop .inv .1 ∙ noZero-miss _ (l .loop .i) (omega arith) (λ z. c .if1 .left (c .before .get16 .ensures .0 ∙ z)))
+    (omega arith, l .loop .inv .1 ∙ each-miss _ (l .loop .i) (omega arith) _ (ap not (ne-eqb _ 0 (λ z. c .if1 .left (c .before .get16 .ensures .0 ∙ z)))))
 
 returns-2 : tie.Need-returns-2 Inv-loop μ-loop
-returns-2 c = sym (c .before .loop .inv .1 ∙ noZero-end _ (c .before .loop .i) (omega arith))
+returns-2 c = sym (c .before .loop .inv .1 ∙ each-end _ _ (c .before .loop .i) (omega arith))
 
 pub few-not-zero-spec : {M : Type 1} → statement M
 few-not-zero-spec =

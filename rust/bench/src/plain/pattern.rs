@@ -2,7 +2,7 @@
 
 use std::array::from_fn;
 
-const SIGN: u16 = b'#' as u16;
+pub const SIGN: u16 = b'#' as u16;
 const FOUR_SIGNS: u64 = 0x0023_0023_0023_0023;
 /// All bits of four units but the top ones.
 const LOW: u64 = 0x7FFF_7FFF_7FFF_7FFF;
@@ -48,8 +48,9 @@ fn eight_match(pattern: &[u8; 16], name: &[u8; 16]) -> bool {
     is_equal() || from_fn(|k| wrong(pattern[k], name[k])) == [0; 8]
 }
 
+/// Eight units by their numbers.
 #[inline(always)]
-fn eight(bytes: &[u8; 16]) -> [u16; 8] {
+pub fn eight(bytes: &[u8; 16]) -> [u16; 8] {
     from_fn(|k| u16::from_le_bytes([bytes[2 * k], bytes[2 * k + 1]]))
 }
 

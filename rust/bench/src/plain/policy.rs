@@ -1,11 +1,13 @@
 //! The policy record: the check, and the choice.
 
 use super::index::Small;
-use super::pattern::{Four, matches, signs};
-use super::{ENTRY_HEADER, all_are, is_closed_name, le16, le32};
+use super::pattern::{Four, SIGN, eight, matches, signs};
+use super::{ENTRY_HEADER, MAX_NAME, all_are, is_closed_name, le16, le32};
+use std::array::from_fn;
 use varpolicy::{MAX_ENTRIES, POLICY_BYTES};
 
-/// Whether bytes are a well-formed entry.
+/// Whether bytes are a well-formed entry. It is part of the walk's loop, where the compiler would not put it by itself.
+#[inline(always)]
 pub fn is_entry(bytes: &[u8]) -> bool {
     if bytes.len() < ENTRY_HEADER {
         return false;
@@ -21,10 +23,51 @@ pub fn is_entry(bytes: &[u8]) -> bool {
     }
     let lock_is_sound = match bytes[40] {
         0..=2 => offset == ENTRY_HEADER,
-        3 => offset >= 62 && is_closed_name(&bytes[62..offset]),
+        3 => ends_in_trigger(&bytes[..offset]),
         _ => false,
     };
     lock_is_sound && (offset == bytes.len() || is_closed_name(&bytes[offset..]))
+}
+
+/// Where the name of a trigger begins.
+const TRIGGER_NAME: usize = 62;
+
+/// Whether bytes, an entry up to its name, end in the name of a trigger: 1 to 64 units, none zero or '#', and then a
+/// zero unit. Eight are tested at once, the last eight and those from the front on. If there are fewer, what stands
+/// before them is covered.
+#[inline(always)]
+fn ends_in_trigger(bytes: &[u8]) -> bool {
+    let len = bytes.len();
+    if len < TRIGGER_NAME + 2 || le16(bytes, len - 2) != 0 {
+        return false;
+    }
+    let name = &bytes[TRIGGER_NAME..len - 2];
+    // One comparison for three: no bytes, too many and an odd number of them all become a large number.
+    if (name.len() as u32).wrapping_sub(2).rotate_right(1) >= MAX_NAME as u32 / 2 {
+        return false;
+    }
+    let Some(last) = bytes[..len - 2].last_chunk().map(eight) else { return false };
+    let least = if name.len() < 16 {
+        let Some(cover) = COVER.as_flattened()[name.len()..].first_chunk().map(eight) else { return false };
+        from_fn(|k| allowed(last[k] | cover[k]))
+    } else {
+        // With so few blocks the loop is unrolled.
+        let blocks = name.as_chunks().0.iter().take(MAX_NAME / 16 - 1);
+        blocks.map(eight).fold(last.map(allowed), |least, units| from_fn(|k| least[k].min(allowed(units[k]))))
+    };
+    least.iter().all(|allowed| *allowed != 0)
+}
+
+/// What covers: for a name of N bytes the 16 from place N on, all ones before the name and zeros over it.
+static COVER: [[u8; 16]; 2] = [[0xFF; 16], [0; 16]];
+
+/// Zero for a zero unit and for '#', and for no other: in 16 bits the factor makes '#' one, and no two units the same.
+/// It is never negative, and the least of signed numbers takes one vector instruction.
+#[inline(always)]
+fn allowed(unit: u16) -> i16 {
+    const FACTOR: u16 = 44_939;
+    const _: () = assert!(SIGN.wrapping_mul(FACTOR) == 1);
+    (unit.wrapping_mul(FACTOR) >> 1) as i16
 }
 
 /// Walks a policy record: every entry must be well formed and, by what is told of it and of where it ends, new, and
@@ -175,7 +218,7 @@ fn rank_for(entry: &[u8], namespace: &[u8; 16], name: &[u8]) -> Option<usize> {
 mod tests {
     use super::*;
     use crate::inputs::with_entries;
-    use varpolicy::{Entry, Name};
+    use varpolicy::{Entry, Lock, Name};
 
     /// The rank by the rule, unit by unit.
     fn slow_rank(entry: &Entry, namespace: &[u8; 16], name: &Name) -> Option<usize> {
@@ -192,6 +235,52 @@ mod tests {
         }
         let matches = pattern.len() == units.len() && pattern.iter().zip(units).all(fits);
         matches.then(|| pattern.iter().filter(|own| **own == [b'#', 0]).count())
+    }
+
+    /// An entry for a whole namespace whose trigger has these bytes as its name. Before them stand zero units and '#'.
+    fn with_trigger(name: &[u8]) -> Vec<u8> {
+        let lock = Lock::OnVarState { namespace: [0; 16], name: Name::EMPTY, value: b'#' };
+        let mut bytes = Entry { lock, ..Entry::new([7; 16], Name::EMPTY) }.pack().to_vec();
+        bytes.truncate(TRIGGER_NAME);
+        bytes.extend(name);
+        let size = (bytes.len() as u16).to_le_bytes();
+        bytes[4..6].copy_from_slice(&size);
+        bytes[6..8].copy_from_slice(&size);
+        bytes
+    }
+
+    #[test]
+    fn a_trigger_has_no_zero_unit_and_no_sign() {
+        let is_good = |units: &[u16]| {
+            let name: Vec<u8> = units.iter().chain(&[0]).flat_map(|unit| unit.to_le_bytes()).collect();
+            is_entry(&with_trigger(&name))
+        };
+        for unit in 0..=u16::MAX {
+            for count in [1, 9] {
+                assert_eq!(is_good(&vec![unit; count]), unit != 0 && unit != SIGN, "{unit:#x}");
+            }
+        }
+        for count in 0..=66 {
+            let mut name = vec![0x2300; count];
+            assert_eq!(is_good(&name), (1..=64).contains(&count), "{count}");
+            for place in 0..count {
+                for unit in [0, SIGN] {
+                    name[place] = unit;
+                    assert!(!is_good(&name), "{unit:#x} at {place} of {count}");
+                }
+                name[place] = 0x2300;
+            }
+        }
+    }
+
+    #[test]
+    fn a_trigger_is_closed_and_has_whole_units() {
+        for len in 0..140 {
+            let mut name = vec![1; len];
+            assert!(!is_entry(&with_trigger(&name)), "{len} bytes");
+            name.extend([0, 0]);
+            assert_eq!(is_entry(&with_trigger(&name)), len % 2 == 0 && (2..=128).contains(&len), "{len} bytes");
+        }
     }
 
     #[test]

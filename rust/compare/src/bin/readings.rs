@@ -1,8 +1,8 @@
-//! The bench readings (docs/RULES.md, 13), each run by the library and by the reference. The last five, from the
-//! store of 40 bytes on, are not proved, and this program is what checks them.
+//! The bench readings (docs/RULES.md, 13), each run by the library and by the reference. The last seven, from
+//! the store of 40 bytes on, are not proved, and this program is what checks them.
 
 use compare::call::{Answer, Call, Values, by_library, by_reference};
-use compare::make::{EntryFields, G, entry_of_size, unit_bytes, units};
+use compare::make::{EntryFields, G, entry_of_size, packed, unit_bytes, units};
 use compare::state::{Guarded, State};
 use reference::POLICY_BYTES;
 use std::process::ExitCode;
@@ -13,10 +13,11 @@ type Implementation = fn(&mut State, &Call) -> Answer;
 /// A reading: its text, what answers it, and the statuses expected.
 type Reading = (&'static str, fn(Implementation) -> Vec<u32>, &'static [u32]);
 
-const READINGS: [Reading; 19] = [
+const READINGS: [Reading; 22] = [
     ("an entry of 43 bytes, one of 44", least_entry, &[2, 0]),
     ("a name of no units, closed", zero_unit_name, &[2]),
     ("a trigger's name of no units, of one", trigger_name, &[2, 0]),
+    ("a trigger called `A#`, `#A`, `A0`", sign_in_trigger, &[2, 2, 0]),
     ("'#' over hex digits, over itself, over another letter", wildcards, &[8, 0, 0]),
     ("`Boot####`, again, the whole namespace; then the variable of that name", sign_in_name, &[0, 20, 0, 8]),
     (
@@ -36,6 +37,12 @@ const READINGS: [Reading; 19] = [
     ("51 entries that sum to 16,384, and one more", full_record, &[0, 16384, 9]),
     ("128 entries of 44 bytes, and one more", most_entries, &[0, 5632, 9]),
     ("a policy record of 8,192 bytes: power-on, restart, register, dump, set", former_length, &[10, 10, 10, 10, 10]),
+    (
+        "a policy record with a trigger called `A#`: register, dump, set; with `A0`",
+        record_with_trigger,
+        &[10, 10, 10, 0, 0, 0],
+    ),
+    ("the record with `A#`: power-on, restart, and whether each cleared it", start_over_sign, &[0, 1, 0, 1]),
     ("the dump of two entries, 94 bytes", whole_dump, &[0, 94, 1]),
 ];
 
@@ -120,6 +127,11 @@ fn zero_unit_name(implementation: Implementation) -> Vec<u32> {
 fn trigger_name(implementation: Implementation) -> Vec<u32> {
     let mut bench = Bench::new(implementation, 256);
     ["", "T"].map(|trigger| bench.register(&entry("A").with_trigger(G, &units(trigger), 0))).to_vec()
+}
+
+fn sign_in_trigger(implementation: Implementation) -> Vec<u32> {
+    let mut bench = Bench::new(implementation, 256);
+    ["A#", "#A", "A0"].map(|trigger| bench.register(&entry("A").with_trigger(G, &units(trigger), 0))).to_vec()
 }
 
 fn wildcards(implementation: Implementation) -> Vec<u32> {
@@ -234,6 +246,33 @@ fn former_length(implementation: Implementation) -> Vec<u32> {
     let register = bench.register(&entry("A"));
     let dump = bench.call(&Call::Dump { buffer: vec![0; 8192] });
     vec![power_on, restart, register, dump, bench.set("A", &[1])]
+}
+
+/// An engine that is lent a policy record with one entry, "A" of type 3 with this trigger.
+fn lent(implementation: Implementation, trigger: &str) -> Bench {
+    let mut bench = Bench::new(implementation, 256);
+    let record = packed(&[entry("A").with_trigger(G, &units(trigger), 0).pack()]);
+    bench.state.policy = Guarded::new(&record, 3);
+    bench
+}
+
+fn record_with_trigger(implementation: Implementation) -> Vec<u32> {
+    let answers = ["A#", "A0"].map(|trigger| {
+        let register = lent(implementation, trigger).register(&entry("B"));
+        let dump = lent(implementation, trigger).call(&Call::Dump { buffer: vec![0; 100] });
+        [register, dump, lent(implementation, trigger).set("A", &[1])]
+    });
+    answers.concat()
+}
+
+fn start_over_sign(implementation: Implementation) -> Vec<u32> {
+    let starts = [Call::PowerOn { disabling_allowed: 1 }, Call::Restart { disabling_allowed: 1 }];
+    let answers = starts.map(|start| {
+        let mut bench = lent(implementation, "A#");
+        let status = bench.call(&start);
+        [status, u32::from(*bench.state.policy == [0; POLICY_BYTES])]
+    });
+    answers.concat()
 }
 
 /// The status, the length, and 1 if the bytes are the expected ones, later bytes untouched.

@@ -1,13 +1,13 @@
 //! Counts what the limits before E5 would have made another answer of.
 
-use super::count_if;
 use super::labels::CALLS_ON_RECORD;
+use super::{count_if, setting};
 use crate::call::Call;
 use crate::coverage::{Coverage, Input};
 use crate::damage::entry_sizes;
 use crate::state::State;
 use crate::{FORMER_ENTRIES, FORMER_POLICY_BYTES};
-use reference::{Entry, POLICY_BYTES, Pair, Policy, Switches};
+use reference::{Entry, POLICY_BYTES, Pair, Policy};
 use varpolicy::Status;
 
 /// Counts a call that got this status, if the former limits would have made it another.
@@ -53,11 +53,6 @@ fn count_length(coverage: &mut Coverage, lent: &State, call: &Call) {
     let (Some(policy), Some(_)) = (Policy::decode(&record), Pair::decode(&lent.nv, &lent.volatile)) else {
         return;
     };
-    let setting = match lent.read_switches() {
-        Switches { locked: true, .. } => 2,
-        Switches { enabled: false, .. } => 1,
-        _ => 0,
-    };
     let entries = usize::from(!policy.entries.is_empty());
-    coverage.input(Input::FormerLength, 6 * call + 3 * entries + setting);
+    coverage.input(Input::FormerLength, 6 * call + 3 * entries + setting(lent));
 }

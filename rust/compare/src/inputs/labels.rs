@@ -63,11 +63,65 @@ pub const BEYOND: [&str; 7] = [
 ];
 
 pub(super) const CALLS_ON_RECORD: [&str; 5] = ["power-on", "restart", "register", "dump", "set"];
+const SETTINGS: [&str; 3] = ["open", "disabled", "locked"];
 
 /// Every call that is lent the policy record, with what stands in it and the switches.
 pub fn former_length_labels() -> Vec<String> {
-    let contents = crossed(&["no entries", "entries"], &["open", "disabled", "locked"]);
-    crossed(&CALLS_ON_RECORD, &contents)
+    crossed(&CALLS_ON_RECORD, &crossed(&["no entries", "entries"], &SETTINGS))
+}
+
+/// '#' in the trigger's name of an entry: which units are '#', and what the entry's own name is.
+pub const TRIGGER_SIGN: [&str; 9] = [
+    "the only unit",
+    "the first of more",
+    "between others",
+    "the last of more",
+    "several, not all",
+    "each of more",
+    "no own name",
+    "own name without '#'",
+    "own name with '#'",
+];
+
+/// What holds beside '#' in the trigger's name.
+pub const SIGN_REFUSED: [&str; 6] = [
+    "engine locked",
+    "a repeat",
+    "as many entries as the limit",
+    "sum over the limit",
+    "engine disabled",
+    "policy record not valid",
+];
+
+/// What else makes an entry with '#' in its trigger's name malformed.
+pub const SIGN_DEFECT: [&str; 5] = [
+    "the name's odd length",
+    "no closing zero unit in it",
+    "a zero unit inside it",
+    "65 units or more in it",
+    "another field",
+];
+
+/// What may stand in an entry, and is no '#' in a trigger's name.
+pub const NEAR_SIGN: [&str; 8] = [
+    "type 0, '#' at byte 62 or behind",
+    "type 1, '#' at byte 62 or behind",
+    "type 2, '#' at byte 62 or behind",
+    "'#' in the own name, beside a trigger",
+    "'#' across Reserved and the name",
+    "'#' of Value and Reserved",
+    "'#' in the trigger's namespace",
+    "the unit 0x2323",
+];
+
+/// Every call that is lent the policy record, with the entry of it that has '#' in its trigger's name.
+pub fn sign_record_labels() -> Vec<String> {
+    crossed(&CALLS_ON_RECORD, &["the only entry", "the first", "between others", "the last", "several"])
+}
+
+/// Every call that is lent the policy record, with the switches.
+pub fn sign_setting_labels() -> Vec<String> {
+    crossed(&CALLS_ON_RECORD, &SETTINGS)
 }
 
 /// Names in packed entries.
@@ -152,7 +206,7 @@ pub fn size_labels() -> [&'static str; 13] {
 }
 
 /// What the trigger of the chosen entry is.
-pub const TRIGGER: [&str; 14] = [
+pub const TRIGGER: [&str; 13] = [
     "absent",
     "absent, Value 0",
     "one byte, Value, non-volatile",
@@ -163,8 +217,7 @@ pub const TRIGGER: [&str; 14] = [
     "two bytes, the first another",
     "more bytes",
     "257 bytes, the first Value",
-    "name with '#', there",
-    "name with '#', absent, and there what a pattern would target",
+    "absent, and Value in a variable with '#' for its digits",
     "the variable itself",
     "in another namespace than the variable",
 ];

@@ -5,6 +5,7 @@ mod former;
 pub mod labels;
 mod set;
 mod signs;
+mod triggers;
 
 use crate::FORMER_POLICY_BYTES;
 use crate::call::Call;
@@ -44,6 +45,7 @@ pub fn count_answered(coverage: &mut Coverage, lent: &State, call: &Call, status
         count_unsound(coverage, lent.read_switches(), call);
     }
     former::count(coverage, lent, call, status);
+    triggers::count(coverage, lent, call, status);
 }
 
 /// Counts what else is wrong with a call that was lent something unsound.
@@ -152,6 +154,15 @@ fn count_registration(coverage: &mut Coverage, state: &State, entry: &[u8]) {
     count_if(coverage, Input::Registration, &holds, 0);
     if let Some(entry) = decoded.filter(|_| !locked) {
         signs::count_registration(coverage, &policy, &entry);
+    }
+}
+
+/// The place in [`labels::SETTINGS`] of the switches.
+fn setting(lent: &State) -> usize {
+    match lent.read_switches() {
+        Switches { locked: true, .. } => 2,
+        Switches { enabled: false, .. } => 1,
+        _ => 0,
     }
 }
 

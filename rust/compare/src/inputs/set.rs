@@ -178,27 +178,25 @@ fn count_trigger(coverage: &mut Coverage, met: &Met, namespace: &Namespace, trig
         Some(_) => 8,
     };
     coverage.input(Input::Trigger, label);
-    let sign = trigger.name.contains(&NUMBER_SIGN);
     let other_namespace = trigger.namespace != *namespace;
     let holds = [
         (1, payload.is_none() && trigger.value == 0),
         (4, payload == Some(&[0]) && trigger.value == 0),
-        (10, payload.is_some() && sign),
-        (11, payload.is_none() && sign && is_pattern_of_some(met.pair, trigger)),
-        (12, !other_namespace && trigger.name == met.name),
-        (13, other_namespace && payload == Some(&[trigger.value])),
+        (10, payload.is_none() && is_matched_by_some(met.pair, trigger)),
+        (11, !other_namespace && trigger.name == met.name),
+        (12, other_namespace && payload == Some(&[trigger.value])),
     ];
     for (label, _) in holds.iter().filter(|(_, holds)| *holds) {
         coverage.input(Input::Trigger, *label);
     }
 }
 
-/// Whether the trigger's name, if it were a pattern, would target a variable that holds Value.
-fn is_pattern_of_some(pair: &Pair, trigger: &Trigger) -> bool {
+/// Whether a variable that holds Value has a name which, if it were a pattern, would match the trigger's.
+fn is_matched_by_some(pair: &Pair, trigger: &Trigger) -> bool {
     let mut variables = pair.non_volatile.iter().chain(&pair.volatile);
     variables.any(|variable| {
-        let targeted = variable.namespace == trigger.namespace && would_match(&trigger.name, &variable.name);
-        targeted && variable.payload == [trigger.value]
+        let near = variable.namespace == trigger.namespace && would_match(&variable.name, &trigger.name);
+        near && variable.payload == [trigger.value]
     })
 }
 

@@ -1,7 +1,9 @@
 //! Entries to register, field by field, and policy records bit by bit.
 
-use super::{Outcome, Sweep, boundaries, delete, engine, entry, one_of_each_type, packed_names, register, set};
-use super::{locking, with_each_bit_changed};
+use super::{
+    OPEN, Outcome, Sweep, boundaries, delete, engine, entry, locking, one_of_each_type, packed_names, register,
+};
+use super::{set, with_each_bit_changed};
 use crate::FORMER_POLICY_BYTES;
 use crate::call::Call;
 use crate::make::{EntryFields, G, entry_of_size, packed, units};
@@ -129,7 +131,18 @@ pub(super) fn lent_record() -> [Call; 7] {
     ]
 }
 
-/// Those calls over a record, the engine locked and disabled too.
+/// Every call that is lent a policy record: the starts and those.
+pub(super) fn lent_record_or_start() -> Vec<Call> {
+    let start = |disabling_allowed| [Call::PowerOn { disabling_allowed }, Call::Restart { disabling_allowed }];
+    [0, 1].into_iter().flat_map(start).chain(lent_record()).collect()
+}
+
+/// The switches of an engine that is open, disabled, locked and both.
+pub(super) fn open_or_not() -> [SwitchBytes; 4] {
+    [(1, 0), (0, 0), (1, 1), (0, 1)].map(|(enabled, locked)| SwitchBytes { enabled, locked, ..OPEN })
+}
+
+/// The calls that look into a policy record, over this one, the engine locked and disabled too.
 pub(super) fn over_record(sweep: &mut Sweep, record: &[u8]) -> Outcome {
     let state = State { policy: Guarded::new(record, 3), ..engine(&[]) };
     sweep.each(&state, lent_record())?;

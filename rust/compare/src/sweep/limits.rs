@@ -1,7 +1,7 @@
 //! The limits of the policy record: registrations up to them and beyond, records at them and beyond, and the former
 //! limits, which are none any more.
 
-use super::entries::{fresh, lent_record, over_record};
+use super::entries::{fresh, lent_record_or_start, open_or_not, over_record};
 use super::{ERASED, OPEN, Outcome, Sweep, engine, entry, one_of_each_type, register, state, store};
 use crate::call::{Call, Values};
 use crate::comparison::{Sides, check};
@@ -129,13 +129,11 @@ fn former_contents() -> [Vec<Vec<u8>>; 5] {
 /// Every call that is lent a policy record, over one that is good but for its length, which is the former; the engine
 /// open, disabled, locked and both.
 fn former_length(sweep: &mut Sweep) -> Outcome {
-    let start = |disabling_allowed| [Call::PowerOn { disabling_allowed }, Call::Restart { disabling_allowed }];
-    let calls: Vec<Call> = [0, 1].into_iter().flat_map(start).chain(lent_record()).collect();
+    let calls = lent_record_or_start();
     for entries in former_contents() {
         let record = &packed(&entries)[..FORMER_POLICY_BYTES];
         let repeats = entries.iter().cloned().map(register);
-        for (enabled, locked) in [(1, 0), (0, 0), (1, 1), (0, 1)] {
-            let switches = SwitchBytes { enabled, locked, ..OPEN };
+        for switches in open_or_not() {
             let state = State { policy: Guarded::new(record, 3), switches, ..engine(&[]) };
             sweep.each(&state, calls.iter().cloned().chain(repeats.clone()))?;
         }
@@ -145,19 +143,26 @@ fn former_length(sweep: &mut Sweep) -> Outcome {
 
 /// The entries of such a record registered after a power-on, and dumped: each is granted, and the dump has them all.
 fn former_dumps(sweep: &mut Sweep) -> Outcome {
-    for entries in former_contents() {
-        let mut sides = Sides::new(State::new(ERASED, ERASED, &[0x77; POLICY_BYTES]));
-        let bytes = entries.concat();
-        let power_on = Call::PowerOn { disabling_allowed: 0 };
-        for call in [power_on].into_iter().chain(entries.into_iter().map(register)) {
-            let status = sweep.comparison.exchange(&mut sides, &call)?.status;
-            check(status == Status::Success, "a record of the former limits is not taken over")?;
-        }
-        let dumped = sweep.comparison.exchange(&mut sides, &Call::Dump { buffer: vec![0x5A; bytes.len()] })?;
-        let expected = Values::Dumped { length: bytes.len(), buffer: bytes };
-        check(dumped.values == expected, "a dump differs from the one of the former limits")?;
+    former_contents().into_iter().try_for_each(|entries| {
+        let granted = entries.into_iter().map(|entry| (entry, Status::Success));
+        take_over(sweep, &granted.collect::<Vec<_>>())
+    })
+}
+
+/// Registers entries of an earlier edition after a power-on, each of which gets its status, and dumps those granted.
+pub(super) fn take_over(sweep: &mut Sweep, entries: &[(Vec<u8>, Status)]) -> Outcome {
+    let mut sides = Sides::new(State::new(ERASED, ERASED, &[0x77; POLICY_BYTES]));
+    let power_on = (Call::PowerOn { disabling_allowed: 0 }, Status::Success);
+    let registrations = entries.iter().map(|(entry, expected)| (register(entry.clone()), *expected));
+    for (call, expected) in [power_on].into_iter().chain(registrations) {
+        let status = sweep.comparison.exchange(&mut sides, &call)?.status;
+        check(status == expected, format_args!("taken over, {} got {status} and not {expected}", call.name()))?;
     }
-    Ok(())
+    let granted = entries.iter().filter(|(_, status)| *status == Status::Success);
+    let bytes: Vec<u8> = granted.flat_map(|(entry, _)| entry.iter().copied()).collect();
+    let dumped = sweep.comparison.exchange(&mut sides, &Call::Dump { buffer: vec![0x5A; bytes.len()] })?;
+    let expected = Values::Dumped { length: bytes.len(), buffer: bytes };
+    check(dumped.values == expected, "a dump differs from the entries that were taken over")
 }
 
 /// Records of every number of entries, up to the limit and beyond.

@@ -11,6 +11,7 @@ mod signs;
 mod stores;
 mod sums;
 mod switches;
+mod triggers;
 
 use crate::call::Call;
 use crate::comparison::{Comparison, Sides};
@@ -28,7 +29,7 @@ type Outcome = Result<(), String>;
 
 type Part = (&'static str, fn(&mut Sweep) -> Outcome);
 
-const PARTS: [Part; 10] = [
+const PARTS: [Part; 11] = [
     ("entries", entries::run),
     ("engine", engine::run),
     ("choices", choices::run),
@@ -39,6 +40,7 @@ const PARTS: [Part; 10] = [
     ("sums", sums::run),
     ("limits", limits::run),
     ("signs", signs::run),
+    ("triggers", triggers::run),
 ];
 
 struct Sweep<'a> {
@@ -103,10 +105,10 @@ fn locking(namespace: Namespace, name: &[u16]) -> Vec<u8> {
     EntryFields { lock_type: 1, ..EntryFields::new(namespace, name) }.pack()
 }
 
-/// One entry of each type, the fourth with a trigger, packed.
+/// One entry of each type, packed. The fourth has a trigger, and is malformed by one bit that makes '#' of its `3`.
 fn one_of_each_type() -> [Vec<u8>; 4] {
     let fields = |lock_type: u8, name: &str| EntryFields { lock_type, ..entry(name) };
-    let trigger = entry("D").with_trigger(G, &units("T#"), 7);
+    let trigger = entry("D").with_trigger(G, &units("T3"), 7);
     [fields(0, "AB"), fields(1, "B#"), fields(2, ""), trigger].map(|fields| fields.pack())
 }
 

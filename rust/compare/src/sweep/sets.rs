@@ -92,12 +92,12 @@ fn locking_entries() -> Vec<EntryFields> {
     let plain = (0..3).map(|lock_type| EntryFields { lock_type, ..entry("A") });
     let trigger = |name: &str, value: u8| entry("A").with_trigger(G, &units(name), value);
     let elsewhere = |name: &str| entry("A").with_trigger(OTHER_NAMESPACE, &units(name), 1);
-    let triggers = [trigger("T0", 0), trigger("T0", 1), trigger("T0", 0xFF), trigger("T#", 0), trigger("##", 1)];
+    let triggers = [trigger("T0", 0), trigger("T0", 1), trigger("T0", 0xFF), trigger("00", 0), trigger("00", 1)];
     plain.chain(triggers).chain([elsewhere("U0"), elsewhere("T0"), trigger("U0", 1), trigger("A", 1)]).collect()
 }
 
-/// A state with the variable "A", the variables "T0" and "##", and "U0" of another namespace, each in the store
-/// that its attributes say, or absent if they are 0.
+/// A state with the variable "A", the variables "T0" and "##", which is no trigger, and "U0" of another namespace, each
+/// in the store that its attributes say, or absent if they are 0.
 fn with_trigger(lock: &EntryFields, attributes: u32, payload: &[u8], at: u32) -> State {
     let records = |kind: u32| {
         let mut records = Vec::new();

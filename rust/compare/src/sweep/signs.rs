@@ -29,19 +29,19 @@ fn open(name: &[u16]) -> Vec<u8> {
 }
 
 /// The name with another unit at this place.
-fn with(name: &[u16], place: usize, unit: u16) -> Vec<u16> {
+pub(super) fn with(name: &[u16], place: usize, unit: u16) -> Vec<u16> {
     let mut name = name.to_vec();
     name[place] = unit;
     name
 }
 
 /// Every place of names of every length.
-fn all_places() -> impl Iterator<Item = (usize, usize)> {
+pub(super) fn all_places() -> impl Iterator<Item = (usize, usize)> {
     (1..=MAX_UNITS).flat_map(|count| (0..count).map(move |place| (count, place)))
 }
 
 /// The first, the last and the middle place of a name of so many units.
-fn some_places(count: usize) -> Vec<usize> {
+pub(super) fn some_places(count: usize) -> Vec<usize> {
     let mut places = vec![0, count / 2, count - 1];
     places.dedup();
     places
@@ -229,7 +229,7 @@ fn asking(name: &str) -> [EntryFields; 8] {
         entry(name),
         EntryFields { lock_type: 1, ..entry(name) },
         EntryFields { lock_type: 2, ..entry(name) },
-        entry(name).with_trigger(G, &units("T#"), 1),
+        entry(name).with_trigger(G, &units("T0"), 1),
         EntryFields { min_size: 2, ..entry(name) },
         EntryFields { max_size: 1, ..entry(name) },
         EntryFields { must_have: 4, ..entry(name) },
@@ -255,7 +255,7 @@ fn guards(sweep: &mut Sweep) -> Outcome {
         for at in [0, 2, 3] {
             let records = |kind: u32| {
                 let own = (at & 3 == kind).then(|| record(&G, &name, at, &[1]));
-                let trigger = (kind == 2).then(|| record(&G, &units("T#"), 2, &[1]));
+                let trigger = (kind == 2).then(|| record(&G, &units("T0"), 2, &[1]));
                 store(200, &own.into_iter().chain(trigger).collect::<Vec<_>>())
             };
             sweep.each(&state(&records(3), &records(2), &entries), calls())?;
@@ -296,13 +296,14 @@ fn records(sweep: &mut Sweep) -> Outcome {
     Ok(())
 }
 
-/// A trigger and stored variables with '#' at each place, and with a digit there: each is one variable and no other.
+/// A trigger of digits, and stored variables with '#' at each place or with the digit there: each is one variable and
+/// no other.
 fn triggers_and_stores(sweep: &mut Sweep) -> Outcome {
     let other = units("A");
     for (count, place) in all_places() {
         let name = digits(count);
         let sign = with(&name, place, NUMBER_SIGN);
-        let entries = [entry("A").with_trigger(G, &sign, 1).pack()];
+        let entries = [entry("A").with_trigger(G, &name, 1).pack()];
         for stored in [&name, &sign] {
             let stores = store(200, &[record(&G, stored, 3, &[1])]);
             let calls = [set(&other, 2, vec![1]), read(&sign), read(&name), set(&sign, 3, vec![2]), delete(&name)];

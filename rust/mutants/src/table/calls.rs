@@ -6,7 +6,7 @@ const REFUSED: &str = "Switches { enabled: true, locked: true, disabling_allowed
 pub(super) const POWER_ON: &str = "if !sound || volatile.len() > MAX_STORE || policy.len() != POLICY_BYTES {";
 pub(super) const RESTART: &str = "if Pair::decode(non_volatile, volatile).is_none() || policy.len() != POLICY_BYTES {";
 const STARTED: &str = "Switches { enabled: true, locked: false, disabling_allowed })";
-const REGISTER_LOCKED: &str =
+pub(super) const REGISTER_LOCKED: &str =
     "if switches.locked {\n        return RegisterGround::Locked;\n    }\n    let Some(decoded)";
 pub(super) const REPEATED: &str = "if policy.holds(&decoded) {\n        return RegisterGround::Repeated;";
 pub(super) const TOO_MANY: &str =

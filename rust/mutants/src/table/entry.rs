@@ -2,7 +2,8 @@
 
 use super::{Edit, edit};
 
-const FIELDS: &str = "version != VERSION || size != bytes.len() || min_size > max_size || must_have & cant_have != 0";
+pub(super) const FIELDS: &str =
+    "version != VERSION || size != bytes.len() || min_size > max_size || must_have & cant_have != 0";
 const OFFSET: &str = "cursor.take(offset_to_name.checked_sub(HEADER)?)?";
 const NAME: &str = "[] => Vec::new(),\n            closed";
 pub(super) const REPEATS: &str = "self.namespace == other.namespace && self.name == other.name";
@@ -168,12 +169,6 @@ pub(super) const EDITS: &[Edit] = &[
         TRIGGER_NAME,
         "let name = if cursor.rest().is_empty() { Vec::new() } else { name::decode_closed(cursor.rest())? };",
         "a trigger may have no name",
-    ),
-    edit(
-        "trigger-name-no-sign",
-        TRIGGER_NAME,
-        "let name = name::decode_closed(cursor.rest()).filter(|name| !name.contains(&0x23))?;",
-        "a trigger's name may have no '#'",
     ),
     edit(
         "trigger-reserved-zero",

@@ -5,7 +5,7 @@ use super::policy::{CHOICE, HOLDS, LIMITS, LONGER, TARGETING, ZEROS};
 use super::set::LOOKS_AT_RECORD;
 use super::{Edit, edit};
 
-const DUMPED: &str =
+pub(super) const DUMPED: &str =
     "    let Some(policy) = Policy::decode(record) else {\n        return (Status::VolumeCorrupted, 0);";
 
 pub(super) const LIMIT_EDITS: &[Edit] = &[

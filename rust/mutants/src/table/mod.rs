@@ -8,7 +8,8 @@
 //! byte higher (every Size is even); 7 bits of an entry's place (no place has more); the length that an append makes
 //! in 16 bits (it is 2,048 at most); MaxSize asked of an append's own length too (the sum is no shorter); MinSize less
 //! the stored length, 0 at least, asked of it; units counted for the rank that are nearly '#' (all entries that target a
-//! variable have them alike).
+//! variable have them alike); a '#' in a trigger's name that a set takes for a pattern, or for no variable (no trigger
+//! has one).
 
 mod calls;
 mod entry;
@@ -21,6 +22,7 @@ mod signs;
 mod store;
 mod sums;
 mod switches;
+mod triggers;
 
 /// An edit of one file of the reference.
 pub struct Edit {
@@ -49,7 +51,7 @@ impl Edit {
 }
 
 /// The edits of each file in `reference/src`.
-const FILES: [(&str, &[Edit]); 18] = [
+const FILES: [(&str, &[Edit]); 21] = [
     ("lib.rs", limits::EDITS),
     ("lib.rs", former::LIMIT_EDITS),
     ("cursor.rs", limits::CURSOR_EDITS),
@@ -57,15 +59,18 @@ const FILES: [(&str, &[Edit]); 18] = [
     ("name.rs", signs::NAME_EDITS),
     ("entry.rs", entry::EDITS),
     ("entry.rs", signs::ENTRY_EDITS),
+    ("entry.rs", triggers::ENTRY_EDITS),
     ("policy.rs", policy::EDITS),
     ("policy.rs", former::POLICY_EDITS),
     ("policy.rs", signs::POLICY_EDITS),
+    ("policy.rs", triggers::POLICY_EDITS),
     ("store.rs", store::EDITS),
     ("store.rs", signs::STORE_EDITS),
     ("engine.rs", calls::EDITS),
     ("engine.rs", former::EDITS),
     ("engine.rs", set::EDITS),
     ("engine.rs", signs::EDITS),
+    ("engine.rs", triggers::EDITS),
     ("engine.rs", sums::EDITS),
     ("switches.rs", switches::EDITS),
 ];

@@ -378,14 +378,6 @@ pub(super) const EDITS: &[Edit] = &[
         "the trigger is sought in the volatile store",
     ),
     edit(
-        "step4-trigger-pattern",
-        "let (_, _, variable) = pair.find(&trigger.namespace, &trigger.name)?;",
-        "let mut variables = pair.non_volatile.iter().chain(&pair.volatile); let variable = \
-         variables.find(|variable| variable.namespace == trigger.namespace && (variable.name == trigger.name || \
-         name::matches(&trigger.name, &variable.name)))?;",
-        "'#' in a trigger's name stands for a digit too",
-    ),
-    edit(
         "step4-trigger-first-byte",
         TRIGGERED,
         "(variable.payload[0] == trigger.value).then_some(SetGround::LockedOnVarState)",

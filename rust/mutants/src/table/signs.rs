@@ -4,7 +4,7 @@
 use super::calls::REPEATED;
 use super::entry::{REPEATS, TARGETS};
 use super::policy::{CHOICE, LIMITS, TARGETING};
-use super::set::{ASKED, CHOSEN, NAME, NOW, TRIGGER};
+use super::set::{ASKED, CHOSEN, NAME, NOW};
 use super::store::IS;
 use super::{Edit, edit};
 
@@ -459,11 +459,5 @@ pub(super) const EDITS: &[Edit] = &[
         NOW,
         "_ if name.contains(&0x23) => None, LockRule::LockNow => Some(SetGround::LockedNow),",
         "a variable with '#' in its name is held to no lock",
-    ),
-    edit(
-        "step4-trigger-no-sign",
-        TRIGGER,
-        "pair.find(&trigger.namespace, &trigger.name).filter(|_| !trigger.name.contains(&0x23))?;",
-        "a trigger with '#' in its name is absent",
     ),
 ];

@@ -1,13 +1,22 @@
 /** @file
-  Made the dumps in this folder with the library of the first edition: copied to the root of a checkout
-  of commit 1f6b891, where `rt staticlib varpolicy` had made that library, by
+  Made the dumps in this folder with the library of an earlier edition: copied to the root of a checkout of a
+  commit of that edition, where `rt staticlib varpolicy` had made its library, by
 
-    gcc -std=c11 -Iinclude make.c target/staticlib/libvarpolicy.a -o make && ./make .
+    gcc -std=c11 -Iinclude make.c target/staticlib/libvarpolicy.a -o make && ./make . NAME
+
+  By the first edition, commit 1f6b891:
 
   - full-count.dump: as many entries as that edition registers;
   - full-sum.dump: entries whose Sizes sum to all that its policy record has;
   - mixed.dump: every lock type with every kind of name, fields at their bounds, reserved bytes that are
     not zero.
+
+  By E6, commit 02b37e3, the last one that lets '#' stand in a trigger's name:
+
+  - signs.dump: twenty entries, three of them with '#' in the trigger's name: its first unit, one between
+    others, its last.
+
+  Without NAME it makes all four.
 
   SPDX-License-Identifier: BSD-2-Clause-Patent
 **/
@@ -161,11 +170,56 @@ static void make_mixed(const char *folder) {
   save(folder, "mixed");
 }
 
+static void make_signs(const char *folder) {
+  static const struct {
+    uint8_t     type, value;
+    const char *trigger, *name;
+  } Entries[20] = {
+      {3, 1, "#Phase", "A"},
+      {0, 0, NULL, NULL},
+      {1, 0, NULL, "Boot####"},
+      {2, 0, NULL, "#"},
+      {3, 1, "Phase0", "Boot####"},
+      {3, 0x23, "T", "A"}, /* Value and reserved byte have the bytes of '#' */
+      {3, 0, "\"$%!", NULL},
+      {0, 0, NULL, "PhaseDone#"},
+      {1, 0, NULL, "A"},
+      {2, 0, NULL, SIGNS},
+      {3, 1, "Phase#Done", "Driver####"},
+      {3, 1, "PhaseDone", "Driver####"},
+      {3, 0xFF, LETTERS, SIGNS},
+      {0, 0, NULL, "Boot00##"},
+      {1, 0, NULL, "0123456789#"},
+      {2, 0, NULL, NULL},
+      {3, 0, "t", "#"},
+      {3, 0, "00fF", "########"},
+      {0, 0, NULL, LETTERS},
+      {3, 1, "PhaseDone#", "SysPrep####"},
+  };
+  unsigned place;
+
+  power_on();
+  for (place = 0; place < 20; place++) {
+    add((fields){(uint8_t)place, {0, 1024, 3, 0x40}, Entries[place].type, 0, Entries[place].trigger,
+                 Entries[place].value, Entries[place].name});
+  }
+  save(folder, "signs");
+}
+
+static const struct {
+  const char *name;
+  void (*make)(const char *folder);
+} Dumps[] = {
+    {"full-count", make_full_count}, {"full-sum", make_full_sum}, {"mixed", make_mixed}, {"signs", make_signs}};
+
 int main(int count, char **words) {
   const char *folder = count > 1 ? words[1] : ".";
+  size_t      place;
 
-  make_full_count(folder);
-  make_full_sum(folder);
-  make_mixed(folder);
+  for (place = 0; place < sizeof Dumps / sizeof Dumps[0]; place++) {
+    if (count < 3 || strcmp(words[2], Dumps[place].name) == 0) {
+      Dumps[place].make(folder);
+    }
+  }
   return 0;
 }
