@@ -1,22 +1,15 @@
 /** @file
-  Made the dumps in this folder with the library of an earlier edition: copied to the root of a checkout of a
-  commit of that edition, where `rt staticlib varpolicy` had made its library, by
+  Made the dumps in this folder with the library of the first edition, commit 1f6b891: copied to the root of
+  a checkout of it, where `rt staticlib varpolicy` had made the library, by
 
-    gcc -std=c11 -Iinclude make.c target/staticlib/libvarpolicy.a -o make && ./make . NAME
-
-  By the first edition, commit 1f6b891:
+    gcc -std=c11 -Iinclude make.c target/staticlib/libvarpolicy.a -o make && ./make FOLDER
 
   - full-count.dump: as many entries as that edition registers;
   - full-sum.dump: entries whose Sizes sum to all that its policy record has;
   - mixed.dump: every lock type with every kind of name, fields at their bounds, reserved bytes that are
-    not zero.
-
-  By E6, commit 02b37e3, the last one that lets '#' stand in a trigger's name:
-
+    not zero;
   - signs.dump: twenty entries, three of them with '#' in the trigger's name: its first unit, one between
     others, its last.
-
-  Without NAME it makes all four.
 
   SPDX-License-Identifier: BSD-2-Clause-Patent
 **/
