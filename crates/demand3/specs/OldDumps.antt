@@ -121,8 +121,8 @@ module _ (s : State) (allowed : Bool) (answered0 : isSuccess (step s (powerOn al
             keeps = r .ends;
           })
 
-      pub old-dump-whole-again : DumpsBack (end machine (poweredOn s allowed) (map register es)) es
-      old-dump-whole-again = dumps-back (end machine (poweredOn s allowed) (map register es)) es (old-dumps-whole .holds)
+      pub old-dumps-whole-come-back : DumpsBack (end machine (poweredOn s allowed) (map register es)) es
+      old-dumps-whole-come-back = dumps-back (end machine (poweredOn s allowed) (map register es)) es (old-dumps-whole .holds)
 
     -- however the bytes of the dump are cut into entries that were well formed, it is these that are registered
     pub old-dumps-cut : (ds : List Bytes) → All (λ e. firstWellFormed e ≡ true) ds → flat ds ≡ flat es → Registrations (poweredOn s allowed) ds
