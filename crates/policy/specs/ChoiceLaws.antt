@@ -1,11 +1,11 @@
 -- The choice with its place is the chosen entry of the list. Assumes nothing.
-use Prim.Native.Nat.{ℕ, _+_, _≤_}
+use Prim.Native.Nat.{ℕ, suc, _+_, _≤_, _<_}
 use mathlib.Core.Path.{_≡_, refl, sym, ap, _∙_, subst}
 use mathlib.Core.List.{List, [], _∷_, _++_, append-assoc}
 use mathlib.Core.Bool.{Bool, true, false, cond}
 use mathlib.Core.Option.{Option, none, some}
 use native.Mathlib.Omega.{arith}
-use lib.ListN.{length, take, drop, length-append, take-append-drop}
+use lib.ListN.{length, take, drop, length-append, length-drop, take-append-drop}
 use lib.Seq.{take-append-seam, drop-append-seam, drop-append-add, drop-at, take-at}
 use lib.Dec.{ltb}
 use Rattle.limits.specs.Limits.{sizeAt}
@@ -13,9 +13,9 @@ use Rattle.lists.specs.Lists as lists
 use Rattle.lists.specs.Lists.{All}
 use Rattle.lists.specs.ListsLaws.{all-right, all-here}
 use Rattle.slices.specs.Test.{_and_}
-use Rattle.slices.specs.Bytes.{Bytes, le16, part}
+use Rattle.slices.specs.Bytes.{Bytes, AreBytes, le16, part}
 use Rattle.slices.specs.NumberLaws.{le16-take, le16-drop}
-use Rattle.slices.specs.PartLaws.{part-of}
+use Rattle.slices.specs.PartLaws.{part-of, bytes-part}
 use Rattle.slices.specs.Chunks.{flat}
 use Rattle.slices.specs.ChunksLaws.{flat-append, flat-one, flat-chunks}
 use Rattle.names.specs.Name.{Variable}
@@ -112,6 +112,11 @@ module _ (es : List Bytes) (v : Variable) (i at r : ℕ) (e : Bytes) (k : Place 
   place-split : es ≡ take i es ++ (e ∷ drop (i + 1) es)
   place-split = sym (take-append-drop i es) ∙ ap (λ (l : List Bytes). take i es ++ l) (k .index)
 
+  pub place-within : i < length es
+  place-within =
+      let d : length (drop i es) ≡ suc (length (drop (i + 1) es)) = ap length (k .index) in
+      let l = length-drop i es in omega arith
+
   place-flat : (m : Bytes) → flat es ++ m ≡ flat (take i es) ++ (e ++ (flat (drop (i + 1) es) ++ m))
   unfolding flat
   place-flat m =
@@ -153,3 +158,11 @@ module _ (p : Bytes) (v : Variable) (i at r : ℕ) (e : Bytes) (k : Place (entri
 
   pub chosen-entry : part at (at + le16 p (at + sizeAt)) p ≡ e
   chosen-entry = rw (chosen-size, part-of at (length e) p) chosen-bytes
+
+-- ---- the chosen entry of a record of bytes is bytes
+pub chosen-in-bytes : (p : Bytes) (v : Variable) (e : Bytes) → AreBytes p → chosen (entriesOf p) v ≡ some e → AreBytes e
+chosen-in-bytes p v e h k = go (choiceOf (entriesOf p) v) (rw k at (choice-agrees (entriesOf p) v))
+  where
+    go : (c : Choice) → Agrees (entriesOf p) v c (some e) → AreBytes e
+    go Nothing a = absurd a
+    go (Chosen i at r) a = subst AreBytes (chosen-entry p v i at r e a) (bytes-part at _ p h)
