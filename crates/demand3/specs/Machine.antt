@@ -4,13 +4,19 @@
 use Prim.Native.Nat.{ℕ, _≤_}
 use mathlib.Core.List.{List, [], _∷_, _++_}
 use mathlib.Core.Bool.{Bool, true, cond}
-use lib.ListN.{length, take}
+use mathlib.Core.Option.{Option, none, some}
+use lib.ListN.{length, getD, take}
 use Rattle.lists.specs.Lists.{over}
 use Rattle.slices.specs.Bytes.{Bytes}
 use Rattle.names.specs.Name.{Variable, named}
 use Rattle.entry.specs.Entry.{wellFormed, targets, rank}
 use Rattle.policy.specs.Policy.{entriesOf, sizesSum}
+use Rattle.policy.specs.Choice.{placeOf}
 use Rattle.status.specs.Status.{isSuccess}
+use Rattle.rules.specs.declared.Ground.{Ground}
+use Rattle.rules.specs.declared.Ground.the-variants.{NoGround, SizeGround, AttributeGround, LockGround}
+use Rattle.rules.specs.declared.Report.{Report}
+use Rattle.rules.specs.Report.{reportOf}
 use Rattle.rules.specs.Engine.{State, Answer, Call, stateOf, step}
 use Rattle.rules.specs.Engine.Call.{powerOn, restart, register, dump, lock, disable, query, read, set}
 use Rattle.history.specs.History.{Outcome, Kind, Machine}
@@ -43,13 +49,26 @@ inBuffer (registers e) o b = b
 inBuffer dumps o b = over o b
 inBuffer keeps o b = b
 
-abbrev pub answerIn : Call → List Bytes → Answer → Answer
-answerIn c o a =
+-- and, in the report of a set that has a ground, the place: of the entry that has it among the entries es, its place in the order o
+abbrev pub placeIn : Ground → List Bytes → List Bytes → ℕ → ℕ
+placeIn NoGround es o k = k
+placeIn SizeGround es o k = placeOf o (getD es k [])
+placeIn AttributeGround es o k = placeOf o (getD es k [])
+placeIn LockGround es o k = placeOf o (getD es k [])
+
+abbrev pub reportIn : List Bytes → List Bytes → Option Report → Option Report
+reportIn es o none = none
+reportIn es o (some p) =
+    some (reportOf (p .ground) (placeIn (p .ground) es o (p .place)) (p .rank) (p .missing) (p .prohibited) (p .lowest))
+
+abbrev pub answerIn : Call → List Bytes → List Bytes → Answer → Answer
+answerIn c es o a =
     record {
       status = a .status;
       number = a .number;
       bytes = cond (isSuccess (a .status)) (inBuffer (kindOf c) o (a .bytes)) (a .bytes);
       switches = a .switches;
+      report = reportIn es o (a .report);
     }
 
 -- A REBUILD'S CALLS (RULES.md, 12.3): restart with disabling allowed as it was

@@ -3,7 +3,7 @@ use Prim.Native.Nat.{ℕ, suc, _+_, _≤_}
 use mathlib.Core.Path.{_≡_, refl, sym, ap, ap₂, _∙_, subst, subst⁻¹}
 use mathlib.Core.List.{List, [], _∷_, _++_, map, append-assoc, append-nil, List·Permᴰ, Permᴰ·refl, Permᴰ·append-right}
 use mathlib.Core.Bool.{Bool, true, false, cond}
-use mathlib.Core.Option.{Option, none}
+use mathlib.Core.Option.{Option, none, some}
 use native.Mathlib.Omega.{arith}
 use lib.ListN.{length, take, length-append}
 use borrow.Author.Tests.{le-leb}
@@ -18,15 +18,24 @@ use Rattle.entry.specs.Entry.{wellFormed, sameTarget}
 use Rattle.entry.specs.EntryLaws.{well-formed-header}
 use Rattle.policy.specs.Policy.{entriesOf, sizesSum, packPolicy, policyValid}
 use Rattle.policy.specs.PolicyLaws.{Entries, policyValid-length, policy-entries, pack-entriesOf, entriesOf-formed, entriesOf-pack, entries-policy, sizesSum-flat, flat-unique}
-use Rattle.policy.specs.Choice.{chosen}
+use Rattle.policy.specs.Choice.{chosen, placeOf}
+use Rattle.policy.specs.PlaceLaws.{StandsAt}
 use Rattle.stores.specs.Pair.{sound}
 use Rattle.status.specs.declared.Status.{Status}
 use Rattle.status.specs.declared.Status.the-variants.{Success}
 use Rattle.status.specs.Status.{isSuccess}
 use Rattle.switches.specs.declared.Switches.{Switches}
 use Rattle.switches.specs.Switches.{freshSwitches}
+use Rattle.rules.specs.declared.Ground.{Ground}
+use Rattle.rules.specs.declared.Ground.the-variants.{NoGround, SizeGround, AttributeGround, LockGround}
+use Rattle.rules.specs.declared.Decision.{Decision}
+use Rattle.rules.specs.declared.Decision.the-variants.{Refuse, Block, Delete, Keep, Store}
+use Rattle.rules.specs.declared.Report.{Report}
 use Rattle.rules.specs.Set.{Request, badRequest, requestStatus, decision}
-use Rattle.rules.specs.Engine.{State, Call, Answer, stateOf, onlyStatus, powerOnStatus, restartStatus, registerStatus, dumpStatus, speaking, decisionBy, decisionIn, status, given, refusal, answer, after, effect, step}
+use Rattle.rules.specs.DecisionLaws.{taken-named}
+use Rattle.rules.specs.Report.{reportFor, decisionReport}
+use Rattle.rules.specs.ReportLaws.{ground-given, chosen-stands}
+use Rattle.rules.specs.Engine.{State, Call, Answer, stateOf, uses, answerOf, setDecision, setReport, reportOn, onlyStatus, powerOnStatus, restartStatus, registerStatus, dumpStatus, speaking, decisionBy, decisionIn, status, given, refusal, answer, after, effect, step}
 use Rattle.rules.specs.Engine.Call.{powerOn, restart, register, dump, lock, disable, query, read, set}
 use Rattle.rules.specs.EngineLaws.{step-status, refused-changes-nothing, granted-effect}
 use Rattle.rules.specs.StateLaws.{Sound, power-on-lists, restart-lists, register-lists, step-sound, restart-done}
@@ -34,7 +43,7 @@ use Rattle.history.specs.History.{Outcome, Kind, entriesAfter, outcomeOf, cutAf
 use Rattle.history.specs.History.Outcome.{granted, refused, cut}
 use Rattle.history.specs.History.Kind.{starts, registers, dumps, keeps}
 use Rattle.history.specs.HistoryLaws.{granted-refused, SameChoice, Laws}
-use Rattle.demand3.specs.Machine.{stateIn, answerIn, outcomeBy, kindOf, restartOf, closingOf, machine}
+use Rattle.demand3.specs.Machine.{stateIn, reportIn, answerIn, outcomeBy, kindOf, restartOf, closingOf, machine}
 use Rattle.demand3.specs.OrderLaws.{flat-length, length-flat, contains-perm, entries-perm, entries-left, entries-new, over-pack, overwrite-perm, overwrite-take}
 
 -- ---- another order of the entries: a state of the rules with the record of the entries o
@@ -91,11 +100,39 @@ module _ (s : State) (w : Sound s) (o : List Bytes) where
   module _ (l : SameChoice machine es o) where
     record Same (c : Call) : Type 0 where
       status : status (withEntries s o) c ≡ status s c
-      given : given (withEntries s o) c ≡ answerIn c o (given s c)
+      given : given (withEntries s o) c ≡ answerIn c es o (given s c)
       effect : effect (withEntries s o) c ≡ stateIn (entriesAfter machine (kindOf c) granted o) (effect s c)
 
     decision-same : (r : Request) → decisionIn (withEntries s o) r ≡ decisionIn s r
     decision-same r = rw (lists-o (l .perm)) (set-same es o (s .switches .enabled) (s .nv) (s .vol) r l)
+
+    -- what is decided of a set in any state
+    decides-same : (r : Request) → setDecision (withEntries s o) r ≡ setDecision s r
+    decides-same r = rw (valid-o (l .perm), w .policy, decision-same r)
+
+    -- the report of the entry e, at its place in es and in o
+    moved : (g : Ground) (e : Bytes) (a : ℕ) → StandsAt es e → some (reportFor g (placeOf o e) e a) ≡ reportIn es o (some (reportFor g (placeOf es e) e a))
+    unfolding reportFor
+    moved NoGround e a k = refl
+    moved SizeGround e a k = rw (k .is)
+    moved AttributeGround e a k = rw (k .is)
+    moved LockGround e a k = rw (k .is)
+
+    decided-same : (r : Request) (d : Decision) → setDecision s r ≡ d
+        → some (decisionReport d o (chosen o (r .variable)) (r .attributes)) ≡ reportIn es o (some (decisionReport d es (chosen es (r .variable)) (r .attributes)))
+    unfolding chosen
+    decided-same r (Refuse n) e = refl
+    decided-same r (Block g) e =
+        let k = ground-given s r g e in
+        rw (← l .choice (r .variable) (taken-named r (k .asked)), k .choice) (moved g (k .entry) (r .attributes) (chosen-stands s r g k))
+    decided-same r Delete e = refl
+    decided-same r Keep e = refl
+    decided-same r Store e = refl
+
+    report-same : (r : Request) → some (setReport (withEntries s o) r) ≡ reportIn es o (some (setReport s r))
+    report-same r =
+        ap₂ (λ (d : Decision) (x : List Bytes). some (decisionReport d x (chosen x (r .variable)) (r .attributes))) (decides-same r) (lists-o (l .perm))
+        ∙ decided-same r (setDecision s r) refl
 
     same : (c : Call) → Same c
     unfolding powerOnStatus restartStatus flat
@@ -111,7 +148,7 @@ module _ (s : State) (w : Sound s) (o : List Bytes) where
         record {
           status = rw (valid-o (l .perm), lists-o (l .perm), w .policy) (dump-same es o buffer (l .perm));
           given = rw (lists-o (l .perm))
-              (ap₂ (λ (m : ℕ) (b : Bytes). record { status = Success; number = m; bytes = b; switches = none }) (length-flat (l .perm)) (overwrite-perm (l .perm) buffer));
+              (ap₂ (λ (m : ℕ) (b : Bytes). answerOf Success m b none) (length-flat (l .perm)) (overwrite-perm (l .perm) buffer));
           effect = kept (l .perm) _ _ _;
         }
     same lock = record { status = refl; given = refl; effect = kept (l .perm) _ _ _ }
@@ -121,18 +158,22 @@ module _ (s : State) (w : Sound s) (o : List Bytes) where
     same (set r) =
         record {
           status = rw (valid-o (l .perm), w .policy, decision-same r);
-          given = refl;
+          given = ap (λ (p : Option Report). record { status = Success; number = 0; bytes = []; switches = none; report = p }) (report-same r);
           effect = rw (decision-same r) (kept (l .perm) _ _ _);
         }
 
     -- and it is refused the same
-    refusal-same : (c : Call) (n : Status) → isSuccess n ≡ false → refusal (withEntries s o) c n ≡ answerIn c o (refusal s c n)
-    refusal-same c n h = rw (h, lists-o (l .perm), length-flat (l .perm))
+    reports-same : (x : Option Request) → reportOn (withEntries s o) x ≡ reportIn es o (reportOn s x)
+    reports-same none = refl
+    reports-same (some r) = report-same r
 
-    answer-same : (c : Call) (n : Status) → answer (withEntries s o) c n ≡ answerIn c o (answer s c n)
+    refusal-same : (c : Call) (n : Status) → isSuccess n ≡ false → refusal (withEntries s o) c n ≡ answerIn c es o (refusal s c n)
+    refusal-same c n h = rw (h, reports-same (uses c .reports), lists-o (l .perm), length-flat (l .perm))
+
+    answer-same : (c : Call) (n : Status) → answer (withEntries s o) c n ≡ answerIn c es o (answer s c n)
     answer-same c n = go (isSuccess n) refl
       where
-        go : (b : Bool) → isSuccess n ≡ b → cond b (given (withEntries s o) c) (refusal (withEntries s o) c n) ≡ answerIn c o (cond b (given s c) (refusal s c n))
+        go : (b : Bool) → isSuccess n ≡ b → cond b (given (withEntries s o) c) (refusal (withEntries s o) c n) ≡ answerIn c es o (cond b (given s c) (refusal s c n))
         go true h = same c .given
         go false h = refusal-same c n h
 
@@ -170,7 +211,7 @@ reorders : {t : Bool} {s : State} {o : List Bytes} → Reached t s → List·Per
 reorders {s = s} {o = o} w d = record { uncut = w .uncut; sound = subst⁻¹ Sound (reordered-in s o (w .sound) d) (reordered-sound s (w .sound) o d) }
 
 answers-same : (s : State) (o : List Bytes) (c : Call) → Sound s → SameChoice machine (entriesOf (s .policy)) o
-    → step (stateIn o s) c .0 ≡ answerIn c o (step s c .0)
+    → step (stateIn o s) c .0 ≡ answerIn c (entriesOf (s .policy)) o (step s c .0)
 unfolding step
 answers-same s o c w l =
     ap (λ (z : State). step z c .0) (reordered-in s o w (l .perm))
@@ -367,7 +408,7 @@ laws = record {
       ap (λ (p : Bytes). stateOf (s .nv) (s .vol) p (s .switches))
       (over-o s (w .sound) (entriesOf (s .policy)) (Permᴰ·refl (entriesOf (s .policy))) ∙ pack-entriesOf (s .policy) (w .sound .policy));
   orderedAgain = λ {t} {s} {o} {x} w e d. ordered-again s x o d;
-  outcomeIn = λ c o a. refl;
+  outcomeIn = λ c es o a. refl;
   reorders = λ {t} {s} {o} w d. reorders w d;
   relists = λ {t} {s} {o} w d. ap entriesOf (over-o s (w .sound) o d) ∙ lists-o s (w .sound) o d;
   continues = λ {t} {s} c w f. continues c w;

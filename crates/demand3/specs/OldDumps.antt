@@ -22,7 +22,7 @@ use Rattle.policy.specs.Policy.{lengthBy, entriesOf, packPolicy, validWithin, p
 use Rattle.policy.specs.PolicyLaws.{WellFormed, Entries, valid-packs, packs-policy, packs-only, chunks-pack, flat-unique, policy-entries}
 use Rattle.status.specs.Status.{isSuccess}
 use Rattle.status.specs.declared.Status.the-variants.{Success, VolumeCorrupted}
-use Rattle.rules.specs.Engine.{State, Call, Answer, stateOf, uses, dumpStatus, effect, step}
+use Rattle.rules.specs.Engine.{State, Call, Answer, stateOf, answerOf, uses, dumpStatus, effect, step}
 use Rattle.rules.specs.Engine.Call.{powerOn, register, dump}
 use Rattle.rules.specs.Grounds.{PolicyEntries}
 use Rattle.rules.specs.FoundLaws.{entries-packs, packs-entries}
@@ -65,7 +65,7 @@ pub record AllRegister (t : State) (es : List Bytes) : Type 0 where
 -- a dump in the state t, into a buffer with room, hands out es end to end and leaves the buffer's later bytes
 abbrev pub DumpsBack : State → List Bytes → Type 0
 DumpsBack t es = (buffer : Bytes) → length (flat es) ≤ length buffer
-    → step t (dump buffer) .0 ≡ record { status = Success; number = length (flat es); bytes = overwrite buffer 0 (flat es); switches = none }
+    → step t (dump buffer) .0 ≡ answerOf Success (length (flat es)) (overwrite buffer 0 (flat es)) none
 
 dumps-back : (t : State) (es : List Bytes) → PolicyEntries (t .policy) es → DumpsBack t es
 unfolding step dumpStatus

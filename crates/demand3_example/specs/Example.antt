@@ -4,7 +4,7 @@ use Prim.Native.Nat.{ℕ, zero, suc}
 use mathlib.Core.Path.{_≡_, refl, sym, ap, _∙_}
 use mathlib.Core.List.{List, [], _∷_, _++_, map, List·Permᴰ·swap}
 use mathlib.Core.Bool.{Bool, true, false}
-use mathlib.Core.Option.{none, some}
+use mathlib.Core.Option.{Option, none, some}
 use mathlib.Core.Logic.{inl, inr}
 use native.Mathlib.Omega.{arith}
 use lib.ListN.{take, replicate, getD}
@@ -19,6 +19,9 @@ use Rattle.names.specs.Name.{Variable, units}
 use Rattle.entry.specs.Entry.{wellFormed, namespaceOf, targets, rank}
 use Rattle.status.specs.Status.{isSuccess, statusNumber}
 use Rattle.switches.specs.Switches.{freshSwitches}
+use Rattle.rules.specs.declared.Ground.the-variants.{LockGround}
+use Rattle.rules.specs.declared.Report.{Report}
+use Rattle.rules.specs.Report.{reportOf}
 use Rattle.rules.specs.Engine as rules
 use Rattle.rules.specs.Engine.{State, Answer, Call, step}
 use Rattle.rules.specs.Engine.Call.{powerOn, restart, register, dump, lock, disable, read, set}
@@ -163,6 +166,11 @@ numberOf n [] = 0
 numberOf zero (a ∷ l) = a .number
 numberOf (suc n) (a ∷ l) = numberOf n l
 
+abbrev reportAt : ℕ → List Answer → Option Report
+reportAt n [] = none
+reportAt zero (a ∷ l) = a .report
+reportAt (suc n) (a ∷ l) = reportAt n l
+
 -- WHAT THE CALLS ANSWER, computed
 pub record Answers : Type 0 where
   pub powered : isSuccess (step board (powerOn true) .0 .status) ≡ true
@@ -180,6 +188,11 @@ pub record Answers : Type 0 where
   pub dumpedPlain : bytesOf 10 answersWithout ≡ e₁ ++ e₂ ++ e₃ ++ (9 ∷ 9 ∷ [])
   -- the last dump, after the restart
   pub dumpedLast : bytesOf 17 answersGot ≡ e₃ ++ (4 ∷ [])
+  -- the report of the first refused set: a lock, by the entry at place 0 with one '#'. That of the set of "AA": in the other order the
+  -- same entry stands at place 1; without the rebuilds at place 0
+  pub reported : reportAt 2 answersGot ≡ some (reportOf LockGround 0 1 0 0 0)
+  pub reportedOther : reportAt 9 answersGot ≡ some (reportOf LockGround 1 1 0 0 0)
+  pub reportedPlain : reportAt 9 answersWithout ≡ some (reportOf LockGround 0 1 0 0 0)
 
 pub answered : Answers
 unfolding rulesOpened
@@ -194,6 +207,9 @@ answered = record {
   dumped = same-eq (bytesOf 10 answersGot) (e₂ ++ e₁ ++ e₃ ++ (9 ∷ 9 ∷ [])) refl;
   dumpedPlain = same-eq (bytesOf 10 answersWithout) (e₁ ++ e₂ ++ e₃ ++ (9 ∷ 9 ∷ [])) refl;
   dumpedLast = same-eq (bytesOf 17 answersGot) (e₃ ++ (4 ∷ [])) refl;
+  reported = refl;
+  reportedOther = refl;
+  reportedPlain = refl;
 }
 
 -- THE ORDER THAT STANDS, computed

@@ -20,7 +20,7 @@ use Rattle.status.specs.declared.Status.{Status}
 use Rattle.status.specs.declared.Status.the-variants.{Success, InvalidParameter, VolumeCorrupted, NotFound}
 use Rattle.switches.specs.declared.Switches.{Switches}
 use Rattle.rules.specs.Set.{exists}
-use Rattle.rules.specs.Engine.{State, stateOf, readStatus, status, answer, step}
+use Rattle.rules.specs.Engine.{State, answerOf, stateOf, readStatus, status, answer, step}
 use Rattle.rules.specs.Engine.Call.{read}
 use Rattle.engine.specs.declared.Reading.{Reading}
 use Rattle.switches.specs.Switches.{refusedSwitches}
@@ -79,7 +79,7 @@ module _ (nv vol : Bytes) (v : Variable) where
         let b = payload-bounds nv vol place refl (place-within-stores nv vol v) in
         let r = stands k in
         record {
-          answers = h ∙ ap₂ (λ (n : ℕ) (d : Bytes). (record { status = Success; number = n; bytes = d; switches = none }, before))
+          answers = h ∙ ap₂ (λ (n : ℕ) (d : Bytes). (answerOf Success n d none, before))
               (ap attributesIn (lookup-place nv vol v)) (ap payloadIn (lookup-place nv vol v) ∙ sym (b .2));
           store = place-nv nv vol v (r .0) (r .1) ∙ ap (λ o. hasNV (attributesIn o)) (sym (r .1) ∙ lookup-place nv vol v);
           ordered = b .0;

@@ -1,6 +1,7 @@
 -- What a set answers and leaves, by what is decided of it. Assumes nothing.
 use mathlib.Core.Path.{_≡_, refl, sym, ap, ap₂, _∙_}
 use mathlib.Core.Bool.{Bool, true, false, cond}
+use mathlib.Core.List.{List}
 use Rattle.slices.specs.Test.{_and_}
 use Rattle.slices.specs.TestLaws.{and-no}
 use Rattle.slices.specs.Bytes.{Bytes}
@@ -14,27 +15,39 @@ use Rattle.switches.specs.declared.Switches.{Switches}
 use Rattle.rules.specs.declared.Decision.{Decision}
 use Rattle.rules.specs.declared.Decision.the-variants.{Refuse, Block, Delete, Keep, Store}
 use Rattle.rules.specs.Set.{Request, decision, decisionStatus, decisionStore}
-use Rattle.rules.specs.Engine.{State, stateOf, speaking, decisionBy, decisionIn, onlyStatus, after, step}
+use Rattle.rules.specs.Report.{noReport, decisionReport}
+use Rattle.rules.specs.Engine.{State, stateOf, speaking, decisionBy, decisionIn, setDecision, withReport, setReport, after, step}
 use Rattle.rules.specs.Engine.Call.{set}
-use Rattle.rules.specs.EngineLaws.{answer-alone}
+use Rattle.rules.specs.EngineLaws.{answer-reported}
+use Rattle.set.specs.declared.Decided.{Decided}
+use Rattle.set.specs.Decided.{decidedBy}
+use Rattle.engine.specs.declared.SetAnswer.{SetAnswer}
 use Rattle.engine.proofs.Steps.{step-is}
 
 -- ---- 10
-set-corrupt : (nv vol p : Bytes) (w : Switches) (r : Request) → (sound nv vol and policyValid p) ≡ false
-    → step (stateOf nv vol p w) (set r) ≡ (onlyStatus VolumeCorrupted, stateOf nv vol p w)
-set-corrupt nv vol p w r h =
-    step-is (stateOf nv vol p w) (set r) VolumeCorrupted (ap (λ b. cond b (decisionStatus (decisionIn (stateOf nv vol p w) r)) VolumeCorrupted) h)
+module _ {a : SetAnswer} (nv vol p : Bytes) (w : Switches) (r : Request) (k : a ≡ record { status = VolumeCorrupted; report = noReport }) where
+  set-corrupt : (sound nv vol and policyValid p) ≡ false → step (stateOf nv vol p w) (set r) ≡ (withReport (a .status) (a .report), stateOf nv vol p w)
+  set-corrupt h =
+      let e : setDecision (stateOf nv vol p w) r ≡ Refuse VolumeCorrupted = ap (λ b. cond b (decisionIn (stateOf nv vol p w) r) (Refuse VolumeCorrupted)) h in
+      step-is (stateOf nv vol p w) (set r) VolumeCorrupted (ap decisionStatus e)
+      ∙ ap (λ d. (withReport VolumeCorrupted (decisionReport d (entriesOf p) (chosen (entriesOf p) (r .variable)) (r .attributes)), stateOf nv vol p w)) e
+      ∙ ap (λ x. (withReport (x .status) (x .report), stateOf nv vol p w)) (sym k)
 
-pub set-unsound : (nv vol p : Bytes) (w : Switches) (r : Request) → sound nv vol ≡ false
-    → step (stateOf nv vol p w) (set r) ≡ (onlyStatus VolumeCorrupted, stateOf nv vol p w)
-unfolding _and_
-set-unsound nv vol p w r h = set-corrupt nv vol p w r (rw h)
+  pub set-unsound : sound nv vol ≡ false → step (stateOf nv vol p w) (set r) ≡ (withReport (a .status) (a .report), stateOf nv vol p w)
+  unfolding _and_
+  set-unsound h = set-corrupt (rw h)
 
-pub set-invalid : (nv vol p : Bytes) (w : Switches) (r : Request) → policyValid p ≡ false
-    → step (stateOf nv vol p w) (set r) ≡ (onlyStatus VolumeCorrupted, stateOf nv vol p w)
-set-invalid nv vol p w r h = set-corrupt nv vol p w r (rw h (and-no (sound nv vol)))
+  pub set-invalid : policyValid p ≡ false → step (stateOf nv vol p w) (set r) ≡ (withReport (a .status) (a .report), stateOf nv vol p w)
+  set-invalid h = set-corrupt (rw h (and-no (sound nv vol)))
 
 -- ---- over sound stores and a valid record
+
+-- what is decided is a decision of the rules
+pub decides : {d : Decided} (es : List Bytes) (enabled : Bool) (nv vol : Bytes) (r : Request) → d ≡ decidedBy es enabled nv vol r
+    → d .decision ≡ decision (speaking enabled (chosen es (r .variable))) nv vol r
+unfolding decisionBy
+decides es enabled nv vol r e = ap (λ x. x .decision) e
+
 module _ (nv vol p : Bytes) (w : Switches) (r : Request) where
   abbrev before : State
   before = stateOf nv vol p w
@@ -59,17 +72,24 @@ module _ (nv vol p : Bytes) (w : Switches) (r : Request) where
   leaves Keep = refl
   leaves Store = refl
 
-  pub set-done : {d : Decision} {n : Status} {nv′ vol′ : Bytes} → sound nv vol ≡ true → policyValid p ≡ true
-      → d ≡ decision (speaking (w .enabled) (chosen (entriesOf p) (r .variable))) nv vol r → n ≡ decisionStatus d
-      → nv′ ≡ decisionStore d true nv (lookup nv vol (r .variable)) r → vol′ ≡ decisionStore d false vol (lookup nv vol (r .variable)) r
-      → step before (set r) ≡ (onlyStatus n, stateOf nv′ vol′ p w)
+  pub set-done : {d : Decided} {n : Status} {nv′ vol′ : Bytes} → sound nv vol ≡ true → policyValid p ≡ true
+      → d ≡ decidedBy (entriesOf p) (w .enabled) nv vol r → n ≡ decisionStatus (d .decision)
+      → nv′ ≡ decisionStore (d .decision) true nv (lookup nv vol (r .variable)) r → vol′ ≡ decisionStore (d .decision) false vol (lookup nv vol (r .variable)) r
+      → step before (set r) ≡ (withReport n (d .report), stateOf nv′ vol′ p w)
   unfolding decisionBy _and_
   set-done {d} {n} {nv′} {vol′} s v e h k l =
-      step-is before (set r) n
-      (ap₂ (λ a b. cond (a and b) (decisionStatus (decisionIn before r)) VolumeCorrupted) s v ∙ ap decisionStatus (sym e) ∙ sym h)
-      ∙ ap₂ (λ a t. (a, t)) (answer-alone before (set r) n refl refl) state-is
+      step-is before (set r) n (ap decisionStatus decision-is ∙ sym h)
+      ∙ ap₂ (λ a t. (a, t)) (answer-reported before r n ∙ ap (withReport n) report-is) state-is
     where
+      decision-is : setDecision before r ≡ d .decision
+      decision-is = ap₂ (λ a b. cond (a and b) (decisionIn before r) (Refuse VolumeCorrupted)) s v ∙ ap (λ x. x .decision) (sym e)
+
+      report-is : setReport before r ≡ d .report
+      report-is =
+          ap (λ x. decisionReport x (entriesOf p) (chosen (entriesOf p) (r .variable)) (r .attributes)) (decision-is ∙ ap (λ x. x .decision) e)
+          ∙ ap (λ x. x .report) (sym e)
+
       state-is : after before (set r) n ≡ stateOf nv′ vol′ p w
       state-is =
-          ap₂ (λ (b : Bool) (x : Decision). cond b (left x) before) (ap isSuccess h) (sym e)
-          ∙ leaves d ∙ ap₂ (λ x y. stateOf x y p w) (sym k) (sym l)
+          ap₂ (λ (b : Bool) (x : Decision). cond b (left x) before) (ap isSuccess h) (ap (λ x. x .decision) (sym e))
+          ∙ leaves (d .decision) ∙ ap₂ (λ x y. stateOf x y p w) (sym k) (sym l)

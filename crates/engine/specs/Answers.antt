@@ -14,7 +14,7 @@ use Rattle.stores.specs.declared.Place.{Place}
 use Rattle.stores.specs.Place.{placeIn, isSomewhere, attributesAt, boundsAt}
 use Rattle.status.specs.declared.Status.{Status}
 use Rattle.status.specs.declared.Status.the-variants.{Success, InvalidParameter, VolumeCorrupted, NotFound}
-use Rattle.rules.specs.Engine.{State, Answer, step}
+use Rattle.rules.specs.Engine.{State, Answer, answerOf, step}
 use Rattle.rules.specs.Engine.Call.{read}
 use Rattle.engine.specs.declared.DumpAnswer.{DumpAnswer}
 use Rattle.engine.specs.declared.QueryAnswer.{QueryAnswer}
@@ -22,11 +22,11 @@ use Rattle.engine.specs.declared.Reading.{Reading}
 
 -- a dump: the length, and the whole buffer
 abbrev pub dumpAnswer : DumpAnswer → Bytes → Answer
-dumpAnswer r buffer = record { status = r .status; number = r .length; bytes = buffer; switches = none }
+dumpAnswer r buffer = answerOf (r .status) (r .length) buffer none
 
 -- a query: the enabled switch
 abbrev pub queryAnswer : QueryAnswer → Answer
-queryAnswer r = record { status = r .status; number = cond (r .enabled) 1 0; bytes = []; switches = none }
+queryAnswer r = answerOf (r .status) (cond (r .enabled) 1 0) [] none
 
 -- ---- a read
 
@@ -57,7 +57,7 @@ abbrev pub storeRead : Reading → State → Bytes
 storeRead r s = cond (r .nonvolatile) (s .nv) (s .vol)
 
 abbrev pub readAnswer : Reading → State → Answer
-readAnswer r s = record { status = r .status; number = r .attributes; bytes = part (r .from) (r .to) (storeRead r s); switches = none }
+readAnswer r s = answerOf (r .status) (r .attributes) (part (r .from) (r .to) (storeRead r s)) none
 
 -- what holds of a reading
 pub record ReadStep (s : State) (v : Variable) (r : Reading) : Type 0 where

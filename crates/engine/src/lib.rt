@@ -12,11 +12,13 @@ ghost use Rattle.status.specs.declared.Status.the-variants.{Success, VolumeCorr
 ghost use Rattle.switches.specs.declared.Switches.{Switches};
 ghost use Rattle.switches.specs.Switches.{freshSwitches, refusedSwitches};
 ghost use Rattle.rules.specs.Set.{requestOf};
-ghost use Rattle.rules.specs.Engine.{stateOf, step, onlyStatus, handBack};
+ghost use Rattle.rules.specs.Report.{noReport};
+ghost use Rattle.rules.specs.Engine.{stateOf, step, onlyStatus, handBack, withReport};
 ghost use Rattle.rules.specs.Engine.Call.{powerOn, restart, register, dump, lock, disable, query, read, set};
 ghost use Rattle.engine.specs.Answers.{dumpAnswer, queryAnswer, refusedReading, readingAt, readingOf, ReadStep, payloadPlace};
 use entry::Parsed;
 use policy::PolicyCheck;
+use rules::Report;
 use set::Known;
 use status::Status;
 use stores::PairCheck;
@@ -43,6 +45,12 @@ pub struct DumpAnswer {
 pub struct QueryAnswer {
     pub status: Status,
     pub enabled: bool,
+}
+
+// A set's status, and what step 4 said (RULES.md, 10.10).
+pub struct SetAnswer {
+    pub status: Status,
+    pub report: Report,
 }
 
 // What a refused power-on or restart answers.
@@ -288,6 +296,16 @@ pub fn payload<'a>(nv: &'a [u8], vol: &'a [u8], namespace: [u8; 16], name: &[u8]
     }
 }
 
+// What a set answers where the stores are not sound or the policy record is not valid.
+fn corrupted_set() -> SetAnswer
+    ensures { λ r. ⌜ r ≡ record { status = VolumeCorrupted; report = noReport } ⌝ }
+{
+    SetAnswer {
+        status: Status::VolumeCorrupted,
+        report: set::no_report(),
+    }
+}
+
 // Creates, rewrites, appends to or deletes a variable.
 // VOLUME_CORRUPTED where the stores are unsound or the policy record is not valid; then the first of:
 // 1. INVALID_PARAMETER for a bad name or a payload over 1,024 bytes; 2. UNSUPPORTED for an attribute bit outside 0x47;
@@ -304,20 +322,20 @@ pub fn set(
     name: &[u8],
     attributes: u32,
     payload: &[u8],
-) -> Status
+) -> SetAnswer
     ensures { λ r.
         ⌜ step (stateOf (now (nv .entry)) (now (vol .entry)) (now (policy .entry)) switches)
         (set (requestOf namespace (now (name .entry)) attributes (now (payload .entry))))
-        ≡ (onlyStatus r, stateOf (now (nv .exit)) (now (vol .exit)) (now (policy .entry)) switches) ⌝ }
+        ≡ (withReport (r .status) (r .report), stateOf (now (nv .exit)) (now (vol .exit)) (now (policy .entry)) switches) ⌝ }
 {
     let checked = stores::check(nv, vol);
     let PairCheck::Sound(ends) = checked else {
-        return Status::VolumeCorrupted;
+        return corrupted_set();
     };
     let mut entry_ends = policy::no_ends();
     let entries = policy::check_noting(policy, &mut entry_ends);
     let PolicyCheck::Valid { count, used: _ } = entries else {
-        return Status::VolumeCorrupted;
+        return corrupted_set();
     };
     let place = stores::locate(nv, vol, ends, &namespace, name);
     let known = Known { ends, count, place };
@@ -333,8 +351,10 @@ pub fn set(
         attributes,
         payload,
     );
+    let decision = decided.decision;
+    let report = decided.report;
     set::carry_out(
-        decided,
+        decision,
         nv,
         vol,
         known,
@@ -343,5 +363,8 @@ pub fn set(
         attributes,
         payload,
     );
-    set::status_of(decided)
+    SetAnswer {
+        status: set::status_of(decision),
+        report,
+    }
 }

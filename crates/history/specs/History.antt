@@ -61,10 +61,10 @@ pub record Machine : Type 1 where
   -- well-formed entries; the entries of a state, in the order in which they stand
   pub formed : List Symbol → Bool
   pub entries : State → List (List Symbol)
-  -- what another order changes: the state with its entries in the order o; what a call's answer becomes in a state whose entries
-  -- stand in the order o
+  -- what another order changes: the state with its entries in the order o; what the answer of a call, in a state with the entries es,
+  -- becomes in the state in which they stand in the order o
   pub stateIn : List (List Symbol) → State → State
-  pub answerIn : Call → List (List Symbol) → Answer → Answer
+  pub answerIn : Call → List (List Symbol) → List (List Symbol) → Answer → Answer
   -- the variables with a name that step 1 takes; which of them an entry targets, and at which rank
   pub named : Variable → Bool
   pub targets : List Symbol → Variable → Bool
@@ -236,9 +236,9 @@ module _ (M : Machine) where
   stateBy none s = s
   stateBy (some o) s = stateIn o s
 
-  abbrev pub answerBy : Call → Order → Answer → Answer
-  answerBy c none a = a
-  answerBy c (some o) a = answerIn c o a
+  abbrev pub answerBy : Call → Entries → Order → Answer → Answer
+  answerBy c es none a = a
+  answerBy c es (some o) a = answerIn c es o a
 
   -- the entries after a call: a registered one stands last, a start leaves none
   abbrev pub entriesAfter : Kind Entry → Outcome → Entries → Entries
@@ -276,7 +276,7 @@ module _ (M : Machine) where
   abbrev pub answersInOrder : Order → State → Items → List Answer
   answersInOrder w s [] = []
   answersInOrder w s (call c ∷ is) =
-      answerBy c w (step s c .0) ∷ answersInOrder (orderAfter (kind c) (outcomeOf s c) w) (step s c .1) is
+      answerBy c (entries s) w (step s c .0) ∷ answersInOrder (orderAfter (kind c) (outcomeOf s c) w) (step s c .1) is
   answersInOrder w s (ownDump b ∷ is) = answersInOrder w s is
   answersInOrder w s (rebuild ds x ∷ is) = answersInOrder (orderRebuilt w ds x) s is
 

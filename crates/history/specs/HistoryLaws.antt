@@ -62,9 +62,9 @@ module _ (M : Machine) where
         → entries (step s c .1) ≡ entriesAfter M (kind c) (outcomeOf M s c) (entries s)
     -- in another order with the same choice it answers the same, but for what `answerIn` changes
     pub answersSame : {t : Bool} {s : State} {o : Entries M} (c : Call) → Invariant t s → MayFollow M t c
-        → SameChoice (entries s) o → step (stateIn o s) c .0 ≡ answerIn c o (step s c .0)
+        → SameChoice (entries s) o → step (stateIn o s) c .0 ≡ answerIn c (entries s) o (step s c .0)
     -- is granted, refused or cut alike
-    pub outcomeIn : (c : Call) (o : Entries M) (a : Answer) → outcome (answerIn c o a) ≡ outcome a
+    pub outcomeIn : (c : Call) (es o : Entries M) (a : Answer) → outcome (answerIn c es o a) ≡ outcome a
     -- and leaves the same, but for what `stateIn` changes
     pub leavesSame : {t : Bool} {s : State} {o : Entries M} (c : Call) → Invariant t s → MayFollow M t c
         → SameChoice (entries s) o
@@ -263,18 +263,18 @@ module _ (M : Machine) where
 
     -- what a call answers there
     answers-by : {t : Bool} {s : State} (w : Order M) (c : Call) → Invariant t s → MayFollow M t c → Stands w s
-        → step (stateBy M w s) c .0 ≡ answerBy M c w (step s c .0)
+        → step (stateBy M w s) c .0 ≡ answerBy M c (entries s) w (step s c .0)
     answers-by none c i f g = refl
     answers-by (some o) c i f g = L .answersSame c i f g
 
-    outcome-answer : (c : Call) (w : Order M) (a : Answer) → outcome (answerBy M c w a) ≡ outcome a
-    outcome-answer c none a = refl
-    outcome-answer c (some o) a = L .outcomeIn c o a
+    outcome-answer : (c : Call) (es : Entries M) (w : Order M) (a : Answer) → outcome (answerBy M c es w a) ≡ outcome a
+    outcome-answer c es none a = refl
+    outcome-answer c es (some o) a = L .outcomeIn c es o a
 
     outcome-by : {t : Bool} {s : State} (w : Order M) (c : Call) → Invariant t s → MayFollow M t c → Stands w s
         → outcomeOf M (stateBy M w s) c ≡ outcomeOf M s c
     outcome-by {s = s} w c i f g =
-        ap outcome (answers-by w c i f g) ∙ outcome-answer c w (step s c .0)
+        ap outcome (answers-by w c i f g) ∙ outcome-answer c (entries s) w (step s c .0)
 
     -- and what it leaves
     order-in : {t : Bool} (κ : Kind (Entry M)) (r : Outcome) (l o : Entries M) {z : State} → Invariant t z

@@ -24,7 +24,8 @@ use Rattle.slices.specs.BytesLaws.{same-eq, same-of}
 use Rattle.names.specs.Name.{Variable, units, each, noZero, nameLength, isName, named, unitMatches, numberSign, wildcards, oneIf}
 use Rattle.names.specs.NameLaws.{units-length, units-at, hex-digits}
 use Rattle.entry.specs.Entry.{namespaceOf, nameIsEmpty, nameOf, targets, rank}
-use Rattle.policy.specs.Choice.{chosen}
+use Rattle.policy.specs.Choice.{chosen, placeOf}
+use Rattle.policy.specs.PlaceLaws.{chosen-place}
 use Rattle.store.specs.Record.{hasNV, hasBS, hasRT, hasAppend}
 use Rattle.rules.specs.Set.{Request, isEmpty, isDeletion, unsupportedBit, needsBS, isEmptyAppend}
 use Rattle.rules.specs.Grounds.{Not, Bit, NV, BS, RT, Append, knownBits, Name, Named, UnitMatches, Matches, Targets, Signs, Ranks, IsChosen, Deletion, EmptyAppend}
@@ -373,14 +374,21 @@ chosen-is es v e h =
           let l = all-among (c .before) (c .first) f k (tells-targets f v .1 t) in omega arith;
     }
 
+-- the other way round
+abbrev choice-is : (es : List Bytes) (v : Variable) (e : Bytes) → IsChosen es v e → choice.Chosen rank (λ f. targets f v) es e
+choice-is es v e c = record {
+  before = c .before;
+  after = c .after;
+  place = c .place;
+  target = tells-targets e v .1 (c .target);
+  lowest = among-all es (λ f k t. c .lowest f (rank e) (rank f) k (tells-targets f v .0 t) (rank-ranks e) (rank-ranks f));
+  first = among-all (c .before) (λ f k t. c .first f (rank e) (rank f) k (tells-targets f v .0 t) (rank-ranks e) (rank-ranks f));
+}
+
 pub is-chosen : (es : List Bytes) (v : Variable) (e : Bytes) → IsChosen es v e → chosen es v ≡ some e
 unfolding chosen
-is-chosen es v e c =
-    choice.some-chosen rank (λ f. targets f v) es e (record {
-      before = c .before;
-      after = c .after;
-      place = c .place;
-      target = tells-targets e v .1 (c .target);
-      lowest = among-all es (λ f k t. c .lowest f (rank e) (rank f) k (tells-targets f v .0 t) (rank-ranks e) (rank-ranks f));
-      first = among-all (c .before) (λ f k t. c .first f (rank e) (rank f) k (tells-targets f v .0 t) (rank-ranks e) (rank-ranks f));
-    })
+is-chosen es v e c = choice.some-chosen rank (λ f. targets f v) es e (choice-is es v e c)
+
+-- and it stands behind those before it
+pub is-placed : (es : List Bytes) (v : Variable) (e : Bytes) (c : IsChosen es v e) → placeOf es e ≡ length (c .before)
+is-placed es v e c = chosen-place v e es (choice-is es v e c)

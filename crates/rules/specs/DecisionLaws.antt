@@ -1,6 +1,6 @@
 -- What is decided of a set, step by step, and what each decision says of its request. Assumes nothing.
 use Prim.Native.Nat.{ℕ, _≤_}
-use mathlib.Core.Path.{_≡_, refl, sym, subst, _∙_}
+use mathlib.Core.Path.{_≡_, refl, sym, ap, subst, _∙_}
 use mathlib.Core.List.{[], _∷_}
 use mathlib.Core.Bool.{Bool, true, false, not, _||_, cond, true≢false, false≢true}
 use mathlib.Core.Option.{Option}
@@ -16,8 +16,8 @@ use Rattle.store.specs.Record.{hasNV, hasBS, hasRT, hasAppend}
 use Rattle.store.specs.Store.{hasRoom}
 use Rattle.stores.specs.Pair.{lookup}
 use Rattle.status.specs.declared.Status.{Status}
-use Rattle.status.specs.declared.Status.the-variants.{Success, InvalidParameter, Unsupported, OutOfResources, NotFound}
-use Rattle.status.specs.Status.{isSuccess}
+use Rattle.status.specs.declared.Status.the-variants.{Success, InvalidParameter, Unsupported, WriteProtected, OutOfResources, NotFound}
+use Rattle.status.specs.Status.{isSuccess, statusNumber}
 use Rattle.rules.specs.declared.Ground.{Ground}
 use Rattle.rules.specs.declared.Ground.the-variants.{NoGround, SizeGround, AttributeGround, LockGround}
 use Rattle.rules.specs.declared.Decision.{Decision}
@@ -74,6 +74,39 @@ asked r = go _ _ _ _ refl refl refl refl
     go true false false true e f g h = withoutBS e f g h
     go true false false false e f g h = taken e f g h
 
+-- a request that passes them has a name
+pub taken-named : (r : Request) → isSuccess (requestStatus r) ≡ true → named (r .variable) ≡ true
+taken-named r h = go (asked r) h
+  where
+    go : {n : Status} → Asked r n → isSuccess n ≡ true → named (r .variable) ≡ true
+    go (badName e) h = absurd (false≢true h)
+    go (tooLong e f) h = e
+    go (unsupported e f g) h = e
+    go (withoutBS e f g k) h = e
+    go (taken e f g k) h = e
+
+-- and no bit outside 0x47
+pub supported : (r : Request) → isSuccess (requestStatus r) ≡ true → unsupportedBit (r .attributes) ≡ false
+supported r h = go (asked r) h
+  where
+    go : {n : Status} → Asked r n → isSuccess n ≡ true → unsupportedBit (r .attributes) ≡ false
+    go (badName e) h = absurd (false≢true h)
+    go (tooLong e f) h = absurd (false≢true h)
+    go (unsupported e f g) h = absurd (false≢true h)
+    go (withoutBS e f g k) h = g
+    go (taken e f g k) h = g
+
+-- none of them answers 8
+pub early-unlocked : (r : Request) → requestStatus r ≡ WriteProtected → ⊥
+early-unlocked r h = go (asked r) (ap statusNumber h)
+  where
+    go : {n : Status} → Asked r n → statusNumber n ≡ 8 → ⊥
+    go (badName e) h = omega (arith, h)
+    go (tooLong e f) h = omega (arith, h)
+    go (unsupported e f g) h = omega (arith, h)
+    go (withoutBS e f g k) h = omega (arith, h)
+    go (taken e f g k) h = omega (arith, h)
+
 -- steps 5 to 9; `found` is what was found of the request's variable
 data Written (nv vol : Bytes) (found : Option Bytes) (r : Request) : Decision → Type 0 where
   absent : isDeletion (r .attributes) (r .payload) ≡ true → exists found ≡ false → Written nv vol found r (Refuse NotFound)
@@ -108,6 +141,40 @@ written nv vol found r = go _ _ _ _ _ _ refl refl refl refl refl refl
     go false x false false true m dd xx oo ee bb mm = joinedTooLong dd oo ee bb
     go false x false false false true dd xx oo ee bb mm = stored dd oo ee bb mm
     go false x false false false false dd xx oo ee bb mm = noRoom dd oo ee bb mm
+
+-- the ground of step 4 that a decision is by
+abbrev pub blockedBy : Decision → Ground
+blockedBy (Refuse n) = NoGround
+blockedBy (Block g) = g
+blockedBy Delete = NoGround
+blockedBy Keep = NoGround
+blockedBy Store = NoGround
+
+-- none at steps 5 to 9
+pub write-unblocked : (nv vol : Bytes) (found : Option Bytes) (r : Request) → blockedBy (writeDecision nv vol found r) ≡ NoGround
+write-unblocked nv vol found r = go (written nv vol found r)
+  where
+    go : {d : Decision} → Written nv vol found r d → blockedBy d ≡ NoGround
+    go (deleted d x) = refl
+    go (absent d x) = refl
+    go (other d o) = refl
+    go (kept d o e) = refl
+    go (joinedTooLong d o e b) = refl
+    go (noRoom d o e b m) = refl
+    go (stored d o e b m) = refl
+
+-- and no 8
+pub late-unlocked : (nv vol : Bytes) (found : Option Bytes) (r : Request) → decisionStatus (writeDecision nv vol found r) ≡ WriteProtected → ⊥
+late-unlocked nv vol found r h = go (written nv vol found r) (ap statusNumber h)
+  where
+    go : {d : Decision} → Written nv vol found r d → statusNumber (decisionStatus d) ≡ 8 → ⊥
+    go (deleted d x) h = omega (arith, h)
+    go (absent d x) h = omega (arith, h)
+    go (other d o) h = omega (arith, h)
+    go (kept d o e) h = omega (arith, h)
+    go (joinedTooLong d o e b) h = omega (arith, h)
+    go (noRoom d o e b m) h = omega (arith, h)
+    go (stored d o e b m) h = omega (arith, h)
 
 -- ---- what follows for a set that stores
 
@@ -216,3 +283,25 @@ granted-decision speaking nv vol r h = go (decision speaking nv vol r) (facts sp
     go Delete f h = rw f
     go Keep f h = rw (f .0, f .1)
     go Store f h = rw (f .writes, f .joins)
+
+-- a set is blocked where steps 1 to 3 pass and the entry that speaks gives the ground
+pub record Blocked (speaking : Option Bytes) (nv vol : Bytes) (r : Request) (g : Ground) : Type 0 where
+  pub asked : isSuccess (requestStatus r) ≡ true
+  pub ground : groundBy speaking (lookup nv vol) r ≡ g
+  pub bars : isSuccess (groundStatus g) ≡ false
+
+pub blocked-facts : (speaking : Option Bytes) (nv vol : Bytes) (r : Request) (g : Ground) → decision speaking nv vol r ≡ Block g → Blocked speaking nv vol r g
+unfolding decision
+blocked-facts speaking nv vol r g e =
+    go (isSuccess (requestStatus r)) (groundBy speaking (lookup nv vol) r) refl refl e (subst (Facts nv vol (lookup nv vol (r .variable)) r) e (facts speaking nv vol r))
+  where
+    none-bars : NoGround ≡ g → isSuccess (groundStatus g) ≡ false → Blocked speaking nv vol r g
+    none-bars e f = absurd (true≢false (ap (λ x. isSuccess (groundStatus x)) e ∙ f))
+
+    go : (b : Bool) (h : Ground) → isSuccess (requestStatus r) ≡ b → groundBy speaking (lookup nv vol) r ≡ h
+        → cond b (blockOr h (writeDecision nv vol (lookup nv vol (r .variable)) r)) (Refuse (requestStatus r)) ≡ Block g → isSuccess (groundStatus g) ≡ false → Blocked speaking nv vol r g
+    go false h q k e f = none-bars (ap blockedBy e) f
+    go true NoGround q k e f = none-bars (sym (write-unblocked nv vol (lookup nv vol (r .variable)) r) ∙ ap blockedBy e) f
+    go true SizeGround q k e f = record { asked = q; ground = k ∙ ap blockedBy e; bars = f }
+    go true AttributeGround q k e f = record { asked = q; ground = k ∙ ap blockedBy e; bars = f }
+    go true LockGround q k e f = record { asked = q; ground = k ∙ ap blockedBy e; bars = f }

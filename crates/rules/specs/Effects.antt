@@ -1,26 +1,30 @@
 -- What stands beside a status, and what a call leaves, said a second time: the answers and the states afterwards, case by case. Which
 -- status it is, `Answers` alone says. Engine.antt computes the same (EffectsLaws.antt), so a reader may believe either.
 -- Assumes nothing: these are definitions.
-use Prim.Native.Nat.{ℕ, _≤_}
+use Prim.Native.Nat.{ℕ, suc, _≤_, _<_}
 use mathlib.Core.Path.{_≡_}
 use mathlib.Core.List.{List, [], _∷_, _++_}
 use mathlib.Core.Bool.{Bool, true, false}
-use mathlib.Core.Option.{Option, none, some}
-use mathlib.Core.Logic.{_↔_}
+use mathlib.Core.Option.{none, some}
+use mathlib.Core.Logic.{_⊎_, _↔_}
 use lib.ListN.{length, drop, replicate}
 use Rattle.limits.specs.Limits.{policyBytes}
 use Rattle.lists.specs.Lists.{Among}
 use Rattle.slices.specs.Bytes.{Bytes}
 use Rattle.slices.specs.Chunks.{flat}
 use Rattle.names.specs.Name.{Variable}
+use Rattle.entry.specs.Entry.{attributesMustHave, attributesCantHave}
 use Rattle.store.specs.Record.{attributesOf, payloadOf, variableOf}
 use Rattle.status.specs.declared.Status.{Status}
 use Rattle.status.specs.declared.Status.the-variants.{Success, BufferTooSmall}
 use Rattle.switches.specs.declared.Switches.{Switches}
+use Rattle.rules.specs.declared.Ground.the-variants.{NoGround, SizeGround, AttributeGround, LockGround}
+use Rattle.rules.specs.declared.Report.{Report}
 use Rattle.rules.specs.Set.{Request}
-use Rattle.rules.specs.Engine.{State, Call, Answer, stateOf}
+use Rattle.rules.specs.Report.{reportOf}
+use Rattle.rules.specs.Engine.{State, Call, Answer, stateOf, answerOf, withReport}
 use Rattle.rules.specs.Engine.Call.{powerOn, restart, register, dump, lock, disable, query, read, set}
-use Rattle.rules.specs.Grounds.{Not, NV, PolicyEntries, HasEntries, sumOfSizes, PairRecords, SoundStores, RecordOf, Absent, Deletion, EmptyAppend, SameAttributes, PayloadAfter, Storing}
+use Rattle.rules.specs.Grounds.{Not, Bit, NV, Ranks, PolicyEntries, HasEntries, sumOfSizes, PairRecords, SoundStores, RecordOf, Absent, Deletion, EmptyAppend, SameAttributes, Enforced, PayloadAfter, Storing, FirstAt}
 
 -- a status other than 0
 abbrev pub Refusal : Status → Type 0
@@ -32,10 +36,50 @@ Refusal n = Not (n ≡ Success)
 abbrev pub switchesOf : Bool → Bool → Bool → Switches
 switchesOf enabled locked allowed = record { enabled = enabled; locked = locked; «disabling_allowed» = allowed }
 
-abbrev pub answerOf : Status → ℕ → Bytes → Option Switches → Answer
-answerOf status number bytes switches = record { status = status; number = number; bytes = bytes; switches = switches }
+-- ---- the report of a set (RULES.md, 10.10)
 
--- THE ANSWERS of each call: status, number, bytes, switches handed back
+-- n of the numbers below k are so
+pub data Count (P : ℕ → Type 0) : ℕ → ℕ → Type 0 where
+  no : Count P 0 0
+  this : {k n : ℕ} → P k → Count P k n → Count P (suc k) (suc n)
+  other : {k n : ℕ} → Not (P k) → Count P k n → Count P (suc k) n
+
+-- i is the lowest of the numbers below k that are so, and k where none is
+pub record Lowest (P : ℕ → Type 0) (k i : ℕ) : Type 0 where
+  pub most : i ≤ k
+  pub is : i < k → P i
+  pub below : (j : ℕ) → j < i → Not (P j)
+
+-- the bit i is required and missing; prohibited and set; one of both
+abbrev pub Missing : Bytes → Request → ℕ → Type 0
+Missing e r i = Bit i (attributesMustHave e) × Not (Bit i (r .attributes))
+
+abbrev pub Prohibited : Bytes → Request → ℕ → Type 0
+Prohibited e r i = Bit i (attributesCantHave e) × Bit i (r .attributes)
+
+abbrev pub Offending : Bytes → Request → ℕ → Type 0
+Offending e r i = Missing e r i ⊎ Prohibited e r i
+
+-- the entry that is enforced on the request, behind k others, and its rank
+pub record Speaks (s : State) (r : Request) (k rank : ℕ) : Type 0 where
+  pub entry : Bytes
+  pub enforced : Enforced s r entry
+  pub place : length (enforced .choice .before) ≡ k
+  pub ranks : Ranks entry rank
+
+-- by where the first ground that applies stands in the order of a set: at 41 it is the size, at 42 attributes, at 43 the lock, and elsewhere no
+-- ground of step 4
+pub data Reports (s : State) (r : Request) (n : Status) : Report → Type 0 where
+  silent : (at : ℕ) → FirstAt s (set r) at n → Not ((41 ≤ at) × (at ≤ 43)) → Reports s r n (reportOf NoGround 0 0 0 0 0)
+  bySize : {k rank : ℕ} → FirstAt s (set r) 41 n → Speaks s r k rank → Reports s r n (reportOf SizeGround k rank 0 0 0)
+  byAttributes : {k rank missing prohibited lowest : ℕ} → FirstAt s (set r) 42 n → (w : Speaks s r k rank)
+      → Count (Missing (w .entry) r) 32 missing → Count (Prohibited (w .entry) r) 32 prohibited → Lowest (Offending (w .entry) r) 32 lowest
+      → Reports s r n (reportOf AttributeGround k rank missing prohibited lowest)
+  byLock : {k rank : ℕ} → FirstAt s (set r) 43 n → Speaks s r k rank → Reports s r n (reportOf LockGround k rank 0 0 0)
+
+-- ---- the answers
+
+-- THE ANSWERS of each call: status, number, bytes, switches handed back; of a set the status and the report
 pub data Beside (s : State) : Call → Answer → Type 0 where
   -- Power-on and restart: the switches of a granted start, and those of a refused one
   poweredOn : {allowed : Bool} → Beside s (powerOn allowed) (answerOf Success 0 [] (some (switchesOf true false allowed)))
@@ -58,7 +102,8 @@ pub data Beside (s : State) : Call → Answer → Type 0 where
   ofRegister : {e : Bytes} (n : Status) → Beside s (register e) (answerOf n 0 [] none)
   ofLock : (n : Status) → Beside s lock (answerOf n 0 [] none)
   ofDisable : (n : Status) → Beside s disable (answerOf n 0 [] none)
-  ofSet : {r : Request} (n : Status) → Beside s (set r) (answerOf n 0 [] none)
+  -- Set: the status with the report
+  ofSet : {r : Request} (n : Status) (p : Report) → Reports s r n p → Beside s (set r) (withReport n p)
 
 -- ---- what a call leaves
 

@@ -31,16 +31,17 @@ use Rattle.rules.specs.declared.Decision.{Decision}
 use Rattle.rules.specs.declared.Decision.the-variants.{Refuse, Block, Delete, Keep, Store}
 use Rattle.rules.specs.Set.{Request, exists, isDeletion, isEmptyAppend, recordAfter, decisionStatus, decisionStore}
 use Rattle.rules.specs.DecisionLaws.{Facts, facts, stored-facts, granted-decision}
-use Rattle.rules.specs.Engine.{State, Call, Answer, stateOf, dumpStatus, readStatus, status, given, refusal, answer, registerStatus, decisionBy, decisionIn, erased, effect, after, step}
+use Rattle.rules.specs.Engine.{State, Call, Answer, stateOf, answerOf, withReport, setReport, dumpStatus, readStatus, status, given, refusal, answer, registerStatus, decisionBy, decisionIn, erased, effect, after, step}
 use Rattle.rules.specs.Engine.Call.{powerOn, restart, register, dump, lock, disable, query, read, set}
 use Rattle.rules.specs.Grounds.{Not, sumOfSizes, StoreRecords, PairRecords, SoundStores, RecordOf, PayloadAfter, Answers}
 use Rattle.rules.specs.GroundsLaws.{refused-test, status-exactly}
-use Rattle.rules.specs.EngineLaws.{answer-status, step-status, answer-alone, granted-effect}
-use Rattle.rules.specs.StateLaws.{passed, register-granted}
-use Rattle.rules.specs.Effects.{Refusal, answerOf, Beside, SetLeaves, SetByName, Leaves}
+use Rattle.rules.specs.EngineLaws.{answer-status, step-status, answer-alone, answer-reported, granted-effect}
+use Rattle.rules.specs.StateLaws.{passed, set-passed, register-granted}
+use Rattle.rules.specs.Effects.{Refusal, Beside, SetLeaves, SetByName, Leaves}
 use Rattle.rules.specs.ConditionLaws.{tells-off, off-tells, tells-nv, tells-deletion, tells-nothing}
 use Rattle.rules.specs.FoundLaws.{sound-records, tells-sound, packs-entries, sum-of-sizes, valid-entries, entries-read, first-records, second-records, distinct-first, distinct-second, found-lookup, lookup-found, lookup-absent, without-taken, taken-without}
 use Rattle.rules.specs.SetGroundsLaws.{chosenEntry, kind-same, payload-is, stored, storing, storing-only}
+use Rattle.rules.specs.SetReportLaws.{report-reports, one-report}
 use Rattle.rules.specs.SetLaws as set
 use Rattle.rules.specs.SetLaws.{set-sound, stored-formed}
 
@@ -118,7 +119,7 @@ answer-beside s lock = beside-either s lock (Beside.ofLock Success) (λ n o. Bes
 answer-beside s disable = beside-either s disable (Beside.ofDisable Success) (λ n o. Beside.ofDisable n)
 answer-beside s query = query-beside s
 answer-beside s (read v) = read-beside s v
-answer-beside s (set r) = beside-either s (set r) (Beside.ofSet Success) (λ n o. Beside.ofSet n)
+answer-beside s (set r) = subst⁻¹ (Beside s (set r)) (answer-reported s r (status s (set r))) (Beside.ofSet (status s (set r)) (setReport s r) (report-reports s r))
 
 -- and the only one with its status
 pub beside-answer : (s : State) (c : Call) (a : Answer) → Beside s c a → a ≡ answer s c (a .status)
@@ -150,7 +151,7 @@ beside-answer s c a (Beside.readRefused n o) = rw (refused-test n o)
 beside-answer s c a (Beside.ofRegister {e} n) = sym (answer-alone s (register e) n refl refl)
 beside-answer s c a (Beside.ofLock n) = sym (answer-alone s lock n refl refl)
 beside-answer s c a (Beside.ofDisable n) = sym (answer-alone s disable n refl refl)
-beside-answer s c a (Beside.ofSet {r} n) = sym (answer-alone s (set r) n refl refl)
+beside-answer s c a (Beside.ofSet {r} n p w) = ap (withReport n) (one-report s r p (setReport s r) w (report-reports s r)) ∙ sym (answer-reported s r n)
 
 -- ---- what a call leaves
 
@@ -236,7 +237,7 @@ granted-leaves s disable h = Leaves.disables
 granted-leaves s query h = Leaves.queries
 granted-leaves s (read v) h = Leaves.reads
 granted-leaves s (set r) h =
-    let k = passed (sound (s .nv) (s .vol) and policyValid (s .policy)) (decisionStatus (decisionIn s r)) (ap isSuccess h) in
+    let k = set-passed s r (ap isSuccess h) in
     Leaves.sets (effect s (set r)) (set-leaves s r (and-left _ _ (k .0)) (k .1))
 
 -- the computed state is one of them
@@ -287,7 +288,7 @@ leaves-state s c n t m Leaves.dumps = refl
 leaves-state s c n t m Leaves.queries = refl
 leaves-state s c n t m Leaves.reads = refl
 leaves-state s c n t m (Leaves.sets {r} x h) =
-    let k = passed (sound (s .nv) (s .vol) and policyValid (s .policy)) (decisionStatus (decisionIn s r)) (ap isSuccess m) in
+    let k = set-passed s r (ap isSuccess m) in
     set-only s r x (decided s r (k .1)) h
 
 -- THE ENGINE IN PROPOSITIONS: a call answers a and leaves t exactly if a's status is the first that applies, and with it a is an answer of
@@ -346,5 +347,5 @@ module _ (s : State) (r : Request) (ok : sound (s .nv) (s .vol) ≡ true) (grant
 -- A SET THAT ANSWERS 0 CHANGES ITS VARIABLE AS THE REQUEST SAYS, AND NO OTHER (in which order records then stand, `SetLeaves` says)
 pub set-by-name : (s : State) (r : Request) → isSuccess (step s (set r) .0 .status) ≡ true → SetByName s r (step s (set r) .1)
 set-by-name s r h =
-    let k = passed (sound (s .nv) (s .vol) and policyValid (s .policy)) (decisionStatus (decisionIn s r)) (ap isSuccess (sym (step-status s (set r))) ∙ h) in
+    let k = set-passed s r (ap isSuccess (sym (step-status s (set r))) ∙ h) in
     subst⁻¹ (SetByName s r) (granted-effect s (set r) h) (by-name s r (and-left _ _ (k .0)) (k .1))

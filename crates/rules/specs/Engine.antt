@@ -22,7 +22,10 @@ use Rattle.status.specs.Status.{isSuccess, statusNumber}
 use Rattle.switches.specs.declared.Switches.{Switches}
 use Rattle.switches.specs.Switches.{freshSwitches, refusedSwitches, withLocked, withDisabled, lockStatus, disableStatus}
 use Rattle.rules.specs.declared.Decision.{Decision}
+use Rattle.rules.specs.declared.Decision.the-variants.{Refuse}
+use Rattle.rules.specs.declared.Report.{Report}
 use Rattle.rules.specs.Set.{Request, exists, decision, decisionStatus, decisionStore}
+use Rattle.rules.specs.Report.{decisionReport}
 
 -- ---- what the engine is
 
@@ -58,6 +61,8 @@ pub record Answer : Type 0 where
   pub bytes : Bytes
   -- the switches that a power-on or restart hands back
   pub switches : Option Switches
+  -- of a set: what step 4 said
+  pub report : Option Report
 
 -- ---- what each call is lent and writes: one row to a call
 
@@ -72,21 +77,23 @@ abbrev pub parts : Bool → Bool → Bool → Bool → Parts
 parts nv vol policy switches = record { nv = nv; vol = vol; policy = policy; switches = switches }
 
 -- the parts that a call is lent, on which its answer depends; those that it writes where it is done; and what stands beside its
--- refusal: the needed length at 5, a buffer as it was, switches handed back
+-- refusal: the needed length at 5, a buffer as it was, switches handed back, the report on a request
 pub record Uses : Type 0 where
   pub lent : Parts
   pub writes : Parts
   pub tellsNeeded : Bool
   pub refusedBytes : Bytes
   pub handsBack : Option Switches
+  pub reports : Option Request
 
 -- a call with nothing beside a refusal
 abbrev pub plain : Parts → Parts → Uses
-plain lent writes = record { lent = lent; writes = writes; tellsNeeded = false; refusedBytes = []; handsBack = none }
+plain lent writes = record { lent = lent; writes = writes; tellsNeeded = false; refusedBytes = []; handsBack = none; reports = none }
 
 -- a power-on or restart, which hands back refused switches
 abbrev pub start : Parts → Parts → Uses
-start lent writes = record { lent = lent; writes = writes; tellsNeeded = false; refusedBytes = []; handsBack = some refusedSwitches }
+start lent writes =
+    record { lent = lent; writes = writes; tellsNeeded = false; refusedBytes = []; handsBack = some refusedSwitches; reports = none }
 
 abbrev pub uses : Call → Uses
 uses (powerOn allowed) = start (parts true true true false) (parts false true true true)
@@ -99,12 +106,21 @@ uses (dump buffer) =
       tellsNeeded = true;
       refusedBytes = buffer;
       handsBack = none;
+      reports = none;
     }
 uses lock = plain (parts false false false true) (parts false false false true)
 uses disable = plain (parts false false false true) (parts false false false true)
 uses query = plain (parts false false false true) (parts false false false false)
 uses (read v) = plain (parts true true false false) (parts false false false false)
-uses (set r) = plain (parts true true true true) (parts true true false false)
+uses (set r) =
+    record {
+      lent = parts true true true true;
+      writes = parts true true false false;
+      tellsNeeded = false;
+      refusedBytes = [];
+      handsBack = none;
+      reports = some r;
+    }
 
 -- ---- the status: the first ground in its order (RULES.md, 9.2)
 
@@ -142,9 +158,13 @@ speaking false e = none
 unfoldable pub decisionBy : (Variable → Option Bytes) → Bool → Bytes → Bytes → Request → Decision
 decisionBy choice enabled nv vol r = decision (speaking enabled (choice (r .variable))) nv vol r
 
--- what a set decides in a state
+-- what a set decides in a state, over sound stores and by a valid policy record
 abbrev pub decisionIn : State → Request → Decision
 decisionIn s r = decisionBy (chosen (entriesOf (s .policy))) (s .switches .enabled) (s .nv) (s .vol) r
+
+-- and in any state
+abbrev pub setDecision : State → Request → Decision
+setDecision s r = cond (sound (s .nv) (s .vol) and policyValid (s .policy)) (decisionIn s r) (Refuse VolumeCorrupted)
 
 abbrev pub status : State → Call → Status
 status s (powerOn allowed) = powerOnStatus (s .nv) (s .vol) (s .policy)
@@ -155,16 +175,33 @@ status s lock = lockStatus (s .switches)
 status s disable = disableStatus (s .switches)
 status s query = Success
 status s (read v) = cond (sound (s .nv) (s .vol)) (readStatus (s .nv) (s .vol) v) VolumeCorrupted
-status s (set r) =
-    cond (sound (s .nv) (s .vol) and policyValid (s .policy)) (decisionStatus (decisionIn s r)) VolumeCorrupted
+status s (set r) = decisionStatus (setDecision s r)
 
 -- ---- what stands beside a status (RULES.md, 9.3 and 10)
 
+-- a status, a number, bytes, and switches handed back; no report
+abbrev pub answerOf : Status → ℕ → Bytes → Option Switches → Answer
+answerOf status number bytes switches = record { status = status; number = number; bytes = bytes; switches = switches; report = none }
+
 abbrev pub onlyStatus : Status → Answer
-onlyStatus n = record { status = n; number = 0; bytes = []; switches = none }
+onlyStatus n = answerOf n 0 [] none
 
 abbrev pub handBack : Status → Switches → Answer
-handBack n w = record { status = n; number = 0; bytes = []; switches = some w }
+handBack n w = answerOf n 0 [] (some w)
+
+-- a status and a report
+abbrev pub withReport : Status → Report → Answer
+withReport n p = record { status = n; number = 0; bytes = []; switches = none; report = some p }
+
+-- the report of a set (RULES.md, 10.10), of the decision that its status is of
+abbrev pub setReport : State → Request → Report
+setReport s r =
+    decisionReport (setDecision s r) (entriesOf (s .policy)) (chosen (entriesOf (s .policy)) (r .variable)) (r .attributes)
+
+-- of the request that a call's row names, if it names one
+abbrev pub reportOn : State → Option Request → Option Report
+reportOn s none = none
+reportOn s (some r) = some (setReport s r)
 
 -- the sum of Sizes of the entries that stand
 abbrev pub entriesLength : State → ℕ
@@ -176,21 +213,14 @@ given s (powerOn allowed) = handBack Success (freshSwitches allowed)
 given s (restart allowed) = handBack Success (freshSwitches allowed)
 given s (register e) = onlyStatus Success
 -- the written length, and the entries from the buffer's start, later bytes as they were
-given s (dump buffer) =
-    record { status = Success; number = entriesLength s; bytes = overwrite buffer 0 (flat (entriesOf (s .policy))); switches = none }
+given s (dump buffer) = answerOf Success (entriesLength s) (overwrite buffer 0 (flat (entriesOf (s .policy)))) none
 given s lock = onlyStatus Success
 given s disable = onlyStatus Success
 -- the enabled switch
-given s query = record { status = Success; number = cond (s .switches .enabled) 1 0; bytes = []; switches = none }
+given s query = answerOf Success (cond (s .switches .enabled) 1 0) [] none
 -- the attributes, and the payload
-given s (read v) =
-    record {
-      status = Success;
-      number = attributesIn (lookup (s .nv) (s .vol) v);
-      bytes = payloadIn (lookup (s .nv) (s .vol) v);
-      switches = none;
-    }
-given s (set r) = onlyStatus Success
+given s (read v) = answerOf Success (attributesIn (lookup (s .nv) (s .vol) v)) (payloadIn (lookup (s .nv) (s .vol) v)) none
+given s (set r) = withReport Success (setReport s r)
 
 -- beside a refusal: what the call's row says
 abbrev pub refusal : State → Call → Status → Answer
@@ -200,6 +230,7 @@ refusal s c n =
       number = cond (uses c .tellsNeeded) (cond (eqb (statusNumber n) 5) (entriesLength s) 0) 0;
       bytes = uses c .refusedBytes;
       switches = uses c .handsBack;
+      report = reportOn s (uses c .reports);
     }
 
 abbrev pub answer : State → Call → Status → Answer

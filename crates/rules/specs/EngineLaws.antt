@@ -18,7 +18,7 @@ use Rattle.status.specs.declared.Status.the-variants.{Success, VolumeCorrupted}
 use Rattle.status.specs.Status.{isSuccess, statusNumber}
 use Rattle.status.specs.StatusLaws.{success-only}
 use Rattle.rules.specs.Set.{Request}
-use Rattle.rules.specs.Engine.{State, Call, Answer, Parts, parts, uses, powerOnStatus, restartStatus, status, onlyStatus, given, refusal, answer, effect, step}
+use Rattle.rules.specs.Engine.{State, Call, Answer, Parts, parts, uses, powerOnStatus, restartStatus, status, onlyStatus, withReport, setReport, reportOn, given, refusal, answer, effect, step}
 use Rattle.rules.specs.Engine.Call.{powerOn, restart, register, dump, lock, disable, query, read, set}
 
 -- ---- a policy record of another length than the limit
@@ -104,6 +104,14 @@ answer-alone s c n g r = go (isSuccess n) refl
     go true h = g ∙ ap onlyStatus (sym (success-only n h))
     go false h = r
 
+-- a set answers its status and its report
+pub answer-reported : (s : State) (r : Request) (n : Status) → answer s (set r) n ≡ withReport n (setReport s r)
+answer-reported s r n = go (isSuccess n) refl
+  where
+    go : (b : Bool) → isSuccess n ≡ b → cond b (given s (set r)) (refusal s (set r) n) ≡ withReport n (setReport s r)
+    go true h = ap (λ m. withReport m (setReport s r)) (sym (success-only n h))
+    go false h = refl
+
 -- A REFUSED CALL CHANGES NOTHING, whatever the state and the call
 pub refused-changes-nothing : (s : State) (c : Call) → isSuccess (step s c .0 .status) ≡ false → step s c .1 ≡ s
 unfolding step
@@ -120,14 +128,16 @@ unfolding step
 refused-answer s c h = ap (λ b. cond b (given s c) (refusal s c (status s c))) (ap isSuccess (sym (answer-status s c (status s c))) ∙ h)
 
 -- NO NUMBER BUT ZERO BESIDE A REFUSAL, except a dump's length beside 5; a dump's buffer is as it was, a power-on or restart hands back
--- the refused switches, and nothing else is there
-pub record BesideRefusal (c : Call) (a : Answer) : Type 0 where
+-- the refused switches, a set has its report, and nothing else is there
+pub record BesideRefusal (s : State) (c : Call) (a : Answer) : Type 0 where
   pub number : eqb (statusNumber (a .status)) 5 ≡ false → a .number ≡ 0
   pub bytes : a .bytes ≡ uses c .refusedBytes
   pub switches : a .switches ≡ uses c .handsBack
+  pub report : a .report ≡ reportOn s (uses c .reports)
 
-pub beside-refusal : (s : State) (c : Call) → isSuccess (step s c .0 .status) ≡ false → BesideRefusal c (step s c .0)
-beside-refusal s c h = subst⁻¹ (BesideRefusal c) (refused-answer s c h) (record { number = λ m. rw m (go (uses c .tellsNeeded)); bytes = refl; switches = refl })
+pub beside-refusal : (s : State) (c : Call) → isSuccess (step s c .0 .status) ≡ false → BesideRefusal s c (step s c .0)
+beside-refusal s c h =
+    subst⁻¹ (BesideRefusal s c) (refused-answer s c h) (record { number = λ m. rw m (go (uses c .tellsNeeded)); bytes = refl; switches = refl; report = refl })
   where
     go : (b : Bool) → cond {A = ℕ} b 0 0 ≡ 0
     go true = refl

@@ -294,11 +294,15 @@ pub data Applies (s : State) : Call → ℕ → Status → Type 0 where
   -- 10
   setDone : {r : Request} → Applies s (set r) 100 Success
 
--- WHAT A CALL ANSWERS: the first that applies in its order
-pub record Answers (s : State) (c : Call) (n : Status) : Type 0 where
-  pub place : ℕ
+-- the first that applies in the call's order: its place there, and the status that it gives
+pub record FirstAt (s : State) (c : Call) (place : ℕ) (n : Status) : Type 0 where
   pub applies : Applies s c place n
   pub first : (k : ℕ) (m : Status) → k < place → Not (Applies s c k m)
+
+-- WHAT A CALL ANSWERS: the status of the first that applies
+pub record Answers (s : State) (c : Call) (n : Status) : Type 0 where
+  pub place : ℕ
+  pub at : FirstAt s c place n
 
 -- the rules give a ground to refuse: the first that applies gives a status other than 0
 pub record Refused (s : State) (c : Call) : Type 0 where

@@ -28,7 +28,7 @@ use Rattle.rules.specs.Set.{Request, exists}
 use Rattle.rules.specs.Engine.{State, Call, powerOnStatus, restartStatus, registerStatus, dumpStatus, readStatus, status, step}
 use Rattle.rules.specs.EngineLaws.{step-status}
 use Rattle.rules.specs.Engine.Call.{powerOn, restart, register, dump, lock, disable, query, read, set}
-use Rattle.rules.specs.Grounds.{Not, HasEntries, sumOfSizes, SoundStores, Applies, Answers, Refused}
+use Rattle.rules.specs.Grounds.{Not, HasEntries, sumOfSizes, SoundStores, Applies, FirstAt, Answers, Refused}
 use Rattle.rules.specs.Grounds.Applies.{powerOnUnsound, powerOnVolatileTooLong, powerOnBadRecord, powerOnDone, restartUnsound, restartBadRecord, restartDone}
 use Rattle.rules.specs.Grounds.Applies.{registerBadRecord, registerLocked, registerMalformed, registerRepeated, registerTooMany, registerTooLong, registerDone, dumpBadRecord, dumpShort, dumpDone}
 use Rattle.rules.specs.Grounds.Applies.{lockLocked, lockDone, disableDisabled, disableLocked, disableNotAllowed, disableDone, queryDone, readUnsound, readBadName, readAbsent, readDone}
@@ -384,20 +384,21 @@ at-place s c k n (setNoRoomNV rs qs h j t i) = refl
 at-place s c k n (setNoRoomVol rs qs h j t i) = refl
 at-place s c k n setDone = refl
 
--- AT MOST ONE ANSWER: two that are first stand at one place, and grounds at one place give one status
-pub one-answer : (s : State) (c : Call) (n m : Status) → Answers s c n → Answers s c m → n ≡ m
-one-answer s c n m a b = at-place s c (a .place) n (a .applies) ∙ ap (gives c) same-place ∙ sym (at-place s c (b .place) m (b .applies))
+-- two that are first stand at one place
+pub one-place : (s : State) (c : Call) (j k : ℕ) (n m : Status) → FirstAt s c j n → FirstAt s c k m → j ≡ k
+one-place s c j k n m a b = go (less j k) (less k j)
   where
-    not-before : (n m : Status) (a : Answers s c n) (b : Answers s c m) → a .place < b .place → ⊥
-    not-before n m a b l = b .first (a .place) n l (a .applies)
+    go : Less j k → Less k j → j ≡ k
+    go (inl h) l = absurd (b .first j n (h .0) (a .applies))
+    go (inr h) (inl l) = absurd (a .first k m (l .0) (b .applies))
+    go (inr h) (inr l) = let x = h .0 in let y = l .0 in omega arith
 
-    same-place : a .place ≡ b .place
-    same-place = go (less (a .place) (b .place)) (less (b .place) (a .place))
-      where
-        go : Less (a .place) (b .place) → Less (b .place) (a .place) → a .place ≡ b .place
-        go (inl h) k = absurd (not-before n m a b (h .0))
-        go (inr h) (inl k) = absurd (not-before m n b a (k .0))
-        go (inr h) (inr k) = let i = h .0 in let j = k .0 in omega arith
+-- AT MOST ONE ANSWER: grounds at one place give one status
+pub one-answer : (s : State) (c : Call) (n m : Status) → Answers s c n → Answers s c m → n ≡ m
+one-answer s c n m a b =
+    at-place s c (a .place) n (a .at .applies)
+    ∙ ap (gives c) (one-place s c (a .place) (b .place) n m (a .at) (b .at))
+    ∙ sym (at-place s c (b .place) m (b .at .applies))
 
 -- THE STATUS IS n EXACTLY IF n IS THE FIRST THAT APPLIES, whatever the state and the call
 pub status-exactly : (s : State) (c : Call) (n : Status) → (step s c .0 .status ≡ n) ↔ Answers s c n

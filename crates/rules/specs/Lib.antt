@@ -1,4 +1,5 @@
 pub mod Set
+pub mod Report
 pub mod DecisionLaws
 pub mod SetLaws
 pub mod Engine
@@ -10,6 +11,8 @@ pub mod FoundLaws
 pub mod OrderedLaws
 pub mod SetGroundsLaws
 pub mod GroundsLaws
+pub mod ReportLaws
+pub mod SetReportLaws
 pub mod EffectsLaws
 pub mod SizeLaws
 pub mod StateLaws

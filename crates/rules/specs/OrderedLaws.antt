@@ -12,7 +12,7 @@ use Rattle.slices.specs.TestLaws.{and-left, and-right, forced-off}
 use Rattle.status.specs.declared.Status.{Status}
 use Rattle.status.specs.declared.Status.the-variants.{Success}
 use Rattle.rules.specs.Engine.{State, Call, status}
-use Rattle.rules.specs.Grounds.{Applies, Answers}
+use Rattle.rules.specs.Grounds.{Applies, FirstAt, Answers}
 
 -- a test of the rules: its place in the call's order, and the status that it gives where it holds
 pub record Row : Type 0 where
@@ -29,6 +29,10 @@ at rows i = getD rows i (row 0 false Success)
 abbrev pub firstOf : List Row → Status
 firstOf [] = Success
 firstOf (r ∷ rows) = cond (r .test) (r .gives) (firstOf rows)
+
+abbrev pub firstPlace : List Row → ℕ
+firstPlace [] = 0
+firstPlace (r ∷ rows) = cond {A = ℕ} (r .test) (r .place) (firstPlace rows)
 
 -- the places do not fall
 abbrev pub ordered : ℕ → List Row → Bool
@@ -59,6 +63,7 @@ record Hit (rows : List Row) : Type 0 where
   holds : at rows index .test ≡ true
   none : NoneBefore rows (at rows index .place)
   is : at rows index .gives ≡ firstOf rows
+  stands : at rows index .place ≡ firstPlace rows
 
 not-below : (low : ℕ) (rows : List Row) → ordered low rows ≡ true → (i : ℕ) → at rows i .test ≡ true → low ≤ at rows i .place
 not-below low [] o i t = absurd (false≢true t)
@@ -76,14 +81,14 @@ hit low (r ∷ rows) o t = go (r .test) refl t (hit (r .place) rows above)
     above = and-right (leb low (r .place)) _ o
 
     go : (b : Bool) → r .test ≡ b → (b || someHolds rows) ≡ true → (someHolds rows ≡ true → Hit rows) → Hit (r ∷ rows)
-    go true e h f = record { index = 0; holds = e; none = here; is = rw e }
+    go true e h f = record { index = 0; holds = e; none = here; is = rw e; stands = rw e }
       where
         here : NoneBefore (r ∷ rows) (r .place)
         here zero l = absurd (omega arith)
         here (suc i) l = forced-off (at rows i .test) (λ u. absurd (let k = not-below (r .place) rows above i u in omega arith))
     go false e h f =
         let k = f h in
-        record { index = suc (k .index); holds = k .holds; none = later k; is = rw e (k .is) }
+        record { index = suc (k .index); holds = k .holds; none = later k; is = rw e (k .is); stands = rw e (k .stands) }
       where
         later : (k : Hit rows) → NoneBefore (r ∷ rows) (at rows (k .index) .place)
         later k zero l = e
@@ -107,11 +112,13 @@ module _ (s : State) (c : Call) (rows : List Row) where
   abbrev pub NoGrounds : Type 0
   NoGrounds = (p : ℕ) → NoneBefore rows p → (k : ℕ) (m : Status) → k < p → Applies s c k m → ⊥
 
-  pub first-answers : ordered 0 rows ≡ true → lastHolds rows ≡ true → status s c ≡ firstOf rows → Grounds s c rows rows → NoGrounds → Answers s c (status s c)
-  first-answers o t e g n =
+  pub first-at : ordered 0 rows ≡ true → lastHolds rows ≡ true → status s c ≡ firstOf rows → Grounds s c rows rows → NoGrounds → FirstAt s c (firstPlace rows) (status s c)
+  first-at o t e g n =
       let h = hit 0 rows o (last-some rows t) in
-      record {
-        place = at rows (h .index) .place;
+      subst (λ k. FirstAt s c k (status s c)) (h .stands) (record {
         applies = subst (Applies s c (at rows (h .index) .place)) (h .is ∙ sym e) (ground-at rows g (h .index) (h .none) (h .holds));
         first = λ k m l a. n (at rows (h .index) .place) (h .none) k m l a;
-      }
+      })
+
+  pub first-answers : ordered 0 rows ≡ true → lastHolds rows ≡ true → status s c ≡ firstOf rows → Grounds s c rows rows → NoGrounds → Answers s c (status s c)
+  first-answers o t e g n = record { place = firstPlace rows; at = first-at o t e g n }

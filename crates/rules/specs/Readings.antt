@@ -1,15 +1,19 @@
--- The proved bench readings (RULES.md, 13), as the statuses that whole calls answer from a power-on, under one claim.
+-- The proved bench readings (RULES.md, 13), as the statuses that whole calls answer from a power-on, under one claim; and reports of sets, under
+-- another.
 -- Assumes nothing.
 use Prim.Native.Nat.{ℕ, _+_, _*_}
 use mathlib.Core.Path.{_≡_, refl}
 use mathlib.Core.List.{List, [], _∷_, _++_}
 use mathlib.Core.Bool.{true, false}
+use mathlib.Core.Option.{Option, none, some}
 use lib.ListN.{length, replicate, take}
 use Rattle.limits.specs.Limits.{policyBytes}
 use Rattle.lists.specs.Lists.{All, nil, more}
 use Rattle.slices.specs.Bytes.{Bytes, le16Bytes, le32Bytes, same}
 use Rattle.status.specs.Status.{statusNumber}
 use Rattle.switches.specs.Switches.{freshSwitches}
+use Rattle.rules.specs.declared.Report.{Report}
+use Rattle.rules.specs.Report.{groundNumber}
 use Rattle.rules.specs.Engine.{State, Call, step}
 use Rattle.rules.specs.Engine.Call.{powerOn, register, lock, disable, set}
 use Rattle.rules.specs.Opened.{rulesOpened}
@@ -28,11 +32,15 @@ text (u ∷ us) = u ∷ 0 ∷ text us
 abbrev closed : List ℕ → Bytes
 closed us = text us ++ (0 ∷ 0 ∷ [])
 
--- an entry of namespace G with any attributes: Size, OffsetToName, MinSize, MaxSize, lock type, and what follows the header
-abbrev sized-entry : ℕ → ℕ → ℕ → ℕ → ℕ → Bytes → Bytes
-sized-entry size offset min max type tail =
-    le32Bytes 0x10000 ++ le16Bytes size ++ le16Bytes offset ++ G ++ le32Bytes min ++ le32Bytes max ++ le32Bytes 0 ++ le32Bytes 0
+-- an entry of namespace G: Size, OffsetToName, MinSize, MaxSize, required and prohibited attributes, lock type, and what follows the header
+abbrev whole-entry : ℕ → ℕ → ℕ → ℕ → ℕ → ℕ → ℕ → Bytes → Bytes
+whole-entry size offset min max must cant type tail =
+    le32Bytes 0x10000 ++ le16Bytes size ++ le16Bytes offset ++ G ++ le32Bytes min ++ le32Bytes max ++ le32Bytes must ++ le32Bytes cant
     ++ (type ∷ 0 ∷ 0 ∷ 0 ∷ []) ++ tail
+
+-- one with any attributes
+abbrev sized-entry : ℕ → ℕ → ℕ → ℕ → ℕ → Bytes → Bytes
+sized-entry size offset min max type tail = whole-entry size offset min max 0 0 type tail
 
 -- one without an upper limit to the size
 abbrev entry : ℕ → ℕ → ℕ → ℕ → Bytes → Bytes
@@ -88,6 +96,28 @@ A = 0x41 ∷ []
 abbrev T : List ℕ
 T = 0x54 ∷ []
 
+-- ---- how reports are written down
+
+-- a report as its six numbers, and nothing where there is none
+abbrev reportNumbers : Option Report → List ℕ
+reportNumbers none = []
+reportNumbers (some p) = groundNumber (p .ground) ∷ p .place ∷ p .rank ∷ p .missing ∷ p .prohibited ∷ p .lowest ∷ []
+
+-- the number of the status of each call, and of a set its report behind it
+abbrev told : State → List Call → List ℕ
+told s [] = []
+told s (c ∷ cs) = statusNumber (step s c .0 .status) ∷ (reportNumbers (step s c .0 .report) ++ told (step s c .1) cs)
+
+abbrev Tells : List Call × List ℕ → Type 0
+Tells r = same (told board (powerOn true ∷ r .0)) (r .1) ≡ true
+
+abbrev A0 : List ℕ
+A0 = 0x41 ∷ 0x30 ∷ []
+
+-- "A#" with MaxSize 2, NV and RT required, append prohibited, lock now
+abbrev demanding : Bytes
+demanding = whole-entry 50 44 0 2 5 0x40 1 (closed (0x41 ∷ 0x23 ∷ []))
+
 -- ---- the readings and what they say
 
 -- calls after a power-on that allows disabling, and the numbers of their statuses, the power-on's first
@@ -135,3 +165,34 @@ readings =
 pub readings-hold : All Holds readings
 unfolding rulesOpened
 readings-hold = more refl (more refl (more refl (more refl (more refl (more refl (more refl (more refl (more refl (more refl (more refl (more refl (more refl (more refl (more refl (more refl (more refl (more refl (more refl (more refl nil)))))))))))))))))))
+
+-- ---- the reports
+
+abbrev reports : List (List Call × List ℕ)
+reports =
+    -- beside another entry: size, then attributes, then the lock, of a deletion too; step 2, and a variable that the other entry is for; a disabled engine
+    (
+      (register (named-entry 0 0 (0x42 ∷ [])) ∷ register demanding
+          ∷ setting A0 2 (1 ∷ 2 ∷ 3 ∷ []) ∷ setting A0 2 (7 ∷ []) ∷ setting A0 0x47 (7 ∷ []) ∷ setting A0 0x42 (7 ∷ []) ∷ setting A0 7 (7 ∷ []) ∷ delete A0
+          ∷ setting A0 8 (7 ∷ []) ∷ write (0x42 ∷ []) ∷ disable ∷ setting A0 2 (7 ∷ []) ∷ []),
+      0 ∷ 0 ∷ 0
+          ∷ 2 ∷ 1 ∷ 1 ∷ 1 ∷ 0 ∷ 0 ∷ 0
+          ∷ 2 ∷ 2 ∷ 1 ∷ 1 ∷ 2 ∷ 0 ∷ 0
+          ∷ 2 ∷ 2 ∷ 1 ∷ 1 ∷ 0 ∷ 1 ∷ 6
+          ∷ 2 ∷ 2 ∷ 1 ∷ 1 ∷ 2 ∷ 1 ∷ 0
+          ∷ 8 ∷ 3 ∷ 1 ∷ 1 ∷ 0 ∷ 0 ∷ 0
+          ∷ 8 ∷ 3 ∷ 1 ∷ 1 ∷ 0 ∷ 0 ∷ 0
+          ∷ 3 ∷ 0 ∷ 0 ∷ 0 ∷ 0 ∷ 0 ∷ 0
+          ∷ 0 ∷ 0 ∷ 0 ∷ 0 ∷ 0 ∷ 0 ∷ 0
+          ∷ 0
+          ∷ 0 ∷ 0 ∷ 0 ∷ 0 ∷ 0 ∷ 0 ∷ 0 ∷ [],
+    )
+    -- a whole namespace that requires the highest bit; that prohibits BS beside it
+    ∷ ((register (whole-entry 44 44 0 0xFFFFFFFF 0x80000000 0 0 []) ∷ write A ∷ []), 0 ∷ 0 ∷ 2 ∷ 2 ∷ 0 ∷ 65 ∷ 1 ∷ 0 ∷ 31 ∷ [])
+    ∷ ((register (whole-entry 44 44 0 0xFFFFFFFF 0x80000000 2 0 []) ∷ write A ∷ []), 0 ∷ 0 ∷ 2 ∷ 2 ∷ 0 ∷ 65 ∷ 1 ∷ 1 ∷ 1 ∷ [])
+    ∷ []
+
+-- THE REPORTS HOLD
+pub reports-hold : All Tells reports
+unfolding rulesOpened
+reports-hold = more refl (more refl (more refl nil))

@@ -34,24 +34,25 @@ use Rattle.rules.specs.declared.Ground.the-variants.{NoGround, SizeGroun
 use Rattle.rules.specs.declared.Decision.{Decision}
 use Rattle.rules.specs.declared.Decision.the-variants.{Refuse, Delete, Keep, Store}
 use Rattle.rules.specs.Set.{Request, Lookup, orGround, exists, badRequest, unsupportedBit, needsBS, requestStatus, holdsValue, ruleLocks, locks, isDeletion, sizeAllowed, attributesAllowed, requestGround, groundOf, groundBy, otherAttributes, isEmptyAppend, payloadAfter, lengthAfter, recordAfter, storeOf, writeDecision, refuseOr, blockOr, decision, decisionStatus}
-use Rattle.rules.specs.Engine.{State, speaking, decisionBy, status}
+use Rattle.rules.specs.DecisionLaws.{blockedBy, write-unblocked}
+use Rattle.rules.specs.Engine.{State, speaking, decisionBy, setDecision, status}
 use Rattle.rules.specs.Engine.Call.{set}
-use Rattle.rules.specs.Grounds.{Not, Bit, BS, RT, Append, HasEntries, SoundStores, RecordOf, Locks, Deletion, SameAttributes, Enforced, PayloadAfter, Storing, Applies, Answers}
+use Rattle.rules.specs.Grounds.{Not, Bit, BS, RT, Append, HasEntries, SoundStores, RecordOf, Locks, Deletion, SameAttributes, Enforced, PayloadAfter, Storing, Applies, FirstAt, Answers}
 use Rattle.rules.specs.Grounds.Applies.{setUnsound, setBadRecord, setBadName, setLongPayload, setUnknownBit, setRuntimeWithoutBS, setAppendWithoutBS, setTooShort, setTooLong, setBitMissing, setBitProhibited, setLocked}
 use Rattle.rules.specs.Grounds.Applies.{setAbsent, setDeleted, setOtherAttributes, setEmptyAppend, setAppendTooLong, setNoRoomNV, setNoRoomVol, setDone}
 use Rattle.rules.specs.ConditionLaws.{Tells, tells-not, tells-and, tells-nand, tells-eq, tells-le, tells-lt, tells-more, tells-same, tells-off, off-tells, tells-missing, tells-prohibited, tells-unsupported, tells-nv, tells-append, tells-deletion, tells-nothing, tells-needs-bs, tells-named, chosen-is, is-chosen}
 use Rattle.rules.specs.FoundLaws.{none-some, tells-sound, valid-entries, entries-read, tells-entries, tells-exists, first-records, second-records, distinct-first, distinct-second, found-lookup, lookup-found, lookup-absent, with-put, put-with}
-use Rattle.rules.specs.OrderedLaws.{Row, row, firstOf, NoneBefore, Grounds, last, _then_, NoGrounds, first-answers}
+use Rattle.rules.specs.OrderedLaws.{Row, row, firstOf, firstPlace, NoneBefore, Grounds, last, _then_, NoGrounds, first-at}
 
 -- ---- the tests in their order
 
-abbrev isSize : Ground → Bool
+abbrev pub isSize : Ground → Bool
 isSize NoGround = false
 isSize SizeGround = true
 isSize AttributeGround = false
 isSize LockGround = false
 
-abbrev isAttribute : Ground → Bool
+abbrev pub isAttribute : Ground → Bool
 isAttribute NoGround = false
 isAttribute SizeGround = false
 isAttribute AttributeGround = true
@@ -95,7 +96,7 @@ all-rows sound valid named long unsupported needs rows =
     ∷ row 20 unsupported Unsupported ∷ row 30 needs InvalidParameter ∷ rows
 
 all-chain : (s v n l u b : Bool) (d : Decision) (rows : List Row) → decisionStatus d ≡ firstOf rows
-    → cond (s and v) (decisionStatus (refuseOr (cond (not n || l) InvalidParameter (cond u Unsupported (cond b InvalidParameter Success))) d)) VolumeCorrupted
+    → decisionStatus (cond (s and v) (refuseOr (cond (not n || l) InvalidParameter (cond u Unsupported (cond b InvalidParameter Success))) d) (Refuse VolumeCorrupted))
     ≡ firstOf (all-rows s v n l u b rows)
 unfolding _and_
 all-chain false v n l u b d rows e = refl
@@ -106,10 +107,50 @@ all-chain true true true false true b d rows e = refl
 all-chain true true true false false true d rows e = refl
 all-chain true true true false false false d rows e = e
 
+-- ---- at which place the steps end
+
+-- the place of a ground of step 4, and any other without one
+abbrev pub EndsAt : Ground → ℕ → Type 0
+EndsAt NoGround p = Not ((41 ≤ p) × (p ≤ 43))
+EndsAt SizeGround p = p ≡ 41
+EndsAt AttributeGround p = p ≡ 42
+EndsAt LockGround p = p ≡ 43
+
+write-place : (d x o e l m : Bool) → 43 < firstPlace (write-rows d x o e l m)
+unfolding _and_
+write-place true true o e l m = lit< tt
+write-place true false o e l m = lit< tt
+write-place false x true e l m = lit< tt
+write-place false x false true l m = lit< tt
+write-place false x false false true m = lit< tt
+write-place false x false false false true = lit< tt
+write-place false x false false false false = lit< tt
+
+ground-ends : (g : Ground) (d : Decision) (rows : List Row) → blockedBy d ≡ NoGround → 43 < firstPlace rows → EndsAt (blockedBy (blockOr g d)) (firstPlace (ground-rows g rows))
+ground-ends NoGround d rows e l = subst⁻¹ (λ g. EndsAt g (firstPlace rows)) e (λ w. let h = w .1 in omega arith)
+ground-ends SizeGround d rows e l = refl
+ground-ends AttributeGround d rows e l = refl
+ground-ends LockGround d rows e l = refl
+
+before-4 : (p : ℕ) → p < 41 → EndsAt NoGround p
+before-4 p l w = let h = w .0 in omega arith
+
+all-ends : (s v n l u b : Bool) (g : Ground) (d : Decision) (rows : List Row) → blockedBy d ≡ NoGround → 43 < firstPlace rows
+    → EndsAt (blockedBy (cond (s and v) (refuseOr (cond (not n || l) InvalidParameter (cond u Unsupported (cond b InvalidParameter Success))) (blockOr g d)) (Refuse VolumeCorrupted)))
+    (firstPlace (all-rows s v n l u b (ground-rows g rows)))
+unfolding _and_
+all-ends false v n l u b g d rows e f = before-4 0 (lit< tt)
+all-ends true false n l u b g d rows e f = before-4 0 (lit< tt)
+all-ends true true false l u b g d rows e f = before-4 10 (lit< tt)
+all-ends true true true true u b g d rows e f = before-4 10 (lit< tt)
+all-ends true true true false true b g d rows e f = before-4 20 (lit< tt)
+all-ends true true true false false true g d rows e f = before-4 30 (lit< tt)
+all-ends true true true false false false g d rows e f = ground-ends g d rows e f
+
 -- ---- step 4
 
 -- which ground speaks: a deletion or not, size and attributes allowed or not, locked or not
-data Spoken (d z a l : Bool) : Ground → Type 0 where
+pub data Spoken (d z a l : Bool) : Ground → Type 0 where
   bySize : d ≡ false → z ≡ false → Spoken d z a l SizeGround
   byAttributes : d ≡ false → z ≡ true → a ≡ false → Spoken d z a l AttributeGround
   byLock : (d ≡ false → (z ≡ true) × (a ≡ true)) → l ≡ true → Spoken d z a l LockGround
@@ -124,13 +165,13 @@ spoken false true true true = byLock (λ h. (refl, refl)) refl
 spoken false true true false = byNone (λ h. (refl, refl)) refl
 
 module _ {d z a l : Bool} where
-  size-says : (g : Ground) → Spoken d z a l g → isSize g ≡ true → (d ≡ false) × (z ≡ false)
+  pub size-says : (g : Ground) → Spoken d z a l g → isSize g ≡ true → (d ≡ false) × (z ≡ false)
   size-says g (bySize e f) h = (e, f)
   size-says g (byAttributes e f i) h = absurd (false≢true h)
   size-says g (byLock w i) h = absurd (false≢true h)
   size-says g (byNone w i) h = absurd (false≢true h)
 
-  attribute-says : (g : Ground) → Spoken d z a l g → isAttribute g ≡ true → (d ≡ false) × (a ≡ false)
+  pub attribute-says : (g : Ground) → Spoken d z a l g → isAttribute g ≡ true → (d ≡ false) × (a ≡ false)
   attribute-says g (bySize e f) h = absurd (false≢true h)
   attribute-says g (byAttributes e f i) h = (e, i)
   attribute-says g (byLock w i) h = absurd (false≢true h)
@@ -162,7 +203,7 @@ module _ {d z a l : Bool} where
   no-lock g (byNone w i) h j k = i
 
 -- the tests of an entry
-tells-size : (e : Bytes) (n : ℕ) → Tells (not (sizeAllowed e n)) ((n < minSize e) ⊎ (maxSize e < n))
+pub tells-size : (e : Bytes) (n : ℕ) → Tells (not (sizeAllowed e n)) ((n < minSize e) ⊎ (maxSize e < n))
 unfolding sizeAllowed
 tells-size e n = tells-nand _ _ (tells-more (minSize e) n) (tells-more n (maxSize e))
 
@@ -389,7 +430,7 @@ module _ (s : State) (r : Request) where
       (ground-chain spokenGround _ last-rows
       (write-chain (isDeletion (r .attributes) (r .payload)) (exists standing) (otherAttributes standing (r .attributes)) (isEmptyAppend (r .attributes) (r .payload)) long room))
 
-  enforced-entry : (e : Bytes) → Enforced s r e → chosenEntry ≡ some e
+  pub enforced-entry : (e : Bytes) → Enforced s r e → chosenEntry ≡ some e
   enforced-entry e w =
       let c = subst (λ x. chosen x (r .variable) ≡ some e) (entries-read s (w .entries) (w .listed)) (is-chosen (w .entries) (r .variable) e (w .choice)) in
       rw (w .enabled) c
@@ -399,7 +440,7 @@ module _ (s : State) (r : Request) where
       all-among (w .entries) (w .listed .formed) e
       (subst⁻¹ (Among e) (w .choice .place) (among-middle (w .choice .before) e (w .choice .after)))
 
-  entry-enforced : HasEntries s (entriesOf (s .policy)) → (e : Bytes) → chosenEntry ≡ some e → Enforced s r e
+  pub entry-enforced : HasEntries s (entriesOf (s .policy)) → (e : Bytes) → chosenEntry ≡ some e → Enforced s r e
   entry-enforced l e = go (s .switches .enabled) refl
     where
       go : (b : Bool) → s .switches .enabled ≡ b → speaking b (chosen (entriesOf (s .policy)) (r .variable)) ≡ some e → Enforced s r e
@@ -415,7 +456,7 @@ module _ (s : State) (r : Request) where
       go none e h = absurd (false≢true (sym f ∙ h))
       go (some x) e h = (x, e, h)
 
-  spoken-of : (e : Bytes) → Spoken (isDeletion (r .attributes) (r .payload)) (sizeAllowed e (lengthAfter standing r)) (attributesAllowed e (r .attributes)) (locks e (lookup (s .nv) (s .vol)) (r .variable))
+  pub spoken-of : (e : Bytes) → Spoken (isDeletion (r .attributes) (r .payload)) (sizeAllowed e (lengthAfter standing r)) (attributesAllowed e (r .attributes)) (locks e (lookup (s .nv) (s .vol)) (r .variable))
       (groundOf e (lookup (s .nv) (s .vol)) r)
   unfolding groundOf requestGround
   spoken-of e = spoken _ _ _ _
@@ -540,6 +581,25 @@ module _ (s : State) (r : Request) where
       (subst (λ b. hasRoom b (cond b (s .nv) (s .vol)) (r .variable) (recordAfter standing r) ≡ true) (off-tells _ (tells-nv (r .attributes)) h) (not-false _ (n 14 l))) i
   no-set p n k m l setDone = true≢false (n 15 l)
 
-  pub set-answers : Answers s (set r) (status s (set r))
+  -- the first ground that applies, whose place tells what is decided
+  pub record SetEnds : Type 0 where
+    pub place : ℕ
+    pub at : FirstAt s (set r) place (status s (set r))
+    pub ends : EndsAt (blockedBy (setDecision s r)) place
+
+  set-first : FirstAt s (set r) (firstPlace set-rows) (status s (set r))
   unfolding _and_
-  set-answers = first-answers s (set r) set-rows refl refl set-chain set-grounds no-set
+  set-first = first-at s (set r) set-rows refl refl set-chain set-grounds no-set
+
+  place-ends : EndsAt (blockedBy (setDecision s r)) (firstPlace set-rows)
+  unfolding decisionBy decision requestStatus badRequest
+  place-ends =
+      all-ends (sound (s .nv) (s .vol)) (policyValid (s .policy)) (named (r .variable)) (ltb maxPayload (length (r .payload))) (unsupportedBit (r .attributes)) (needsBS (r .attributes))
+      spokenGround (writeDecision (s .nv) (s .vol) standing r) last-rows (write-unblocked (s .nv) (s .vol) standing r)
+      (write-place (isDeletion (r .attributes) (r .payload)) (exists standing) (otherAttributes standing (r .attributes)) (isEmptyAppend (r .attributes) (r .payload)) long room)
+
+  pub set-ends : SetEnds
+  set-ends = record { place = firstPlace set-rows; at = set-first; ends = place-ends }
+
+  pub set-answers : Answers s (set r) (status s (set r))
+  set-answers = record { place = set-ends .place; at = set-ends .at }

@@ -51,7 +51,7 @@ module _ (s : State) (r : Request) (e : Bytes) (w : Enforced s r e) (d : Not (De
   after-within : (p : Bytes) → PayloadAfter s r p → SizeWithin e (length p)
   after-within p a =
       let z = status-exactly s (set r) Success .0 (success-only _ granted) in
-      let o = z .first 41 InvalidParameter (past-size s r (z .place) (z .applies)) in
+      let o = z .at .first 41 InvalidParameter (past-size s r (z .place) (z .at .applies)) in
       let short : Not (length p < minSize e) = λ h. o (setTooShort e p w d a h) in
       let long : Not (maxSize e < length p) = λ h. o (setTooLong e p w d a h) in
       (omega arith, omega arith)

@@ -25,9 +25,11 @@ use Rattle.stores.specs.PairLaws.{sound-erased, sound-alone, sound-vol}
 use Rattle.status.specs.declared.Status.{Status}
 use Rattle.status.specs.declared.Status.the-variants.{Success, InvalidParameter, WriteProtected, OutOfResources, VolumeCorrupted, AlreadyStarted}
 use Rattle.status.specs.Status.{isSuccess}
+use Rattle.rules.specs.declared.Decision.the-variants.{Refuse}
+use Rattle.rules.specs.Set.{Request, decisionStatus}
 use Rattle.rules.specs.SetLaws.{set-sound}
 use Rattle.rules.specs.EngineLaws.{step-status, granted-effect}
-use Rattle.rules.specs.Engine.{State, Call, powerOnStatus, restartStatus, registerStatus, speaking, decisionBy, status, effect, step}
+use Rattle.rules.specs.Engine.{State, Call, powerOnStatus, restartStatus, registerStatus, speaking, decisionBy, decisionIn, status, effect, step}
 use Rattle.rules.specs.Engine.Call.{powerOn, restart, register, dump, lock, disable, query, read, set}
 
 -- sound stores, a valid policy record, and a disabled engine has leave to disable
@@ -42,6 +44,15 @@ pub record Sound (s : State) : Type 0 where
 pub passed : (b : Bool) (n : Status) → isSuccess (cond b n VolumeCorrupted) ≡ true → (b ≡ true) × (isSuccess n ≡ true)
 passed true n h = (refl, h)
 passed false n h = absurd (false≢true h)
+
+-- the same of a set
+pub set-passed : (s : State) (r : Request) → isSuccess (status s (set r)) ≡ true
+    → (sound (s .nv) (s .vol) and policyValid (s .policy) ≡ true) × (isSuccess (decisionStatus (decisionIn s r)) ≡ true)
+set-passed s r h = go (sound (s .nv) (s .vol) and policyValid (s .policy)) h
+  where
+    go : (b : Bool) → isSuccess (decisionStatus (cond b (decisionIn s r) (Refuse VolumeCorrupted))) ≡ true → (b ≡ true) × (isSuccess (decisionStatus (decisionIn s r)) ≡ true)
+    go true h = (refl, h)
+    go false h = absurd (false≢true h)
 
 -- a registration's tests
 pub record Registered (locked : Bool) (es : List Bytes) (e : Bytes) : Type 0 where

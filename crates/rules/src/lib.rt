@@ -17,3 +17,14 @@ pub enum Decision {
     Keep,
     Store,
 }
+
+// What a set tells of step 4, beside its status (RULES.md, 10.10): the ground that spoke, with the place of the chosen entry, counted from 0,
+// and its rank; for attributes also how many required bits are missing, how many prohibited ones are set, and the lowest of them all. All else is 0.
+pub struct Report {
+    pub ground: Ground,
+    pub place: u32,
+    pub rank: u32,
+    pub missing: u32,
+    pub prohibited: u32,
+    pub lowest: u32,
+}

@@ -4,3 +4,5 @@ pub mod Grounds
 pub mod Spoken
 pub mod WriteSteps
 pub mod Puts
+pub mod Reports
+pub mod Decisions

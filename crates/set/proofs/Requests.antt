@@ -2,10 +2,10 @@
 use Prim.Native.Nat.{ℕ, _≤_, _<_}
 use mathlib.Core.Path.{_≡_, refl, sym, _∙_}
 use mathlib.Core.List.{[], _∷_}
-use mathlib.Core.Bool.{Bool, true, false, not, _||_, cond, false≢true}
+use mathlib.Core.Bool.{Bool, true, false}
 use native.Mathlib.Omega.{arith}
 use lib.ListN.{length, getD}
-use lib.Dec.{eqb, ltb, eqb·suc-zero}
+use lib.Dec.{eqb, eqb·suc-zero}
 use borrow.Author.Tests.{eq-eqb, lt-ltb, le-ltb}
 use Rattle.slices.specs.Test.{_and_}
 use Rattle.slices.specs.TestLaws.{and-no}
@@ -15,8 +15,7 @@ use Rattle.limits.specs.Limits.{namespaceBytes, maxPayload}
 use Rattle.names.specs.Name.{named, isName}
 use Rattle.store.specs.Record.{hasBS, hasRT, hasAppend}
 use Rattle.status.specs.declared.Status.the-variants.{Success, InvalidParameter, Unsupported}
-use Rattle.status.specs.Status.{isSuccess}
-use Rattle.rules.specs.Set.{Request, isEmpty, requestOf, badRequest, unsupportedBit, needsBS, requestStatus}
+use Rattle.rules.specs.Set.{isEmpty, requestOf, badRequest, unsupportedBit, needsBS, requestStatus}
 
 pub empty-length : (l : Bytes) → length l ≡ 0 → isEmpty l ≡ true
 unfolding isEmpty
@@ -88,14 +87,3 @@ module _ (namespace name : Bytes) (a : ℕ) (payload : Bytes) (g : length namesp
         pub taken : needsBS a ≡ false → Success ≡ requestStatus (requestOf namespace name a payload)
         unfolding _and_ requestStatus badRequest named
         taken m = simp (eq-eqb _ _ g, h, le-ltb _ _ k, l, m)
-
--- a request that steps 1 to 3 take has a name
-pub taken-named : (r : Request) → isSuccess (requestStatus r) ≡ true → named (r .variable) ≡ true
-unfolding requestStatus badRequest
-taken-named r h = go (named (r .variable)) refl h
-  where
-    go : (n : Bool) → named (r .variable) ≡ n
-        → isSuccess (cond (not n || ltb maxPayload (length (r .payload))) InvalidParameter (cond (unsupportedBit (r .attributes)) Unsupported (cond (needsBS (r .attributes)) InvalidParameter Success))) ≡ true
-        → named (r .variable) ≡ true
-    go true e k = e
-    go false e k = absurd (false≢true k)

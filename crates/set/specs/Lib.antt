@@ -1,2 +1,3 @@
 pub mod Known
+pub mod Decided
 pub mod Writable

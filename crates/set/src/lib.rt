@@ -12,6 +12,7 @@ ghost use Rattle.slices.specs.Test.{_and_};
 ghost use Rattle.slices.specs.Bytes.{Bytes, part, same};
 ghost use Rattle.names.specs.Name.{Variable, variable, named};
 ghost use Rattle.entry.specs.Entry.{wellFormed, lockOf, entryOf};
+ghost use Rattle.entry.specs.Entry.{rank as rankOf};
 ghost use Rattle.policy.specs.Policy.{entriesOf};
 ghost use Rattle.policy.specs.Walk.{EntryEnds};
 ghost use Rattle.policy.specs.Choice.{chosen};
@@ -20,10 +21,13 @@ ghost use Rattle.store.specs.Store.{endOf, placeOf, hasRoom, withoutVariable, w
 ghost use Rattle.stores.specs.Pair.{sound, lookup, endsOf};
 ghost use Rattle.stores.specs.Place.{recordAt, Within};
 ghost use Rattle.rules.specs.Set.{requestOf, needsBS, requestStatus, isDeletion, isEmptyAppend, holdsValue, locks, requestGround, groundOf, groundBy, otherAttributes, payloadAfter, storedAttributes, storeOf, recordAfter, storeDecision, writeDecision, decision, decisionStatus, decisionStore};
+ghost use Rattle.rules.specs.Report.{reportOf, noReport, reportFor, reportBy};
 ghost use Rattle.rules.specs.Engine.{speaking};
 ghost use Rattle.rules.specs.DecisionLaws.{Stored};
+ghost use Rattle.rules.specs.declared.Ground.the-variants.{AttributeGround};
 ghost use Rattle.rules.specs.declared.Decision.the-variants.{Store};
 ghost use Rattle.set.specs.Known.{Located, Knows};
+ghost use Rattle.set.specs.Decided.{decidedBy};
 ghost use Rattle.set.specs.Writable.{foundIn, Writable};
 use entry::Entry;
 use entry::LockRule;
@@ -31,6 +35,7 @@ use entry::Trigger;
 use policy::Choice;
 use rules::Decision;
 use rules::Ground;
+use rules::Report;
 use status::Status;
 use store::Found;
 use stores::Ends;
@@ -41,6 +46,12 @@ pub struct Known {
     pub ends: Ends,
     pub count: usize,
     pub place: Place,
+}
+
+// What is decided of a set, and what step 4 said.
+pub struct Decided {
+    pub decision: Decision,
+    pub report: Report,
 }
 
 // ---- Steps 1 to 3.
@@ -229,8 +240,68 @@ fn entry_ground<'a>(
     Ground::NoGround
 }
 
-// The ground that the chosen entry gives, none where no entry is chosen or the engine is disabled.
-fn ground<'a>(
+// ---- The report of step 4.
+
+// No ground.
+pub fn no_report() -> Report
+    ensures { λ r. ⌜ r ≡ noReport ⌝ }
+{
+    Report {
+        ground: Ground::NoGround,
+        place: 0,
+        rank: 0,
+        missing: 0,
+        prohibited: 0,
+        lowest: 0,
+    }
+}
+
+// A ground that names no bits.
+fn entry_report(ground: Ground, place: u32, rank: u32) -> Report
+    ensures { λ r. ⌜ r ≡ reportOf ground place rank 0 0 0 ⌝ }
+{
+    Report {
+        ground,
+        place,
+        rank,
+        missing: 0,
+        prohibited: 0,
+        lowest: 0,
+    }
+}
+
+// The attribute ground, with the bits in which the attributes offend.
+fn attribute_report(e: &[u8], place: u32, rank: u32, attributes: u32) -> Report
+    requires { ⌜ rank ≡ rankOf (now e) ⌝ }
+    ensures { λ r. ⌜ r ≡ reportFor AttributeGround place (now (e .entry)) attributes ⌝ }
+{
+    let must = slices::le32(e, limits::MUST_HAVE_AT);
+    let cant = slices::le32(e, limits::CANT_HAVE_AT);
+    Report {
+        ground: Ground::AttributeGround,
+        place,
+        rank,
+        missing: bits::missing(must, attributes),
+        prohibited: bits::prohibited(cant, attributes),
+        lowest: bits::lowest(must, cant, attributes),
+    }
+}
+
+// The report of a ground that the entry e, of that place and rank, gave.
+fn report_for(ground: Ground, place: u32, rank: u32, e: &[u8], attributes: u32) -> Report
+    requires { ⌜ rank ≡ rankOf (now e) ⌝ }
+    ensures { λ r. ⌜ r ≡ reportFor ground place (now (e .entry)) attributes ⌝ }
+{
+    match ground {
+        Ground::NoGround => no_report(),
+        Ground::SizeGround => entry_report(Ground::SizeGround, place, rank),
+        Ground::AttributeGround => attribute_report(e, place, rank, attributes),
+        Ground::LockGround => entry_report(Ground::LockGround, place, rank),
+    }
+}
+
+// What the chosen entry says against the request: nothing where no entry is chosen or the engine is disabled.
+fn report<'a>(
     policy: &[u8],
     entry_ends: &[u16; policy::ENTRIES],
     enabled: bool,
@@ -241,27 +312,25 @@ fn ground<'a>(
     name: &[u8],
     attributes: u32,
     payload: &[u8],
-) -> Ground
+) -> Report
     requires { ⌜ Knows known (now nv) (now vol) (now policy) (variable (now namespace) (now name)) × EntryEnds (now «entry_ends») (now policy) ⌝ }
     ensures { λ r.
-        ⌜ r ≡ groundBy (speaking enabled (chosen (entriesOf (now (policy .entry))) (variable (now (namespace .entry)) (now (name .entry)))))
+        ⌜ r ≡ reportBy (groundBy (speaking enabled (chosen (entriesOf (now (policy .entry))) (variable (now (namespace .entry)) (now (name .entry)))))
         (lookup (now (nv .entry)) (now (vol .entry)))
-        (requestOf (now (namespace .entry)) (now (name .entry)) attributes (now (payload .entry))) ⌝ }
+        (requestOf (now (namespace .entry)) (now (name .entry)) attributes (now (payload .entry))))
+        (entriesOf (now (policy .entry))) (chosen (entriesOf (now (policy .entry))) (variable (now (namespace .entry)) (now (name .entry)))) attributes ⌝ }
 {
     if !enabled {
-        return Ground::NoGround;
+        return no_report();
     }
     let choice = policy::choose(policy, known.count, entry_ends, namespace, name);
-    let Choice::Chosen {
-        index: _,
-        at,
-        rank: _,
-    } = choice
-    else {
-        return Ground::NoGround;
+    let Choice::Chosen { index, at, rank } = choice else {
+        return no_report();
     };
     let end = at + slices::le16(policy, at + 4) as usize;
-    entry_ground(&policy[at..end], nv, vol, known, attributes, payload)
+    let e = &policy[at..end];
+    let ground = entry_ground(e, nv, vol, known, attributes, payload);
+    report_for(ground, index as u32, rank as u32, e, attributes)
 }
 
 // ---- Steps 5 to 9.
@@ -362,6 +431,16 @@ fn decide_write<'a>(
     decide_store(nv, vol, known, namespace, name, attributes, payload)
 }
 
+// A decision that step 4 has no part in.
+fn unreported(decision: Decision) -> Decided
+    ensures { λ r. ⌜ r ≡ record { decision = decision; report = noReport } ⌝ }
+{
+    Decided {
+        decision,
+        report: no_report(),
+    }
+}
+
 // All steps, over sound stores and a valid policy record.
 pub fn decide<'a>(
     policy: &[u8],
@@ -374,18 +453,17 @@ pub fn decide<'a>(
     name: &[u8],
     attributes: u32,
     payload: &[u8],
-) -> Decision
+) -> Decided
     requires { ⌜ (sound (now nv) (now vol) ≡ true) × Knows known (now nv) (now vol) (now policy) (variable (now namespace) (now name)) × EntryEnds (now «entry_ends») (now policy) ⌝ }
     ensures { λ r.
-        ⌜ r ≡ decision (speaking enabled (chosen (entriesOf (now (policy .entry))) (variable (now (namespace .entry)) (now (name .entry)))))
-        (now (nv .entry)) (now (vol .entry))
+        ⌜ r ≡ decidedBy (entriesOf (now (policy .entry))) enabled (now (nv .entry)) (now (vol .entry))
         (requestOf (now (namespace .entry)) (now (name .entry)) attributes (now (payload .entry))) ⌝ }
 {
     let by_request = check_request(name, attributes, payload);
     if !status::is_success(by_request) {
-        return Decision::Refuse(by_request);
+        return unreported(Decision::Refuse(by_request));
     }
-    let by_entry = ground(
+    let report = report(
         policy,
         entry_ends,
         enabled,
@@ -397,11 +475,29 @@ pub fn decide<'a>(
         attributes,
         payload,
     );
-    match by_entry {
-        Ground::NoGround => decide_write(nv, vol, known, namespace, name, attributes, payload),
-        Ground::SizeGround => Decision::Block(Ground::SizeGround),
-        Ground::AttributeGround => Decision::Block(Ground::AttributeGround),
-        Ground::LockGround => Decision::Block(Ground::LockGround),
+    let ground = report.ground;
+    match ground {
+        Ground::NoGround => unreported(decide_write(
+            nv,
+            vol,
+            known,
+            namespace,
+            name,
+            attributes,
+            payload,
+        )),
+        Ground::SizeGround => Decided {
+            decision: Decision::Block(Ground::SizeGround),
+            report,
+        },
+        Ground::AttributeGround => Decided {
+            decision: Decision::Block(Ground::AttributeGround),
+            report,
+        },
+        Ground::LockGround => Decided {
+            decision: Decision::Block(Ground::LockGround),
+            report,
+        },
     }
 }
 

@@ -10,12 +10,14 @@ use Rattle.switches.specs.declared.Switches.{Switches}
 use Rattle.switches.specs.declared.SwitchAnswer.{SwitchAnswer}
 use Rattle.switches.specs.SwitchBytes.{bytesOf}
 use Rattle.switches.specs.SwitchBytesLaws.{bytes-read-back}
-use Rattle.rules.specs.Engine.{State, Answer, Call, stateOf, onlyStatus, handBack, step}
+use Rattle.rules.specs.Engine.{State, Answer, Call, stateOf, onlyStatus, handBack, withReport, step}
 use Rattle.engine.specs.declared.DumpAnswer.{DumpAnswer}
 use Rattle.engine.specs.declared.QueryAnswer.{QueryAnswer}
+use Rattle.engine.specs.declared.SetAnswer.{SetAnswer}
 use Rattle.engine.specs.Answers.{dumpAnswer, queryAnswer}
 use Rattle.varpolicy.specs.declared.Started.{Started}
-use Rattle.varpolicy.specs.Exports.{Numbered, numbered, statusAlone, startedAnswer, standing, dumpedAnswer, queriedAnswer}
+use Rattle.varpolicy.specs.declared.Reported.{Reported}
+use Rattle.varpolicy.specs.Exports.{Numbered, numbered, statusAlone, startedAnswer, standing, dumpedAnswer, queriedAnswer, reportedOf, writtenAnswer}
 
 module _ {x : Answer × State} {s : State} where
   pub status-numbered : {n : ℕ} (a : Status) → x ≡ (onlyStatus a, s) → n ≡ statusNumber a → numbered x ≡ (statusAlone n, s)
@@ -36,6 +38,13 @@ module _ {u w : Switches} (same : u ≡ w) where
       → numbered (step (stateOf nv vol policy w) call) ≡ (statusAlone n, stateOf nv′ vol′ policy′ w)
   status-at {n = n} call nv vol policy nv′ vol′ policy′ a e k =
       subst (λ t. numbered (step (stateOf nv vol policy t) call) ≡ (statusAlone n, stateOf nv′ vol′ policy′ t)) same (status-numbered a e k)
+
+  pub set-at : {n : ℕ} {p : Reported} (call : Call) (nv vol policy nv′ vol′ : Bytes) (a : SetAnswer)
+      → step (stateOf nv vol policy u) call ≡ (withReport (a .status) (a .report), stateOf nv′ vol′ policy u) → n ≡ statusNumber (a .status) → p ≡ reportedOf (a .report)
+      → numbered (step (stateOf nv vol policy w) call) ≡ (writtenAnswer (record { status = n; report = p }), stateOf nv′ vol′ policy w)
+  set-at {n = n} {p = p} call nv vol policy nv′ vol′ a e k l =
+      subst (λ t. numbered (step (stateOf nv vol policy t) call) ≡ (writtenAnswer (record { status = n; report = p }), stateOf nv′ vol′ policy t)) same
+      (ap numbered e ∙ ap₂ (λ m q. (writtenAnswer (record { status = m; report = q }), stateOf nv′ vol′ policy u)) (sym k) (sym l))
 
   pub query-at : {n : ℕ} (call : Call) (nv vol policy : Bytes) (a : QueryAnswer)
       → step (stateOf nv vol policy u) call ≡ (queryAnswer a, stateOf nv vol policy u) → n ≡ statusNumber (a .status)

@@ -15,7 +15,7 @@ use Rattle.rules.specs.Engine.{State, stateOf}
 use Rattle.engine.specs.declared.Reading.{Reading}
 use Rattle.engine.specs.Answers.{readingOf, ReadStep}
 use Rattle.varpolicy.specs.declared.Read.{Read}
-use Rattle.varpolicy.specs.Exports.{numbered, readOf, NumberedRead}
+use Rattle.varpolicy.specs.Exports.{numbered, numberedOf, readOf, NumberedRead}
 
 read-numbered : (s : State) (v : Variable) (x : Reading) → ReadStep s v x → NumberedRead s v (readOf x)
 read-numbered s v x h =
@@ -23,7 +23,7 @@ read-numbered s v x h =
     let w = h .within in
     let e : x .from + (x .to - x .from) ≡ x .to = omega arith in
     record {
-      answers = ap numbered (h .answers) ∙ ap (λ (n : ℕ). (record { status = readOf x .status; number = x .attributes; bytes = part (x .from) n (cond (x .nonvolatile) (s .nv) (s .vol)); switches = none }, s)) (sym e);
+      answers = ap numbered (h .answers) ∙ ap (λ (n : ℕ). (numberedOf (readOf x .status) (x .attributes) (part (x .from) n (cond (x .nonvolatile) (s .nv) (s .vol))) none, s)) (sym e);
       store = h .store;
       within = omega arith;
     }

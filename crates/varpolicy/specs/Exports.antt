@@ -14,6 +14,8 @@ use Rattle.status.specs.Status.{statusNumber}
 use Rattle.switches.specs.declared.Switches.{Switches}
 use Rattle.switches.specs.declared.SwitchBytes.{SwitchBytes}
 use Rattle.switches.specs.SwitchBytes.{switchesOf, bytesOf}
+use Rattle.rules.specs.declared.Report.{Report}
+use Rattle.rules.specs.Report.{groundNumber}
 use Rattle.rules.specs.Engine.{State, Answer, step}
 use Rattle.rules.specs.Engine.Call.{read}
 use Rattle.engine.specs.declared.Reading.{Reading}
@@ -21,30 +23,62 @@ use Rattle.varpolicy.specs.declared.Started.{Started}
 use Rattle.varpolicy.specs.declared.Dumped.{Dumped}
 use Rattle.varpolicy.specs.declared.Queried.{Queried}
 use Rattle.varpolicy.specs.declared.Read.{Read}
+use Rattle.varpolicy.specs.declared.Reported.{Reported}
+use Rattle.varpolicy.specs.declared.Written.{Written}
 
--- an answer with the number of its status, and the switches in bytes
+-- an answer with the number of its status, the switches in bytes, and the report in numbers
 pub record Numbered : Type 0 where
   pub status : ℕ
   pub number : ℕ
   pub bytes : Bytes
   pub switches : Option SwitchBytes
+  pub report : Option Reported
 
 -- switches that are handed back, each byte 0 or 1
 abbrev pub handedBack : Option Switches → Option SwitchBytes
 handedBack none = none
 handedBack (some s) = some (bytesOf s)
 
+-- a report in numbers
+abbrev pub reportedOf : Report → Reported
+reportedOf p =
+    record {
+      ground = groundNumber (p .ground);
+      place = p .place;
+      rank = p .rank;
+      missing = p .missing;
+      prohibited = p .prohibited;
+      «lowest_bit» = p .lowest;
+    }
+
+abbrev pub reportedBeside : Option Report → Option Reported
+reportedBeside none = none
+reportedBeside (some p) = some (reportedOf p)
+
 -- a step's answer in numbers, and the state afterwards
 abbrev pub numbered : Answer × State → Numbered × State
-numbered x = (record { status = statusNumber (x .0 .status); number = x .0 .number; bytes = x .0 .bytes; switches = handedBack (x .0 .switches) }, x .1)
+numbered x = (
+  record {
+    status = statusNumber (x .0 .status);
+    number = x .0 .number;
+    bytes = x .0 .bytes;
+    switches = handedBack (x .0 .switches);
+    report = reportedBeside (x .0 .report);
+  },
+  x .1,
+)
+
+-- a status, a number, bytes, and switches handed back; no report
+abbrev pub numberedOf : ℕ → ℕ → Bytes → Option SwitchBytes → Numbered
+numberedOf status number bytes switches = record { status = status; number = number; bytes = bytes; switches = switches; report = none }
 
 -- a status and nothing beside it
 abbrev pub statusAlone : ℕ → Numbered
-statusAlone n = record { status = n; number = 0; bytes = []; switches = none }
+statusAlone n = numberedOf n 0 [] none
 
 -- a power-on or restart: the switches handed back
 abbrev pub startedAnswer : Started → Numbered
-startedAnswer r = record { status = r .status; number = 0; bytes = []; switches = some (r .switches) }
+startedAnswer r = numberedOf (r .status) 0 [] (some (r .switches))
 
 -- the switches that stand after a start: those handed back beside 0, those before it beside a refusal
 abbrev pub standing : Started → Switches → Switches
@@ -52,11 +86,15 @@ standing r w = cond (eqb (r .status) 0) (switchesOf (r .switches)) w
 
 -- a dump: the length, and the whole buffer
 abbrev pub dumpedAnswer : Dumped → Bytes → Numbered
-dumpedAnswer r buffer = record { status = r .status; number = r .length; bytes = buffer; switches = none }
+dumpedAnswer r buffer = numberedOf (r .status) (r .length) buffer none
 
 -- a query: the enabled switch
 abbrev pub queriedAnswer : Queried → Numbered
-queriedAnswer r = record { status = r .status; number = cond (r .enabled) 1 0; bytes = []; switches = none }
+queriedAnswer r = numberedOf (r .status) (cond (r .enabled) 1 0) [] none
+
+-- a set: the report
+abbrev pub writtenAnswer : Written → Numbered
+writtenAnswer r = record { status = r .status; number = 0; bytes = []; switches = none; report = some (r .report) }
 
 -- a read: what it tells, with the number of the status
 abbrev pub readOf : Reading → Read
@@ -71,7 +109,7 @@ abbrev pub bytesNamed : Read → State → Bytes
 bytesNamed r s = part (r .offset) (r .offset + r .length) (storeNamed r s)
 
 abbrev pub readAnswer : Read → State → Numbered
-readAnswer r s = record { status = r .status; number = r .attributes; bytes = bytesNamed r s; switches = none }
+readAnswer r s = numberedOf (r .status) (r .attributes) (bytesNamed r s) none
 
 -- what holds of a read's answer
 pub record NumberedRead (s : State) (v : Variable) (r : Read) : Type 0 where

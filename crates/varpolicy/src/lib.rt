@@ -13,8 +13,11 @@ ghost use Rattle.switches.specs.SwitchBytes.{givesLeave, switchesOf, bytesOf, l
 ghost use Rattle.rules.specs.Engine.{stateOf, step};
 ghost use Rattle.rules.specs.Engine.Call.{powerOn, restart, register, dump, lock, disable, query, set};
 ghost use Rattle.rules.specs.Set.{requestOf};
+ghost use Rattle.rules.specs.Report.{groundNumber};
 ghost use Rattle.engine.specs.Answers.{readingOf};
-ghost use Rattle.varpolicy.specs.Exports.{numbered, statusAlone, startedAnswer, standing, dumpedAnswer, queriedAnswer, readOf, NumberedRead};
+ghost use Rattle.varpolicy.specs.Exports.{numbered, statusAlone, startedAnswer, standing, dumpedAnswer, queriedAnswer, readOf, NumberedRead, reportedOf, writtenAnswer};
+use rules::Ground;
+use rules::Report;
 use status::Status;
 use status::number;
 use switches::BytesAnswer;
@@ -56,6 +59,24 @@ pub struct Read {
     pub non_volatile: bool,
     pub offset: usize,
     pub length: usize,
+}
+
+// What step 4 said against a set (RULES.md, 10.10), in numbers: the ground is 0 for none, 1 for size, 2 for attributes, 3 for a lock.
+#[repr(C)]
+pub struct Reported {
+    pub ground: u32,
+    pub place: u32,
+    pub rank: u32,
+    pub missing: u32,
+    pub prohibited: u32,
+    pub lowest_bit: u32,
+}
+
+// What a set answers.
+#[repr(C)]
+pub struct Written {
+    pub status: u32,
+    pub report: Reported,
 }
 
 // A start's answer with the number of its status, and the switches in bytes.
@@ -211,7 +232,34 @@ pub extern "C" fn varpolicy_read(nv: &[u8], vol: &[u8], namespace: &[u8; 16], na
     }
 }
 
-// Set: creates, rewrites, appends to or deletes the variable.
+// The number of a ground.
+fn ground_number(ground: Ground) -> u32
+    ensures { λ r. ⌜ r ≡ groundNumber ground ⌝ }
+{
+    match ground {
+        Ground::NoGround => 0,
+        Ground::SizeGround => 1,
+        Ground::AttributeGround => 2,
+        Ground::LockGround => 3,
+    }
+}
+
+// A report in numbers.
+fn numbered_report(report: Report) -> Reported
+    ensures { λ r. ⌜ r ≡ reportedOf report ⌝ }
+{
+    let ground = report.ground;
+    Reported {
+        ground: ground_number(ground),
+        place: report.place,
+        rank: report.rank,
+        missing: report.missing,
+        prohibited: report.prohibited,
+        lowest_bit: report.lowest,
+    }
+}
+
+// Set: creates, rewrites, appends to or deletes the variable, and reports what step 4 said.
 #[no_mangle]
 pub extern "C" fn varpolicy_set(
     nv: &mut [u8],
@@ -222,13 +270,13 @@ pub extern "C" fn varpolicy_set(
     name: &[u8],
     attributes: u32,
     payload: &[u8],
-) -> u32
+) -> Written
     ensures { λ r.
         ⌜ numbered (step (stateOf (now (nv .entry)) (now (vol .entry)) (now (policy .entry)) (switchesOf switches))
         (set (requestOf (now (namespace .entry)) (now (name .entry)) attributes (now (payload .entry)))))
-        ≡ (statusAlone r, stateOf (now (nv .exit)) (now (vol .exit)) (now (policy .entry)) (switchesOf switches)) ⌝ }
+        ≡ (writtenAnswer r, stateOf (now (nv .exit)) (now (vol .exit)) (now (policy .entry)) (switchesOf switches)) ⌝ }
 {
-    number(engine::set(
+    let answer = engine::set(
         nv,
         vol,
         policy,
@@ -237,5 +285,11 @@ pub extern "C" fn varpolicy_set(
         name,
         attributes,
         payload,
-    ))
+    );
+    let status = answer.status;
+    let report = answer.report;
+    Written {
+        status: number(status),
+        report: numbered_report(report),
+    }
 }

@@ -9,7 +9,7 @@ use Rattle.stores.specs.PairLaws.{check-sound, check-unsound}
 use Rattle.set.specs.declared.Known.{Known}
 use Rattle.set.specs.Known.{Knows}
 use Rattle.rules.specs.Set.{Request, requestOf}
-use Rattle.engine.proofs.Sets.{set-unsound, set-invalid, set-done}
+use Rattle.engine.proofs.Sets.{set-unsound, set-invalid, decides, set-done}
 use lib.ListN.{length}
 use mathlib.Core.Bool.{true}
 use mathlib.Core.Path.{_≡_, sym, _∙_}
@@ -74,6 +74,9 @@ enum-known-checked c = search needs
 enum-told : tie.Need-enum-told
 enum-told c = search needs
 
+corrupted-set-requires : tie.Need-corrupted-set-requires
+corrupted-set-requires c κs = search needs
+
 same-length : tie.Need-same-length
 same-length c = search needs
 
@@ -81,7 +84,9 @@ same-length-2 : tie.Need-same-length-2
 same-length-2 c = search needs
 
 returns : tie.Need-returns
-returns c = set-unsound _ _ _ _ _ (check-unsound _ _ (sym (c .before .before .check .ensures) ∙ c .enum-told .given .1))
+returns c =
+    let t = c .before in
+    set-unsound _ _ _ _ _ (c .corrupted-set .ensures) (check-unsound _ _ (sym (t .before .before .check .ensures) ∙ t .enum-told .given .1))
 
 no-ends-requires : tie.Need-no-ends-requires
 no-ends-requires c κs = search needs
@@ -95,6 +100,9 @@ enum-known-entries c = search needs
 enum-told-2 : tie.Need-enum-told-2
 enum-told-2 c = search needs
 
+corrupted-set-requires-2 : tie.Need-corrupted-set-requires-2
+corrupted-set-requires-2 c κs = search needs
+
 same-length-3 : tie.Need-same-length-3
 same-length-3 c = search needs
 
@@ -102,7 +110,9 @@ same-length-4 : tie.Need-same-length-4
 same-length-4 c = search needs
 
 returns-2 : tie.Need-returns-2
-returns-2 c = set-invalid _ _ _ _ _ (check-invalid _ (sym (c .before .before .check-noting .ensures .0) ∙ c .enum-told2 .given .1))
+returns-2 c =
+    let t = c .before in
+    set-invalid _ _ _ _ _ (c .corrupted-set2 .ensures) (check-invalid _ (sym (t .before .before .check-noting .ensures .0) ∙ t .enum-told2 .given .1))
 
 locate-requires : tie.Need-locate-requires
 locate-requires c κs = checked (Sound (c .before .before .before .before)) .1
@@ -114,9 +124,9 @@ decide-requires c κs =
 
 carry-out-requires : tie.Need-carry-out-requires
 carry-out-requires c κs =
-    let d = c .before .before .before in
+    let d = c .before .before .before .before in
     let l = Located d in
-    (checked (Sound (Valid l)) .0, knows l .located, (_, d .decide .ensures))
+    (checked (Sound (Valid l)) .0, knows l .located, (_, decides _ _ _ _ (Asked l) (d .decide .ensures)))
 
 status-of-requires : tie.Need-status-of-requires
 status-of-requires c κs = search needs
@@ -130,7 +140,7 @@ same-length-6 c = search needs
 returns-3 : tie.Need-returns-3
 returns-3 c =
     let o = c .before .before .before .before .before in
-    let d = o .before .before .before .before in
+    let d = o .before .before .before .before .before in
     let l = Located d in
     set-done (Args l .args .nv .now) (Args l .args .vol .now) (Args l .args .policy .now) (Args l .args .switches) (Asked l) (checked (Sound (Valid l)) .0) (valid (Valid l) .valid)
     (d .decide .ensures) (c .status-of .ensures) (o .carry-out .ensures .0) (o .carry-out .ensures .1)
@@ -142,6 +152,7 @@ set-spec =
     check-requires
     enum-known-checked
     enum-told
+    corrupted-set-requires
     same-length
     same-length-2
     returns
@@ -149,6 +160,7 @@ set-spec =
     check-noting-requires
     enum-known-entries
     enum-told-2
+    corrupted-set-requires-2
     same-length-3
     same-length-4
     returns-2

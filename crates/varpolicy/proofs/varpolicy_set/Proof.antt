@@ -1,6 +1,6 @@
 -- `varpolicy::varpolicy_set` meets its contract, by `engine::set`. Assumes nothing.
 use borrow.Author.Needs.{needs}
-use Rattle.varpolicy.proofs.Answers.{status-at}
+use Rattle.varpolicy.proofs.Answers.{set-at}
 use Rattle.varpolicy.proofs.varpolicy_set.Statement.{statement}
 use Rattle.varpolicy.proofs.varpolicy_set.Tie as tie
 
@@ -13,6 +13,9 @@ set-requires c κs = search needs
 number-requires : tie.Need-number-requires
 number-requires c κs = search needs
 
+numbered-report-requires : tie.Need-numbered-report-requires
+numbered-report-requires c κs = search needs
+
 same-length : tie.Need-same-length
 same-length c = search needs
 
@@ -21,10 +24,10 @@ same-length-2 c = search needs
 
 returns : tie.Need-returns
 returns c =
-    status-at (c .before .before .before .before .before .before .before .switches-of .ensures) _ _ _ _ _ _ _ _
-    (c .before .before .before .before .before .set .ensures) (c .number .ensures)
+    let s = c .before .before .before .before .before .before .before in
+    set-at (s .before .before .switches-of .ensures) _ _ _ _ _ _ (s .set .result) (s .set .ensures) (c .before .number .ensures) (c .numbered-report .ensures)
 
 pub varpolicy-set-spec : {M : Type 1} → statement M
 varpolicy-set-spec =
     tie.close
-    (tie.spec switches-of-requires set-requires number-requires same-length same-length-2 returns)
+    (tie.spec switches-of-requires set-requires number-requires numbered-report-requires same-length same-length-2 returns)
