@@ -14,8 +14,8 @@
   any content; of these they check the length.
 
   A call that answers anything but VARPOLICY_SUCCESS leaves everything as it was, and every number
-  beside the status is zero. Two exceptions: beside VARPOLICY_BUFFER_TOO_SMALL stands the length that
-  is needed, and a refused start hands back switches.
+  beside the status is zero. Three exceptions: beside VARPOLICY_BUFFER_TOO_SMALL stands the length that
+  is needed, a refused start hands back switches, and a refused set has its report.
 
   A status is an EFI_STATUS without its error bit. The statuses of a call are listed in the order in
   which they are tested.
@@ -32,7 +32,7 @@
   the System V convention too: those of a program built for Microsoft's take their arguments in other
   registers.
 
-  Stack: the deepest call, varpolicy_set, takes 9,528 bytes with its return address (read off the
+  Stack: the deepest call, varpolicy_set, takes 9,512 bytes with its return address (read off the
   machine code); read, restart and power-on take nearly as much. The red zone and what memcpy, memmove
   and memset take come on top.
 
@@ -65,6 +65,12 @@ extern "C" {
 #define VARPOLICY_VOLUME_CORRUPTED  10U
 #define VARPOLICY_NOT_FOUND         14U
 #define VARPOLICY_ALREADY_STARTED   20U
+
+/* Grounds of a set's report. */
+#define VARPOLICY_GROUND_NONE       0U /* no entry refused the set */
+#define VARPOLICY_GROUND_SIZE       1U /* MinSize or MaxSize; beside VARPOLICY_INVALID_PARAMETER */
+#define VARPOLICY_GROUND_ATTRIBUTES 2U /* required or prohibited bits; beside VARPOLICY_INVALID_PARAMETER */
+#define VARPOLICY_GROUND_LOCK       3U /* the variable is locked; beside VARPOLICY_WRITE_PROTECTED */
 
 /* Attributes. */
 #define VARPOLICY_ATTRIBUTE_NV     0x01U /* non-volatile */
@@ -128,6 +134,27 @@ typedef struct {
   size_t   offset;       /* of the payload's first byte in that store */
   size_t   length;       /* of the payload */
 } varpolicy_found;
+
+/**
+  The report of a set: why the chosen entry refused it. Without a ground every number is 0: the set
+  succeeded, or something else than an entry refused it.
+
+  A refused set changes nothing, so varpolicy_dump still hands out the entry at that place.
+**/
+typedef struct {
+  uint32_t ground;     /* VARPOLICY_GROUND_.., the first that holds */
+  uint32_t place;      /* of the chosen entry, counted from 0 as a dump has them */
+  uint32_t rank;       /* how many '#' its name has; 65 for a whole namespace */
+  uint32_t missing;    /* attributes: how many required bits the request lacks */
+  uint32_t prohibited; /* attributes: how many prohibited bits it has */
+  uint32_t lowest_bit; /* attributes: the lowest of them all; 0 is the bit of value 1 */
+} varpolicy_report;
+
+/** What varpolicy_set answers. **/
+typedef struct {
+  uint32_t         status;
+  varpolicy_report report;
+} varpolicy_written;
 
 /**
   Powers an engine on: the policy record becomes all zeros, the volatile store all 0xFF. The engine is
@@ -313,6 +340,9 @@ varpolicy_read (
   name stands for a hex digit (0-9, A-F, a-f) and nothing else, so a variable with '#' in its own name
   is targeted by whole-namespace entries alone.
 
+  Beside the status stands a report. Its ground is VARPOLICY_GROUND_NONE but for the three cases below
+  that name another.
+
   @param[in,out] nv                  The non-volatile store.
   @param[in]     nv_len              Its length.
   @param[in,out] vol                 The volatile store.
@@ -335,16 +365,19 @@ varpolicy_read (
   @retval VARPOLICY_INVALID_PARAMETER  RT or APPEND without BS.
   @retval VARPOLICY_INVALID_PARAMETER  The engine is enabled, an entry is chosen, the request is no
                                        deletion, and the payload as it would be afterwards is shorter
-                                       than MinSize or longer than MaxSize, or the attributes lack a
-                                       required bit or have a prohibited one.
-  @retval VARPOLICY_WRITE_PROTECTED    The engine is enabled and the chosen entry locks the variable.
+                                       than MinSize or longer than MaxSize: VARPOLICY_GROUND_SIZE.
+  @retval VARPOLICY_INVALID_PARAMETER  The engine is enabled, an entry is chosen, the request is no
+                                       deletion, and the attributes lack a required bit or have a
+                                       prohibited one: VARPOLICY_GROUND_ATTRIBUTES.
+  @retval VARPOLICY_WRITE_PROTECTED    The engine is enabled and the chosen entry locks the variable, be
+                                       the request a deletion or not: VARPOLICY_GROUND_LOCK.
   @retval VARPOLICY_NOT_FOUND          A deletion, and there is no such variable.
   @retval VARPOLICY_INVALID_PARAMETER  The variable is stored with a different NV, BS or RT.
   @retval VARPOLICY_OUT_OF_RESOURCES   An append would make the payload longer than VARPOLICY_MAX_PAYLOAD,
                                        or the records would be longer than their store.
   @retval VARPOLICY_SUCCESS            Stored, appended, deleted or, for an empty append, left as it was.
 **/
-VARPOLICY_CALL uint32_t
+VARPOLICY_CALL varpolicy_written
 varpolicy_set (
   uint8_t           *nv,
   size_t             nv_len,

@@ -1,6 +1,7 @@
 /** @file
   A rail that is locked while the variable "RailLock" holds 0. An absent "RailLock" locks nothing, so
-  the bring-up script can turn the rail down to 1.8 V; once "RailLock" holds 0, nobody turns it up again.
+  the bring-up script can turn the rail down to 1.8 V; once "RailLock" holds 0, nobody turns it up again,
+  and the report of the refused set tells why.
 
   SPDX-License-Identifier: BSD-2-Clause-Patent
 **/
@@ -14,6 +15,8 @@ _Static_assert(sizeof(varpolicy_started) == 8, "layout of a start's answer");
 _Static_assert(sizeof(varpolicy_dumped) == 16, "layout of a dump's answer");
 _Static_assert(sizeof(varpolicy_state) == 8, "layout of a query's answer");
 _Static_assert(sizeof(varpolicy_found) == 32, "layout of a read's answer");
+_Static_assert(sizeof(varpolicy_report) == 24, "layout of a set's report");
+_Static_assert(sizeof(varpolicy_written) == 28, "layout of a set's answer");
 
 static const uint8_t Board[VARPOLICY_NAMESPACE_BYTES] = {0x5C, 0x67, 0xD1, 0x81, 0xF6, 0x86, 0xDF, 0x48,
                                                          0xBD, 0x95, 0x9A, 0x6E, 0x4F, 0x09, 0x25, 0xC3};
@@ -53,16 +56,26 @@ static size_t pack_entry(uint8_t entry[VARPOLICY_MAX_ENTRY_SIZE]) {
   return at;
 }
 
-static uint32_t set(const uint8_t *name, size_t name_len, uint32_t attributes, const char *payload, size_t length) {
+static varpolicy_written set(const uint8_t *name, size_t name_len, uint32_t attributes, const char *payload,
+                             size_t length) {
   return varpolicy_set(NonVolatile, sizeof NonVolatile, Volatile, sizeof Volatile, Policy, sizeof Policy, Switches,
                        Board, name, name_len, attributes, (const uint8_t *)payload, length);
 }
 
+/* Sets the rail and tells the status and, where an entry refused it, the ground and the entry. */
 static uint32_t set_rail(const char *volts) {
-  uint32_t status = set(Rail, sizeof Rail, VARPOLICY_ATTRIBUTE_NV | VARPOLICY_ATTRIBUTE_BS, volts, strlen(volts));
+  static const char *const Grounds[] = {"none", "size", "attributes", "lock"};
 
-  printf("set the rail to %s: status %u\n", volts, (unsigned)status);
-  return status;
+  varpolicy_written written =
+      set(Rail, sizeof Rail, VARPOLICY_ATTRIBUTE_NV | VARPOLICY_ATTRIBUTE_BS, volts, strlen(volts));
+
+  printf("set the rail to %s: status %u", volts, (unsigned)written.status);
+  if (written.report.ground != VARPOLICY_GROUND_NONE) {
+    printf(", ground %s, entry %u, rank %u", Grounds[written.report.ground], (unsigned)written.report.place,
+           (unsigned)written.report.rank);
+  }
+  puts("");
+  return written.status;
 }
 
 int main(void) {
@@ -82,7 +95,7 @@ int main(void) {
   if (set_rail("3.3 V") != VARPOLICY_SUCCESS || set_rail("1.8 V") != VARPOLICY_SUCCESS) {
     return 1;
   }
-  if (set(RailLock, sizeof RailLock, VARPOLICY_ATTRIBUTE_BS, "\0", 1) != VARPOLICY_SUCCESS) {
+  if (set(RailLock, sizeof RailLock, VARPOLICY_ATTRIBUTE_BS, "\0", 1).status != VARPOLICY_SUCCESS) {
     return 1;
   }
   puts("RailLock holds 0");

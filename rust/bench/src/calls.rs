@@ -1,9 +1,9 @@
 //! Whole calls, by the library and by ordinary Rust with two hash tables.
 
-use crate::lent::{Answer, Lent, OURS};
+use crate::lent::{Answer, Lent, OURS, answer};
 use crate::plain::calls as plain;
 use crate::plain::index::{Small, Standard};
-use varpolicy::{Attributes, Name, Switches, calls};
+use varpolicy::{Attributes, Name, Report, Switches, calls};
 
 const SWITCHES: Switches = Switches { enabled: true, locked: false, disabling_allowed: false };
 
@@ -54,12 +54,12 @@ impl Call {
             Call::Read { name } => read(who, name, lent),
             Call::Set { name, requests, enabled } => {
                 let (attributes, payload) = &requests[lent.calls % 2];
-                [set(who, name, *attributes, payload, *enabled, lent) as usize, 0, 0, 0]
+                set(who, name, *attributes, payload, *enabled, lent)
             }
             Call::Register { entry } => {
                 let status = register(who, entry, lent);
                 lent.policy[lent.policy_end..lent.policy_end + entry.len()].fill(0);
-                [status as usize, 0, 0, 0]
+                answer([status as usize])
             }
             Call::Dump => dump(who, lent),
         }
@@ -67,7 +67,7 @@ impl Call {
 
     /// Whether an answer tells that what is lent is not sound or not valid.
     pub fn is_refused(answer: &Answer) -> bool {
-        answer[0] == plain::VOLUME_CORRUPTED as usize
+        answer[0] == plain::VOLUME_CORRUPTED
     }
 }
 
@@ -76,26 +76,29 @@ fn read(who: Who, name: &[u8], lent: &Lent) -> Answer {
         Who::Library => {
             let found = calls::read(&lent.nv, &lent.volatile, &OURS, name);
             let status = found.status.number() as usize;
-            return [status, found.attributes.0 as usize, found.offset, found.payload.len()];
+            return answer([status, found.attributes.0 as usize, found.offset, found.payload.len()]);
         }
         Who::Standard => plain::read::<Standard>(&lent.nv, &lent.volatile, &OURS, name),
         Who::Small => plain::read::<Small>(&lent.nv, &lent.volatile, &OURS, name),
     };
-    [found.status as usize, found.attributes as usize, found.offset, found.length]
+    answer([found.status as usize, found.attributes as usize, found.offset, found.length])
 }
 
-fn set(who: Who, name: &[u8], attributes: Attributes, payload: &[u8], enabled: bool, lent: &mut Lent) -> u32 {
+fn set(who: Who, name: &[u8], attributes: Attributes, payload: &[u8], enabled: bool, lent: &mut Lent) -> Answer {
     let Lent { nv, volatile, policy, .. } = lent;
     let switches = Switches { enabled, ..SWITCHES };
     let request = plain::Request { namespace: &OURS, name, attributes: attributes.0, payload };
-    match who {
+    let plain::Written { status, report } = match who {
         Who::Library => {
             let request = calls::Request { namespace: &OURS, name, attributes, payload };
-            calls::set(nv, volatile, policy, switches, request).number()
+            let calls::Written { status, report } = calls::set(nv, volatile, policy, switches, request);
+            plain::Written { status: status.number(), report }
         }
         Who::Standard => plain::set::<plain::UseStandard>(nv, volatile, policy, plain_switches(switches), request),
         Who::Small => plain::set::<plain::UseSmall>(nv, volatile, policy, plain_switches(switches), request),
-    }
+    };
+    let Report { ground, place, rank, missing, prohibited, lowest_bit } = report;
+    [status, ground.number(), place, rank, missing, prohibited, lowest_bit]
 }
 
 fn register(who: Who, entry: &[u8], lent: &mut Lent) -> u32 {
@@ -113,7 +116,7 @@ fn dump(who: Who, lent: &mut Lent) -> Answer {
         }
         Who::Standard | Who::Small => plain::dump(&lent.policy, &mut lent.buffer),
     };
-    [status as usize, length, 0, 0]
+    answer([status as usize, length])
 }
 
 fn plain_switches(switches: Switches) -> plain::Switches {

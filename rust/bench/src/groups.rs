@@ -3,9 +3,9 @@
 use crate::calls::Call;
 use crate::case::{Bar, Case, Group, Growth, Work};
 use crate::inputs::{self, Policy, VOLATILE, variable};
-use crate::lent::Lent;
+use crate::lent::{Lent, OURS};
 use crate::parts::Part;
-use varpolicy::{Attributes, Entry, MAX_ENTRIES, MAX_STORE_BYTES, MIN_ENTRY_SIZE, Name, POLICY_BYTES};
+use varpolicy::{Attributes, Entry, Ground, Lock, MAX_ENTRIES, MAX_STORE_BYTES, MIN_ENTRY_SIZE, Name, POLICY_BYTES};
 
 /// How many entries a policy record holds, from a quarter of the most to the most.
 const COUNTS: [usize; 4] = [MAX_ENTRIES / 4, MAX_ENTRIES / 2, MAX_ENTRIES / 4 * 3, MAX_ENTRIES];
@@ -39,6 +39,8 @@ fn set_under(name: Name, enabled: bool) -> Call {
 pub fn whole() -> Group {
     let mut cases: Vec<Case> = [20, 100, 300, 819].into_iter().flat_map(over_records).collect();
     cases.extend([COUNTS[1], COUNTS[3]].into_iter().flat_map(over_entries));
+    cases.extend([0, 1].map(over_few_entries));
+    cases.extend(refused(COUNTS[1]));
     Group { title: "whole calls", columns: VERSIONS, ratios: RATIOS, cases, growth: Vec::new() }
 }
 
@@ -79,6 +81,30 @@ fn over_entries(count: usize) -> Vec<Case> {
     let lent = inputs::with_entries(&inputs::numbered(count, UNITS[1]));
     cases.push(call(format!("dump, {count} entries, {} bytes", lent.policy_end), Call::Dump, &lent, 1.1));
     cases
+}
+
+/// A set over no entry or over one that matches: the smallest sets.
+fn over_few_entries(count: usize) -> Case {
+    let lent = inputs::with_short_stores(&inputs::numbered(count, 8));
+    let what = if count == 0 { "no entries" } else { "1 entry, match" };
+    call(format!("set, {what}"), set_under(inputs::text("NNNN0000"), true), &lent, 1.25)
+}
+
+/// Sets that the last of `count` entries refuses, on each ground.
+fn refused(count: usize) -> Vec<Case> {
+    let entries = inputs::numbered(count, 8);
+    let name = entries[count - 1].name;
+    let case = |ground: Ground, last: Entry| {
+        let entries = [&entries[..count - 1], &[last]].concat();
+        let what = format!("set refused, {count} entries, {}", ground.name().to_lowercase());
+        call(what, set_under(name, true), &inputs::with_short_stores(&entries), 1.0)
+    };
+    let last = Entry::new(OURS, name);
+    vec![
+        case(Ground::Size, Entry { min_size: 2, ..last }),
+        case(Ground::Attributes, Entry { must_have: Attributes::RT, cant_have: Attributes::BS, ..last }),
+        case(Ground::Lock, Entry { lock: Lock::Now, ..last }),
+    ]
 }
 
 /// The registration of one entry more.
@@ -250,4 +276,20 @@ pub fn moves() -> Group {
         case("move up by 4", Part::Move { from: 0, to: LEAST }, &longer),
     ];
     group("moves, fills and copies", cases)
+}
+
+#[cfg(test)]
+mod tests {
+    use super::*;
+    use crate::lent::Answer;
+
+    #[test]
+    fn each_refused_set_has_its_report() {
+        let answer = |case: Case| match case.work {
+            Work::Call(call) => call.run(0, &mut case.lent.clone()),
+            Work::Part(_) => panic!("a part"),
+        };
+        let answers: Vec<Answer> = refused(64).into_iter().map(answer).collect();
+        assert_eq!(answers, [[2, 1, 63, 0, 0, 0, 0], [2, 2, 63, 0, 1, 1, 1], [8, 3, 63, 0, 0, 0, 0]]);
+    }
 }

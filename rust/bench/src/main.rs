@@ -2,7 +2,8 @@
 //! word only the groups of cases that have it in their title.
 //!
 //! Every case is a call, or a part of one, with the same lent bytes for all: the library, and one or two versions in
-//! ordinary Rust (see `plain`). First all of them must give the same answers and leave the same bytes. Then
+//! ordinary Rust (see `plain`). First all of them must give the same answers, a set's report included, and leave the same
+//! bytes. Then
 //!
 //! * time: they run in turn, in rounds; the least time of a call over all rounds is kept;
 //! * instructions: the program runs itself once for each case and version under `valgrind --tool=callgrind`, which
@@ -43,8 +44,8 @@ const ABOUT: &str = "\
 library: libvarpolicy.a. part: the same function in libbench_parts.a, compiled by itself. The others are ordinary Rust
 over the same bytes. standard, small: with the standard library's hash table, or a small one on the stack. pairwise:
 every key compared with all before it. whole, by unit: a walk over the records that compares a name at once, or its
-first unit first. Every call checks all it is lent: two stores of 32,768 bytes with records of 40 bytes or, where there
-are entries, one of 256 bytes. Names of one slot share a slot of the filter in the library's check. In rows of triggers
+first unit first. Every call checks all it is lent: two stores of 32,768 bytes with records of 40 bytes or, where entries
+are named, one of 256 bytes. Names of one slot share a slot of the filter in the library's check. In rows of triggers
 all entries have the same one, and names of 8 units.
 A choice or a search trusts the check before it, so it is the difference of two calls of one function, with and without
 it: a set with the engine enabled and disabled, or a name and an empty one. Both run the same machine code, whatever the

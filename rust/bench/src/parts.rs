@@ -5,7 +5,7 @@
 //! libbench_parts.a, compiled by themselves, with the parts that no call of the library shows alone.
 
 use crate::archive::{self, Numbers};
-use crate::lent::{Answer, Lent, OURS};
+use crate::lent::{Answer, Lent, OURS, answer};
 use crate::plain::index::{Pairwise, Small};
 use crate::plain::parts::{self as plain, Compare};
 use varpolicy::{MAX_STORE_BYTES, Name, Status, calls};
@@ -48,43 +48,43 @@ impl Part {
             (Part::CheckPolicy, 0) => dumped_into_nothing(policy),
             (Part::CheckPolicy, 1) => {
                 let Numbers { kind, second, .. } = archive::check_policy(policy);
-                [kind as usize, second, 0, 0]
+                answer([kind as usize, second])
             }
             (Part::CheckPolicy, 2) => place(1, plain::check_policy(policy)),
             (Part::CheckPolicy, _) => place(1, plain::check_policy_pairwise(policy)),
             (Part::Choose(name), 0) => part(archive::choose(policy, &OURS, name)),
             (Part::Choose(name), _) => place(1, plain::choose(policy, &OURS, name)),
             (Part::CheckStores, 0) => read_nameless(nv, volatile),
-            (Part::CheckStores, 1) => [archive::check_stores(nv, volatile).kind as usize, 0, 0, 0],
+            (Part::CheckStores, 1) => answer([archive::check_stores(nv, volatile).kind as usize]),
             (Part::CheckStores, 2) => sound(plain::check_stores::<Pairwise>(nv, volatile)),
             (Part::CheckStores, _) => sound(plain::check_stores::<Small>(nv, volatile)),
             (Part::Find(name), 0) => read_place(nv, volatile, name),
             (Part::Find(name), 1) => part(archive::find(nv, volatile, &OURS, name)),
             (Part::Find(name), 2) => found(plain::find(nv, volatile, &OURS, name, Compare::Whole)),
             (Part::Find(name), _) => found(plain::find(nv, volatile, &OURS, name, Compare::FirstUnit)),
-            (Part::Match { pattern, name }, 0) => [archive::matches(pattern, name).into(), 0, 0, 0],
-            (Part::Match { pattern, name }, _) => [plain::matches(pattern, name).into(), 0, 0, 0],
+            (Part::Match { pattern, name }, 0) => answer([archive::matches(pattern, name).into()]),
+            (Part::Match { pattern, name }, _) => answer([plain::matches(pattern, name).into()]),
             (Part::Fill, column) => {
                 let (count, value) = (buffer.len(), lent.calls as u8);
                 match column {
                     0 => archive::fill(buffer, 0, count, value),
                     _ => buffer.fill(value),
                 }
-                [0; 4]
+                answer([])
             }
             (Part::Copy, column) => {
                 match column {
                     0 => archive::copy(buffer, 0, nv),
                     _ => buffer[..nv.len()].copy_from_slice(nv),
                 }
-                [0; 4]
+                answer([])
             }
             (Part::Move { from, to }, column) => {
                 match column {
                     0 => archive::move_within(buffer, *from, *to, MAX_STORE_BYTES),
                     _ => buffer.copy_within(*from..*from + MAX_STORE_BYTES, *to),
                 }
-                [0; 4]
+                answer([])
             }
         }
     }
@@ -98,36 +98,36 @@ impl Part {
 /// The check of the policy record in the library: the length that a dump into no buffer needs.
 fn dumped_into_nothing(policy: &[u8]) -> Answer {
     let dumped = calls::dump(policy, &mut []);
-    [usize::from(dumped.status == Status::BufferTooSmall), dumped.length, 0, 0]
+    answer([usize::from(dumped.status == Status::BufferTooSmall), dumped.length])
 }
 
 /// The check of the stores in the library: a read with an empty name refuses the name only if they are sound.
 fn read_nameless(nv: &[u8], volatile: &[u8]) -> Answer {
     let status = calls::read(nv, volatile, &OURS, &[]).status;
-    [usize::from(status == Status::InvalidParameter), 0, 0, 0]
+    answer([usize::from(status == Status::InvalidParameter)])
 }
 
 /// The search in the library: the payload stands behind 32 bytes, the name and its zero unit.
 fn read_place(nv: &[u8], volatile: &[u8], name: &[u8]) -> Answer {
     let read = calls::read(nv, volatile, &OURS, name);
     if read.status != Status::Success {
-        return [0; 4];
+        return answer([]);
     }
-    [if read.non_volatile { 1 } else { 2 }, read.offset - 34 - name.len(), 0, 0]
+    answer([if read.non_volatile { 1 } else { 2 }, read.offset - 34 - name.len()])
 }
 
 fn part(found: Numbers) -> Answer {
-    [found.kind as usize, found.first, 0, 0]
+    answer([found.kind as usize, found.first])
 }
 
 fn place(kind: usize, at: Option<usize>) -> Answer {
-    at.map_or([0; 4], |at| [kind, at, 0, 0])
+    at.map_or(answer([]), |at| answer([kind, at]))
 }
 
 fn sound(ends: Option<[usize; 2]>) -> Answer {
-    [usize::from(ends.is_some()), 0, 0, 0]
+    answer([usize::from(ends.is_some())])
 }
 
 fn found(found: Option<[usize; 2]>) -> Answer {
-    found.map_or([0; 4], |[store, at]| [store, at, 0, 0])
+    found.map_or(answer([]), answer)
 }

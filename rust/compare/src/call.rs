@@ -2,7 +2,7 @@
 
 use crate::state::{Guarded, State};
 use reference::{RegisterGround, SetGround};
-use varpolicy::{Attributes, Namespace, Status, SwitchBytes, calls};
+use varpolicy::{Attributes, Namespace, Report, Status, SwitchBytes, calls};
 
 /// A call with its own arguments. The state is lent beside it.
 #[derive(Clone, Debug)]
@@ -54,6 +54,7 @@ pub enum Values {
     Dumped { length: usize, buffer: Vec<u8> },
     State { enabled: bool },
     Found { attributes: u32, non_volatile: bool, offset: usize, payload: Vec<u8> },
+    Written(Report),
 }
 
 /// Makes the call through the library.
@@ -94,7 +95,8 @@ pub fn by_library(state: &mut State, call: &Call) -> Answer {
         }
         Call::Set { namespace, name, attributes, payload } => {
             let request = calls::Request { namespace, name, attributes: Attributes(*attributes), payload };
-            plain(calls::set(nv, volatile, policy, *switches, request))
+            let written = calls::set(nv, volatile, policy, *switches, request);
+            Answer { status: written.status, values: Values::Written(written.report) }
         }
     }
 }
@@ -154,9 +156,9 @@ pub fn by_reference(state: &mut State, call: &Call) -> (Answer, Ground) {
         Call::Read { namespace, name } => read_by_reference(nv, volatile, namespace, name),
         Call::Set { namespace, name, attributes, payload } => {
             let request = reference::Request { namespace, name, attributes: *attributes, payload };
-            let decided = reference::set(nv, volatile, policy, to_reference(*switches).read(), request);
+            let (decided, report) = reference::set(nv, volatile, policy, to_reference(*switches).read(), request);
             ground = Ground::Set(decided);
-            plain(translate(decided.status()))
+            Answer { status: translate(decided.status()), values: Values::Written(reported(report)) }
         }
     };
     (answer, ground)
@@ -192,6 +194,13 @@ fn start(switches: &mut SwitchBytes, status: Status, handed: SwitchBytes) -> Ans
 
 fn translate(status: reference::Status) -> Status {
     Status::from_number(status as u32).expect("both have UEFI's numbers")
+}
+
+/// The reference's report, as the library gives it.
+fn reported(report: reference::Report) -> Report {
+    let reference::Report { ground, place, rank, missing, prohibited, lowest_bit } = report;
+    let ground = varpolicy::Ground::from_number(ground as u32).expect("both have the numbers of the rules");
+    Report { ground, place, rank, missing, prohibited, lowest_bit }
 }
 
 /// The bytes as the reference takes them.

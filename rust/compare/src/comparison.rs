@@ -36,7 +36,6 @@ impl Comparison {
     /// changed nothing, and no byte outside of what was lent has changed; else the difference in words.
     pub fn exchange(&mut self, sides: &mut Sides, call: &Call) -> Result<Answer, String> {
         self.calls += 1;
-        inputs::count(&mut self.coverage, &sides.library, call);
         let before = sides.library.clone();
         let answer = by_library(&mut sides.library, call);
         let (expected, ground) = by_reference(&mut sides.reference, call);
@@ -49,7 +48,7 @@ impl Comparison {
         if answer.status != Status::Success {
             check(sides.library == before, describe("a refused call has changed something"))?;
         }
-        inputs::count_answered(&mut self.coverage, &before, call, answer.status);
+        inputs::count(&mut self.coverage, &before, call, &answer, ground);
         check(self.coverage.answer(call.name(), answer.status, ground), describe("no such answer is possible"))?;
         Ok(answer)
     }

@@ -2,7 +2,7 @@
 //! and the inputs that the comparison promises to try.
 
 use crate::call::Ground;
-use crate::inputs::labels;
+use crate::inputs::{labels, reports};
 use crate::tallies::{Each, Tallies};
 use crate::{damage, steps};
 use reference::RegisterGround as R;
@@ -108,11 +108,20 @@ pub enum Input {
     NameSize,
     DataSize,
     Unsound,
+    Report,
+    ReportZeros,
+    ReportChoice,
+    ReportSize,
+    ReportLock,
+    ReportLowest,
+    ReportBoth,
+    NoReport,
     Entry,
     Stores,
     Policy,
     Rebuild,
     AfterReorder,
+    ReportReordered,
 }
 
 /// Every group of inputs with its title and what is counted in it, in the order of [`Input`].
@@ -199,6 +208,22 @@ fn groups() -> Vec<Group> {
         Group::new(NameSize, "NameSize of a stored record", labels::name_size_labels()),
         Group::new(DataSize, "DataSize of a stored record", labels::data_size_labels()),
         Group::new(Unsound, "lent something unsound, with another fault besides", labels::UNSOUND),
+        Group::new(Report, "ground of a report, and what else the entry has against the set", labels::REPORT),
+        Group::new(ReportZeros, "report that is none but for this", labels::REPORT_ZEROS),
+        Group::new(
+            ReportChoice,
+            "report, and the other entries that target the variable",
+            labels::report_choice_labels(),
+        ),
+        Group::new(ReportSize, "report of a size", labels::report_size_labels()),
+        Group::new(ReportLock, "report of a lock", labels::report_lock_labels()),
+        Group::new(ReportLowest, "lowest bit of a report", labels::report_lowest_labels()),
+        Group::new(ReportBoth, "report of missing and prohibited bits", labels::report_both_labels()),
+        Group::new(
+            NoReport,
+            "no report: the step, and what the chosen entry says or would say",
+            reports::unreported_labels(),
+        ),
         Group::new(Entry, "damage to an entry", damage::ENTRY),
         Group::new(Stores, "damage to the stores", damage::STORES),
         Group::new(Policy, "damage to the policy record", damage::POLICY),
@@ -218,6 +243,11 @@ fn groups() -> Vec<Group> {
             AfterReorder,
             "calls while the order differs",
             ["set", "read", "dump", "register", "lock or disable", "start"],
+        ),
+        Group::new(
+            ReportReordered,
+            "reports while the order differs, and the place of the entry",
+            labels::report_reordered_labels(),
         ),
     ]
 }

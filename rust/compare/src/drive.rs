@@ -2,18 +2,19 @@
 //!
 //! A history that began with a power-on is also run by the library a second time without its
 //! rebuilds: every answer and every byte of the stores and switches must be the same, and the policy
-//! record and granted dumps may differ only in the order of the entries, and only after a rebuild in
-//! another order (docs/RULES.md, 12.5).
+//! record, granted dumps and the places in reports may differ only in the order of the entries, and only
+//! after a rebuild in another order (docs/RULES.md, 12.5).
 
 use crate::call::{Answer, Call, Ground, Values, by_library};
 use crate::comparison::{Comparison, Sides, check};
 use crate::coverage::Input;
+use crate::inputs::reports::ground_place;
 use crate::make::{Pool, packed};
 use crate::random::Random;
 use crate::state::State;
 use crate::{FORMER_ENTRIES, damage, make};
 use reference::{Entry, MAX_ENTRIES, POLICY_BYTES, Policy};
-use varpolicy::{MAX_STORE_BYTES, Status, SwitchBytes};
+use varpolicy::{MAX_STORE_BYTES, Report, Status, SwitchBytes};
 
 /// Adds at least `calls` calls to a comparison, or tells the first difference in words.
 pub fn run(comparison: &mut Comparison, calls: u64, seed: u64) -> Result<(), String> {
@@ -236,7 +237,10 @@ impl Run<'_> {
                 _ => {}
             }
         }
-        compare_dumps_or_all(history, call, &answer, &straight_answer)?;
+        compare_answers(history, call, &answer, &straight_answer)?;
+        if history.order != history.straight_order {
+            self.count_moved(&answer, &straight_answer);
+        }
         compare_states(history)
     }
 
@@ -322,13 +326,45 @@ impl Run<'_> {
         };
         self.comparison.coverage.input(Input::AfterReorder, label);
     }
+
+    /// Counts a report by whether its entry stands elsewhere than without the rebuilds.
+    fn count_moved(&mut self, answer: &Answer, straight: &Answer) {
+        if let (Values::Written(report), Values::Written(straight)) = (&answer.values, &straight.values)
+            && report.ground != varpolicy::Ground::None
+        {
+            let moved = usize::from(report.place != straight.place);
+            self.comparison.coverage.input(Input::ReportReordered, 2 * ground_place(report) + moved);
+        }
+    }
 }
 
-/// Every answer is the one that the history without rebuilds got, but for the order of a granted dump.
-fn compare_dumps_or_all(history: &History, call: &Call, answer: &Answer, straight: &Answer) -> Result<(), String> {
-    let (Call::Dump { buffer: old }, Status::Success) = (call, answer.status) else {
-        return check(answer == straight, "a rebuild has changed a later answer");
-    };
+/// Every answer is the one that the history without rebuilds got, but for the order of a granted dump and the place in
+/// a report.
+fn compare_answers(history: &History, call: &Call, answer: &Answer, straight: &Answer) -> Result<(), String> {
+    match (call, &answer.values, &straight.values) {
+        (Call::Dump { buffer }, ..) if answer.status == Status::Success => {
+            compare_dumps(history, buffer, answer, straight)
+        }
+        (_, Values::Written(report), Values::Written(without)) if report.ground != varpolicy::Ground::None => {
+            check(answer.status == straight.status, "a rebuild has changed a later status")?;
+            compare_reports(history, report, without)
+        }
+        _ => check(answer == straight, "a rebuild has changed a later answer"),
+    }
+}
+
+/// A report is the one that the history without rebuilds got, but that its place is that of the same entry in the order
+/// that stands.
+fn compare_reports(history: &History, report: &Report, straight: &Report) -> Result<(), String> {
+    let in_place = Report { place: straight.place, ..*report };
+    check(in_place == *straight, "a rebuild has changed more of a report than its place")?;
+    let [entry, straight_entry] = [(&history.order, report), (&history.straight_order, straight)]
+        .map(|(order, report)| order.get(report.place as usize));
+    check(entry.is_some() && entry == straight_entry, "a report points to another entry than without the rebuilds")
+}
+
+/// A granted dump has the entries in the order that stands, and the bytes behind them as they were.
+fn compare_dumps(history: &History, old: &[u8], answer: &Answer, straight: &Answer) -> Result<(), String> {
     for (answer, order) in [(answer, &history.order), (straight, &history.straight_order)] {
         let entries = order.concat();
         let buffer = [&entries[..], &old[entries.len()..]].concat();

@@ -273,6 +273,17 @@ fn attributes(random: &mut Random) -> u32 {
     }
 }
 
+/// The attributes that an entry requires or prohibits: none, known ones, one of all, or any.
+fn asked_bits(random: &mut Random) -> u32 {
+    match random.below(16) {
+        0..=8 => 0,
+        9..=10 => random.pick(&[1, 2, 4, 0x40]),
+        11..=13 => random.bits() as u32 & 0x47,
+        14 => 1 << random.below(32),
+        _ => random.bits() as u32,
+    }
+}
+
 /// A dump into a buffer with old bytes, its length around the sum of Sizes, `needed`.
 pub fn dump(random: &mut Random, needed: usize) -> Call {
     let len = match random.below(8) {
@@ -364,8 +375,8 @@ impl Pool {
         if fields.min_size > fields.max_size {
             std::mem::swap(&mut fields.min_size, &mut fields.max_size);
         }
-        fields.must_have = random.pick(&[0, 0, 0, 0, 0, 2, 3, 4, 0x40, 0x8000_0000]);
-        fields.cant_have = random.pick(&[0, 0, 0, 0, 0, 1, 4, 0x40, 0x10]) & !fields.must_have;
+        fields.must_have = asked_bits(random);
+        fields.cant_have = asked_bits(random) & !fields.must_have;
         if random.one_in(4) {
             fields.reserved = [random.byte(), random.byte(), random.byte()];
         }

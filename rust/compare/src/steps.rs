@@ -44,6 +44,10 @@ pub struct Met<'a> {
     pub attributes: u32,
     /// The length of the payload given.
     pub length: usize,
+    /// Whether the engine is enabled.
+    pub enabled: bool,
+    /// The entry that is chosen, whether or not it speaks.
+    pub choice: Option<&'a Entry>,
     /// The entry that speaks, if the engine is enabled.
     pub chosen: Option<&'a Entry>,
     /// The variable, if it exists.
@@ -62,11 +66,14 @@ impl<'a> Met<'a> {
     ) -> Met<'a> {
         let units = units(name);
         let bad_name = name.len() % 2 == 1 || !(1..=MAX_UNITS).contains(&units.len()) || units.contains(&0);
+        let (enabled, choice) = (state.read_switches().enabled, policy.choose(namespace, &units));
         Met {
             pair,
             attributes,
             length,
-            chosen: policy.choose(namespace, &units).filter(|_| state.read_switches().enabled),
+            enabled,
+            choice,
+            chosen: choice.filter(|_| enabled),
             found: pair.find(namespace, &units),
             name: units,
             bad_name,
@@ -165,6 +172,12 @@ impl<'a> Met<'a> {
                 found.is_some_and(|(_, _, variable)| variable.payload == [trigger.value])
             }
         }
+    }
+
+    /// Whether an entry has something against the size, against the attributes, and against every set; a deletion is
+    /// measured by its payload here.
+    pub fn forbidden_by(&self, entry: &Entry) -> [bool; 3] {
+        [self.refused_for_size(entry), self.refused_for_attributes(entry), self.is_locked(entry)]
     }
 
     /// Whether the set comes to the question of room, and nothing else ends it.

@@ -1,10 +1,10 @@
 //! Inputs that are too many to be listed, and of which each must be hit: units of names, and places in names of every
-//! length.
+//! length; and what the numbers of reports can be.
 
-use reference::MAX_UNITS;
+use reference::{MAX_ENTRIES, MAX_UNITS};
 use std::fmt;
 
-/// What is hit unit by unit, or place by place.
+/// What is hit unit by unit, place by place, or number by number.
 #[derive(Clone, Copy, PartialEq, Eq, Debug)]
 #[allow(missing_docs)]
 pub enum Each {
@@ -31,15 +31,32 @@ pub enum Each {
     LentToRegister,
     LentToDump,
     LentToSet,
+    ReportPlace,
+    ReportRank,
+    ReportCounts,
+    ReportTwo,
+    ReportBoth,
+    ReportKnown,
 }
 
 const UNITS: usize = 1 << 16;
 /// The places of all names of 1 to 64 units.
 const PLACES: usize = MAX_UNITS * (MAX_UNITS + 1) / 2;
+/// The bits that a set can lack where it is asked for attributes: all but BS.
+const LACKING: usize = 31;
+/// How many numbers of missing bits there are beside 0 to 4 prohibited ones. Each of these but BS, which every set has,
+/// is one less that can be missing.
+const COUNTS: usize = 31 + 32 + 31 + 30 + 29;
+/// The bits that can be prohibited in such a set, by their numbers.
+const PROHIBITED: [u32; 4] = [0, 1, 2, 6];
+/// How many bits can be missing beside each of these: all but it and BS.
+const PAIRS: usize = 30 + 31 + 30 + 30;
+
+const FIRST_OF_REPORTS: usize = Each::ReportPlace as usize;
 
 /// What is hit, in words, and how many there are of it; in the order of [`Each`]. No pattern and no trigger has the
 /// unit zero, and a name of one unit has no place between two.
-const TALLIES: [(Each, &str, usize); 23] = [
+const TALLIES: [(Each, &str, usize); 29] = [
     (Each::UnderSign, "units under '#', which is the whole pattern", UNITS),
     (Each::UnderSignOfFour, "units under '#', one of four units", UNITS),
     (Each::UnderSignOfEight, "units under '#', one of eight units", UNITS),
@@ -63,11 +80,31 @@ const TALLIES: [(Each, &str, usize); 23] = [
     (Each::LentToRegister, "places of '#' in it, lent to register: 10", PLACES),
     (Each::LentToDump, "places of '#' in it, lent to dump: 10", PLACES),
     (Each::LentToSet, "places of '#' in it, lent to set: 10", PLACES),
+    (Each::ReportPlace, "places, by the ground", 3 * MAX_ENTRIES),
+    (Each::ReportRank, "ranks, by the ground", 3 * (MAX_UNITS + 2)),
+    (Each::ReportCounts, "numbers of missing and of prohibited bits", COUNTS),
+    (Each::ReportTwo, "two missing bits, none prohibited", LACKING * (LACKING - 1) / 2),
+    (Each::ReportBoth, "lowest missing bit and lowest prohibited one", PAIRS),
+    (Each::ReportKnown, "known bits required, prohibited and given", 81 * 8),
 ];
 
 /// The number of a place in a name of so many units.
 pub fn place_number(length: usize, place: usize) -> usize {
     length * (length - 1) / 2 + place
+}
+
+/// The number of so many missing and prohibited bits, which are not both 0.
+pub fn counts_number(missing: u32, prohibited: u32) -> usize {
+    let most = |prohibited: u32| LACKING as u32 - prohibited.saturating_sub(1);
+    let before: u32 = (0..prohibited).map(|fewer| most(fewer) + 1).sum();
+    (before + missing) as usize - 1
+}
+
+/// The number of these two bits, a missing one and a prohibited one.
+pub fn pair_number(missing: u32, prohibited: u32) -> usize {
+    let pairs = PROHIBITED.iter().flat_map(|known| (0..32).map(move |bit| (bit, *known)));
+    let mut pairs = pairs.filter(|(bit, known)| *bit != 1 && bit != known);
+    pairs.position(|pair| pair == (missing, prohibited)).expect("a set has the one and lacks the other")
 }
 
 /// What was hit.
@@ -106,7 +143,16 @@ impl Tallies {
 
 impl fmt::Display for Tallies {
     fn fmt(&self, out: &mut fmt::Formatter) -> fmt::Result {
-        writeln!(out, "\nunits, and places in names of 1 to {MAX_UNITS} units, where nothing else decides")?;
-        self.rows().try_for_each(|(title, hit, count)| writeln!(out, "  {title:<45}{hit:>8} of {count:>5}"))
+        for (place, (title, hit, count)) in self.rows().enumerate() {
+            match place {
+                0 => {
+                    writeln!(out, "\nunits, and places in names of 1 to {MAX_UNITS} units, where nothing else decides")?
+                }
+                FIRST_OF_REPORTS => writeln!(out, "\nreports")?,
+                _ => {}
+            }
+            writeln!(out, "  {title:<45}{hit:>8} of {count:>5}")?;
+        }
+        Ok(())
     }
 }

@@ -3,6 +3,7 @@
 use crate::entry::{Entry, LockRule};
 use crate::name;
 use crate::policy::Policy;
+use crate::report::Report;
 use crate::store::{self, Kind, Pair, Variable};
 use crate::switches::Switches;
 use crate::{APPEND, BS, MAX_ENTRIES, MAX_PAYLOAD, MAX_STORE, NV, Namespace, POLICY_BYTES, RT, Status};
@@ -259,8 +260,20 @@ impl SetGround {
     }
 }
 
-/// Sets, appends to or deletes a variable.
+/// Sets, appends to or deletes a variable. Tells what decided it, and what step 4 said against it.
 pub fn set(
+    non_volatile: &mut [u8],
+    volatile: &mut [u8],
+    record: &[u8],
+    switches: Switches,
+    request: Request,
+) -> (SetGround, Report) {
+    let decided = carry_out(non_volatile, volatile, record, switches, request);
+    (decided, Report::of(decided, record, &request))
+}
+
+/// The steps of a set, with what stands before them.
+fn carry_out(
     non_volatile: &mut [u8],
     volatile: &mut [u8],
     record: &[u8],

@@ -11,6 +11,7 @@ mod engine;
 mod entry;
 mod name;
 mod policy;
+mod report;
 mod store;
 mod switches;
 
@@ -19,6 +20,7 @@ pub use engine::{
 };
 pub use entry::{Entry, LockRule, Trigger};
 pub use policy::Policy;
+pub use report::{Ground, Report};
 pub use store::{Kind, Pair, Variable};
 pub use switches::{SwitchBytes, Switches, gives_leave};
 

@@ -17,6 +17,7 @@ pub enum Command {
     Restart { disabling_allowed: bool },
     Register { entry: Vec<u8> },
     Set { namespace: Namespace, name: Vec<u8>, attributes: Attributes, payload: Vec<u8> },
+    Delete { namespace: Namespace, name: Vec<u8> },
     Read { namespace: Namespace, name: Vec<u8> },
     Dump { buffer: usize },
     Lock,
@@ -113,7 +114,7 @@ impl Parser {
             "append" => self.set(&mut words, Attributes::APPEND)?,
             "delete" => {
                 let (namespace, name) = self.variable(&mut words)?;
-                Command::Set { namespace, name, attributes: Attributes::NONE, payload: Vec::new() }
+                Command::Delete { namespace, name }
             }
             "read" => {
                 let (namespace, name) = self.variable(&mut words)?;

@@ -1,16 +1,21 @@
-//! Values as text: payloads, and the entries of a dump as `register` would take them.
+//! Values as text: payloads, variables, and the entries of a dump as `register` would take them.
 
 use crate::text;
 use std::collections::BTreeMap;
-use varpolicy::{Attributes, Namespace};
+use varpolicy::{Attributes, Entry, Lock, Name, Namespace};
+
+/// A number of bytes.
+pub fn count(bytes: usize) -> String {
+    match bytes {
+        1 => "1 byte".to_string(),
+        _ => format!("{bytes} bytes"),
+    }
+}
 
 /// A payload: its length, its first bytes, and as text if it is printable.
 pub fn payload(bytes: &[u8]) -> String {
     const SHOWN: usize = 32;
-    let count = match bytes.len() {
-        1 => "1 byte".to_string(),
-        len => format!("{len} bytes"),
-    };
+    let count = count(bytes.len());
     let more = if bytes.len() > SHOWN { " .." } else { "" };
     let shown = text::spaced_hex(&bytes[..bytes.len().min(SHOWN)]);
     match std::str::from_utf8(bytes) {
@@ -24,7 +29,7 @@ pub fn payload(bytes: &[u8]) -> String {
 /// The entries of a dump, one line each, with their places.
 pub fn entries(dump: &[u8], namespaces: &BTreeMap<String, Namespace>) -> String {
     let lines = split(dump).into_iter().enumerate();
-    lines.map(|(place, bytes)| format!("\n    {place}: {}", entry(bytes, namespaces))).collect()
+    lines.map(|(place, bytes)| format!("\n    {place}: {}", entry(&fields(bytes), namespaces))).collect()
 }
 
 /// The bytes of each entry of a dump.
@@ -42,48 +47,78 @@ pub fn split(dump: &[u8]) -> Vec<&[u8]> {
     entries
 }
 
-fn entry(bytes: &[u8], namespaces: &BTreeMap<String, Namespace>) -> String {
+/// The fields of a well-formed packed entry.
+pub fn fields(bytes: &[u8]) -> Entry {
     let number = |at: usize| u32::from_le_bytes([bytes[at], bytes[at + 1], bytes[at + 2], bytes[at + 3]]);
+    let namespace = |at: usize| bytes[at..at + 16].try_into().expect("16 bytes");
     let offset_to_name = usize::from(u16::from_le_bytes([bytes[6], bytes[7]]));
-    let mut line = format!("{} {}", namespace(&bytes[8..24], namespaces), name(&bytes[offset_to_name..]));
-    if number(24) != 0 {
-        line += &format!(" min={}", number(24));
+    let lock = match bytes[40] {
+        1 => Lock::Now,
+        2 => Lock::OnCreate,
+        3 => Lock::OnVarState { namespace: namespace(44), name: opened(&bytes[62..offset_to_name]), value: bytes[60] },
+        _ => Lock::No,
+    };
+    Entry {
+        namespace: namespace(8),
+        name: opened(&bytes[offset_to_name..]),
+        min_size: number(24),
+        max_size: number(28),
+        must_have: Attributes(number(32)),
+        cant_have: Attributes(number(36)),
+        lock,
     }
-    if number(28) != u32::MAX {
-        line += &format!(" max={}", number(28));
+}
+
+/// A name without its closing zero unit.
+fn opened(closed: &[u8]) -> Name {
+    let units = closed.chunks_exact(2).map(|unit| u16::from_le_bytes([unit[0], unit[1]]));
+    Name::from_units(units.take_while(|unit| *unit != 0)).expect("at most 64 units")
+}
+
+fn entry(entry: &Entry, namespaces: &BTreeMap<String, Namespace>) -> String {
+    let mut line = variable(&entry.namespace, &entry.name, namespaces);
+    if entry.min_size != 0 {
+        line += &format!(" min={}", entry.min_size);
     }
-    for (key, attributes) in [("must", number(32)), ("cant", number(36))] {
-        if attributes != 0 {
-            line += &format!(" {key}={}", Attributes(attributes));
+    if entry.max_size != u32::MAX {
+        line += &format!(" max={}", entry.max_size);
+    }
+    for (key, attributes) in [("must", entry.must_have), ("cant", entry.cant_have)] {
+        if attributes != Attributes::NONE {
+            line += &format!(" {key}={attributes}");
         }
     }
-    match bytes[40] {
-        1 => line += " lock=now",
-        2 => line += " lock=on-create",
-        3 => {
-            let trigger = namespace(&bytes[44..60], namespaces);
-            let trigger_name = name(&bytes[62..offset_to_name]);
-            line += &format!(" lock=on-state trigger={trigger}:{trigger_name} value={:02X}", bytes[60]);
+    match &entry.lock {
+        Lock::No => {}
+        Lock::Now => line += " lock=now",
+        Lock::OnCreate => line += " lock=on-create",
+        Lock::OnVarState { namespace: space, name: trigger, value } => {
+            let (space, trigger) = (namespace(space, namespaces), name(trigger));
+            line += &format!(" lock=on-state trigger={space}:{trigger} value={value:02X}");
         }
-        _ => {}
     }
     line
 }
 
+/// A variable, or what an entry targets: the namespace, and the name in quotes or `*` for none.
+pub fn variable(namespace: &Namespace, name: &[u8], namespaces: &BTreeMap<String, Namespace>) -> String {
+    format!("{} {}", self::namespace(namespace, namespaces), self::name(name))
+}
+
 /// The alias of a namespace, or its 32 hex digits.
-fn namespace(bytes: &[u8], namespaces: &BTreeMap<String, Namespace>) -> String {
-    match namespaces.iter().find(|(_, known)| known[..] == *bytes) {
+fn namespace(bytes: &Namespace, namespaces: &BTreeMap<String, Namespace>) -> String {
+    match namespaces.iter().find(|(_, known)| *known == bytes) {
         Some((alias, _)) => alias.clone(),
         None => text::spaced_hex(bytes).replace(' ', ""),
     }
 }
 
-/// A closed name in quotes, or `*` for none.
-fn name(closed: &[u8]) -> String {
-    let Some(open) = closed.strip_suffix(&[0, 0]) else {
+/// The bytes of a name's units as text in quotes, or `*` for none.
+fn name(bytes: &[u8]) -> String {
+    if bytes.is_empty() {
         return "*".to_string();
-    };
-    let units = open.chunks(2).map(|unit| u16::from_le_bytes([unit[0], unit[1]]));
+    }
+    let units = bytes.chunks_exact(2).map(|unit| u16::from_le_bytes([unit[0], unit[1]]));
     let characters: String = char::decode_utf16(units)
         .map(|character| match character {
             Ok(plain @ ('"' | '\\')) => format!("\\{plain}"),

@@ -1,11 +1,13 @@
 //! `simulate [FILE]`: reads a history from FILE or standard input, one call to a line, makes each call
-//! through the proved library, and prints its status by UEFI name with the values beside it.
+//! through the proved library, and prints its status by UEFI name with the values beside it. Of a refused set it prints
+//! why.
 //!
 //! A line that is not understood gets a message with its number and what was expected; the rest still
 //! runs, and the program ends with status 1. `simulate --help` prints the language.
 
 mod command;
 mod describe;
+mod reason;
 mod signs;
 mod simulation;
 mod text;
@@ -30,8 +32,9 @@ Reads a history from FILE or standard input, one call to a line:
   delete NAMESPACE NAME                read NAMESPACE NAME
   dump [BUFFER-BYTES]                  lock, disable, state
   rebuild [reverse | PLACES]           restart, then the entries of a dump again, in order or as told
-                                       (another order changes dumps alone, unless two entries of equal
-                                       rank target one variable and change places: the line says so)
+                                       (another order changes the entries' places in dumps and reports
+                                       alone, unless two entries of equal rank target one variable and
+                                       change places: the line says so)
   poke nv|volatile|policy AT HEX       damages what is lent
   note TEXT                            prints the text
 
@@ -45,6 +48,10 @@ Reads a history from FILE or standard input, one call to a line:
               lock=on-state also trigger=NAMESPACE:NAME value=HH, where NAME is one variable's and may
               have no #; min and max measure the payload as it would be afterwards, an append's with
               what is stored
+
+A refused set, append or delete tells why: the step of docs/RULES.md, 10.9, and at step 4 the entry, by
+its place in a dump and its name. A set without APPEND that has no payload, or neither BS nor RT, is a
+deletion, and its line says so.
 
 ; and // begin a comment, but not in a note. Before the first power-on the engine is locked.
 ";

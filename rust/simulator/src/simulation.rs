@@ -1,10 +1,11 @@
 //! The state that a history keeps, and what each command does to it.
 
 use crate::command::{Command, Expected, Order, Part};
+use crate::reason::{self, Refusal};
 use crate::{describe, signs, ties};
 use std::collections::BTreeMap;
 use varpolicy::calls::{self, Request, Started};
-use varpolicy::{Namespace, POLICY_BYTES, Status, SwitchBytes, Switches};
+use varpolicy::{Attributes, Namespace, POLICY_BYTES, Status, SwitchBytes, Switches};
 
 /// The four parts of `docs/RULES.md`, 1.2.
 pub struct Simulation {
@@ -53,21 +54,20 @@ impl Simulation {
             Command::Register { entry } => self.register(&entry),
             Command::Set { namespace, name, attributes, payload } => {
                 let request = Request { namespace: &namespace, name: &name, attributes, payload: &payload };
-                calls::set(&mut self.nv, &mut self.volatile, &self.policy, self.switches, request).to_string()
+                let granted = if reason::is_deletion(&request) { "SUCCESS it was a deletion" } else { "SUCCESS" };
+                self.set(request, granted, namespaces)
+            }
+            Command::Delete { namespace, name } => {
+                let (attributes, payload) = (Attributes::NONE, &[]);
+                self.set(Request { namespace: &namespace, name: &name, attributes, payload }, "SUCCESS", namespaces)
             }
             Command::Read { namespace, name } => self.read(&namespace, &name),
             Command::Dump { buffer } => self.dump(buffer, namespaces),
             Command::Lock => calls::lock(&mut self.switches).to_string(),
             Command::Disable => calls::disable(&mut self.switches).to_string(),
-            Command::State => {
-                let (status, enabled) = calls::query(self.switches);
-                format!("{status} {}", if enabled { "enabled" } else { "disabled" })
-            }
+            Command::State => self.state(),
             Command::Rebuild(order) => self.rebuild(order)?,
-            Command::Poke { part, at, bytes } => {
-                self.poke(part, at, &bytes)?;
-                "written".to_string()
-            }
+            Command::Poke { part, at, bytes } => self.poke(part, at, &bytes)?,
         };
         Ok(Some(answer))
     }
@@ -95,6 +95,19 @@ impl Simulation {
         }
     }
 
+    /// Makes a set. Tells `granted` if it is, else the status and why.
+    fn set(&mut self, request: Request, granted: &str, namespaces: &BTreeMap<String, Namespace>) -> String {
+        let written = calls::set(&mut self.nv, &mut self.volatile, &self.policy, self.switches, request);
+        match written.status {
+            Status::Success => granted.to_string(),
+            status => {
+                let Simulation { nv, volatile, policy, .. } = self;
+                let refusal = Refusal { nv, volatile, policy, request, written, namespaces };
+                format!("{status} {}", refusal.reason())
+            }
+        }
+    }
+
     fn read(&self, namespace: &Namespace, name: &[u8]) -> String {
         let found = calls::read(&self.nv, &self.volatile, namespace, name);
         match found.status {
@@ -114,6 +127,11 @@ impl Simulation {
             Status::BufferTooSmall => format!("BUFFER_TOO_SMALL {} bytes needed", dumped.length),
             refused => refused.to_string(),
         }
+    }
+
+    fn state(&self) -> String {
+        let (status, enabled) = calls::query(self.switches);
+        format!("{status} {}", if enabled { "enabled" } else { "disabled" })
     }
 
     /// A dump, a restart over the same stores with the old disable setting, each entry registered again,
@@ -164,7 +182,7 @@ impl Simulation {
         Ok(made)
     }
 
-    fn poke(&mut self, part: Part, at: usize, bytes: &[u8]) -> Result<(), Expected> {
+    fn poke(&mut self, part: Part, at: usize, bytes: &[u8]) -> Result<String, Expected> {
         let lent = match part {
             Part::Nv => &mut self.nv,
             Part::Volatile => &mut self.volatile,
@@ -174,7 +192,7 @@ impl Simulation {
         match lent.get_mut(at..at + bytes.len()) {
             Some(place) => {
                 place.copy_from_slice(bytes);
-                Ok(())
+                Ok("written".to_string())
             }
             None => Err(format!("expected bytes within the {len} that are lent")),
         }

@@ -30,7 +30,7 @@ fn examples_print_what_is_expected() {
         assert!(output.status.success());
         run += 1;
     }
-    assert!(run >= 7);
+    assert!(run >= 8);
 }
 
 #[test]
@@ -60,9 +60,9 @@ the line
 15: read G \"A\" -> SUCCESS BS, 1024 bytes: 07 07 07 07 07 07 07 07 07 07 07 07 07 07 07 07 07 07 07 07 07 07 07 07 07 \
 07 07 07 07 07 07 07 ..
 16: state now -> not understood: expected the end of the line, found now
-17: set G \"\" BS 01 -> INVALID_PARAMETER
-18: set G hex:410042 BS 01 -> INVALID_PARAMETER
-19: set G \"A\\u0000\" BS 01 -> INVALID_PARAMETER
+17: set G \"\" BS 01 -> INVALID_PARAMETER step 1: the name is empty
+18: set G hex:410042 BS 01 -> INVALID_PARAMETER step 1: the name has 3 bytes, an odd number
+19: set G \"A\\u0000\" BS 01 -> INVALID_PARAMETER step 1: the name has a zero unit
 20: poke volatile 0 00 -> written
 21: read G \"A\" -> VOLUME_CORRUPTED
 ";
@@ -90,10 +90,12 @@ fn a_rebuild_tells_of_a_tie_whose_order_it_changed() {
 3: register G \"Boot00##\" max=1 -> SUCCESS
 4: register G \"Key\" -> SUCCESS
 5: register G \"Boot##01\" max=2 -> SUCCESS
-6: set G \"Boot0001\" BS 01 02 -> INVALID_PARAMETER
+6: set G \"Boot0001\" BS 01 02 -> INVALID_PARAMETER step 4: entry 0, G \"Boot00##\", allows 0 to 1 byte, and the \
+payload has 2
 7: rebuild -> SUCCESS restart, 3 registered
 8: rebuild 1 0 2 -> SUCCESS restart, 3 registered
-9: set G \"Boot0001\" BS 01 02 -> INVALID_PARAMETER
+9: set G \"Boot0001\" BS 01 02 -> INVALID_PARAMETER step 4: entry 1, G \"Boot00##\", allows 0 to 1 byte, and the \
+payload has 2
 10: rebuild reverse -> SUCCESS restart, 3 registered; entries 1 and 2 of equal rank target one variable and changed \
 places: later answers may differ
 11: set G \"Boot0001\" BS 01 02 -> SUCCESS
@@ -126,12 +128,13 @@ fn a_number_sign_in_a_trigger_is_told_where_it_is_the_reason() {
 }
 
 #[test]
-fn help_tells_what_another_order_and_a_number_sign_do() {
+fn help_tells_what_another_order_a_number_sign_and_a_refused_set_do() {
     let output = Command::new(env!("CARGO_BIN_EXE_simulate")).arg("--help").output().expect("simulate runs");
     let help = String::from_utf8_lossy(&output.stdout);
-    let order = "rank target one variable and change places";
+    let order = "of equal rank target one variable and\n";
     let trigger = "NAME is one variable's and may\n              have no #";
-    for words in ["equal\n", order, "but not in a note", "matches a hex digit and nothing else", trigger] {
+    let refused = "A refused set, append or delete tells why";
+    for words in [order, "but not in a note", "matches a hex digit and nothing else", trigger, refused] {
         assert!(help.contains(words), "{words}");
     }
 }

@@ -1,6 +1,7 @@
-//! A rail that is locked while the variable "RailLock" holds 0. An absent "RailLock" locks nothing.
+//! A rail that is locked while the variable "RailLock" holds 0. An absent "RailLock" locks nothing. A refused set tells
+//! which entry refused it, and why.
 
-use varpolicy::{Attributes, Engine, Entry, Lock, Name, POLICY_BYTES, Status};
+use varpolicy::{Attributes, Engine, Entry, Lock, Name, POLICY_BYTES, Refused, Status};
 
 const BOARD: [u8; 16] =
     [0x5C, 0x67, 0xD1, 0x81, 0xF6, 0x86, 0xDF, 0x48, 0xBD, 0x95, 0x9A, 0x6E, 0x4F, 0x09, 0x25, 0xC3];
@@ -16,9 +17,9 @@ fn main() -> Result<(), Status> {
     engine.lock()?;
 
     engine.set(&BOARD, &rail, attributes, b"3.3 V")?;
-    report("RailLock absent, 1.8 V", engine.set(&BOARD, &rail, attributes, b"1.8 V"));
+    tell("RailLock absent, 1.8 V", engine.set(&BOARD, &rail, attributes, b"1.8 V"));
     engine.set(&BOARD, &rail_lock, Attributes::BS, &[0])?;
-    report("RailLock 00, 3.3 V", engine.set(&BOARD, &rail, attributes, b"3.3 V"));
+    tell("RailLock 00, 3.3 V", engine.set(&BOARD, &rail, attributes, b"3.3 V"));
     println!("the rail is at {}", String::from_utf8_lossy(engine.read(&BOARD, &rail)?.payload));
     Ok(())
 }
@@ -27,6 +28,9 @@ fn name(text: &str) -> Name {
     Name::new(text).expect("at most 64 units")
 }
 
-fn report(what: &str, answer: Result<(), Status>) {
-    println!("{what}: {}", answer.err().unwrap_or(Status::Success));
+fn tell(what: &str, answer: Result<(), Refused>) {
+    match answer {
+        Ok(()) => println!("{what}: {}", Status::Success),
+        Err(refused) => println!("{what}: {refused}"),
+    }
 }

@@ -31,6 +31,22 @@ pub(crate) struct Found {
     pub(crate) length: usize,
 }
 
+#[repr(C)]
+pub(crate) struct Report {
+    pub(crate) ground: u32,
+    pub(crate) place: u32,
+    pub(crate) rank: u32,
+    pub(crate) missing: u32,
+    pub(crate) prohibited: u32,
+    pub(crate) lowest_bit: u32,
+}
+
+#[repr(C)]
+pub(crate) struct Written {
+    pub(crate) status: u32,
+    pub(crate) report: Report,
+}
+
 unsafe extern "C" {
     pub(crate) fn varpolicy_power_on(
         nv: *const u8,
@@ -92,7 +108,7 @@ unsafe extern "C" {
         attributes: u32,
         payload: *const u8,
         payload_len: usize,
-    ) -> u32;
+    ) -> Written;
 }
 
 // The layout that the C declarations have.
@@ -102,4 +118,6 @@ const _: () = {
     assert!(size_of::<Dumped>() == 16);
     assert!(size_of::<State>() == 8);
     assert!(size_of::<Found>() == 32);
+    assert!(size_of::<Report>() == 24);
+    assert!(size_of::<Written>() == 28);
 };

@@ -1,11 +1,12 @@
 //! The calls of the library, one safe function each, on lent slices. Every answer is a value: a
-//! refusal is a [`Status`] other than [`Status::Success`], and leaves everything as it was.
+//! refusal is a [`Status`] other than [`Status::Success`], and leaves everything as it was. A set has a
+//! [`Report`] beside it.
 //!
 //! The switches are lent as [`SwitchBytes`], and [`Switches`](crate::Switches) serve where they are only
 //! read. Whether disabling is allowed is a byte too, or a bool: 1 and true allow it.
 
 use crate::abi;
-use crate::{Attributes, Namespace, Status, SwitchBytes};
+use crate::{Attributes, Namespace, Refused, Report, Status, SwitchBytes};
 
 /// What power-on and restart answer.
 #[derive(Clone, Copy, PartialEq, Eq, Debug)]
@@ -39,6 +40,23 @@ pub struct Found<'a> {
     pub offset: usize,
     /// The payload, a part of its store.
     pub payload: &'a [u8],
+}
+
+/// What a set answers.
+#[derive(Clone, Copy, PartialEq, Eq, Debug)]
+pub struct Written {
+    /// SUCCESS, or why nothing was written: see [`set`].
+    pub status: Status,
+    /// What the chosen entry had against the set; [`Report::NONE`] if it had nothing.
+    pub report: Report,
+}
+
+impl Written {
+    /// `Ok` for SUCCESS, and any other status with its report as the error.
+    pub fn ok(self) -> Result<(), Refused> {
+        let Written { status, report } = self;
+        status.ok().map_err(|status| Refused { status, report })
+    }
 }
 
 /// Power-on. Fills `volatile` with 0xFF and `policy` with zeros; the engine is then enabled,
@@ -182,19 +200,44 @@ pub struct Request<'a> {
 /// * INVALID_PARAMETER: RT or APPEND without BS.
 /// * If the engine is enabled and an entry is chosen, and unless this is a deletion,
 ///   INVALID_PARAMETER: the payload as it would be afterwards, an append's with what is stored, is
-///   shorter than MinSize or longer than MaxSize, or the attributes lack a required bit or have a
-///   prohibited one. Then, for a deletion too, WRITE_PROTECTED: the entry locks the variable.
+///   shorter than MinSize or longer than MaxSize ([`Ground::Size`]), or the attributes lack a required
+///   bit or have a prohibited one ([`Ground::Attributes`]). Then, for a deletion too, WRITE_PROTECTED:
+///   the entry locks the variable ([`Ground::Lock`]).
 /// * NOT_FOUND: the variable to delete does not exist.
 /// * INVALID_PARAMETER: the variable exists with other attributes.
 /// * OUT_OF_RESOURCES: an append would make the payload longer than 1,024 bytes, or the records
 ///   would be longer than their store.
+///
+/// The report has the ground named beside its case, and [`Ground::None`] in all others.
+///
+/// [`Ground::Size`]: crate::Ground::Size
+/// [`Ground::Attributes`]: crate::Ground::Attributes
+/// [`Ground::Lock`]: crate::Ground::Lock
+/// [`Ground::None`]: crate::Ground::None
+///
+/// ```
+/// use varpolicy::calls::{self, Request};
+/// use varpolicy::{Attributes, Entry, Ground, Name, POLICY_BYTES, Report, Status};
+///
+/// let (mut nv, mut volatile, mut policy) = ([0xFF; 256], [0xFF; 256], [0; POLICY_BYTES]);
+/// let switches = calls::power_on(&nv, &mut volatile, &mut policy, false).switches;
+/// let board = *b"sixteen bytes..!";
+/// let entry = Entry { must_have: Attributes::NV | Attributes::RT, ..Entry::new(board, Name::EMPTY) };
+/// calls::register(&mut policy, switches, &entry.pack());
+///
+/// let request = Request { namespace: &board, name: b"A\0", attributes: Attributes::BS, payload: b"1" };
+/// let written = calls::set(&mut nv, &mut volatile, &policy, switches, request);
+/// assert_eq!(written.status, Status::InvalidParameter);
+/// let report = Report { ground: Ground::Attributes, place: 0, rank: 65, missing: 2, prohibited: 0, lowest_bit: 0 };
+/// assert_eq!(written.report, report);
+/// ```
 pub fn set(
     nv: &mut [u8],
     volatile: &mut [u8],
     policy: &[u8],
     switches: impl Into<SwitchBytes>,
     request: Request,
-) -> Status {
+) -> Written {
     // SAFETY: each pointer and length is of one live slice, the mutable ones apart from all others.
     let answer = unsafe {
         abi::varpolicy_set(
@@ -213,5 +256,5 @@ pub fn set(
             request.payload.len(),
         )
     };
-    Status::answered(answer)
+    Written { status: Status::answered(answer.status), report: Report::answered(&answer.report) }
 }

@@ -1,5 +1,5 @@
 use crate::calls::{self, Request, Started};
-use crate::{Attributes, Namespace, Status, SwitchBytes, Switches};
+use crate::{Attributes, Namespace, Refused, Status, SwitchBytes, Switches};
 
 /// An engine over three lent byte slices, with its switches. Every method but [`Engine::resume`] and
 /// [`Engine::switches`] is one call of [`calls`]; a refusal is an `Err` and leaves everything as it was.
@@ -149,20 +149,20 @@ impl<'a> Engine<'a> {
         Ok(Variable { attributes: found.attributes, payload: found.payload })
     }
 
-    /// Sets a variable: see [`calls::set`].
+    /// Sets a variable: see [`calls::set`]. The refusal has the report beside the status.
     pub fn set(
         &mut self,
         namespace: &Namespace,
         name: &[u8],
         attributes: Attributes,
         payload: &[u8],
-    ) -> Result<(), Status> {
+    ) -> Result<(), Refused> {
         let request = Request { namespace, name, attributes, payload };
         calls::set(self.nv, self.volatile, self.policy, self.switches, request).ok()
     }
 
     /// Deletes a variable: a set with no attributes and no payload.
-    pub fn delete(&mut self, namespace: &Namespace, name: &[u8]) -> Result<(), Status> {
+    pub fn delete(&mut self, namespace: &Namespace, name: &[u8]) -> Result<(), Refused> {
         self.set(namespace, name, Attributes::NONE, &[])
     }
 }

@@ -7,10 +7,11 @@
 //! byte has a meaning. A call that is refused leaves everything as it was.
 //!
 //! [`calls`] has one function for each call of the library. [`Engine`] keeps the lent slices and the
-//! switches together and answers with `Result`. [`Entry`] packs a policy entry.
+//! switches together and answers with `Result`. [`Entry`] packs a policy entry. [`Report`] tells why an entry
+//! refused a set.
 //!
 //! ```
-//! use varpolicy::{Attributes, Engine, Entry, Lock, Name, Status, POLICY_BYTES};
+//! use varpolicy::{Attributes, Engine, Entry, Ground, Lock, Name, Status, POLICY_BYTES};
 //!
 //! let board = *b"sixteen bytes..!";
 //! let (mut nv, mut volatile, mut policy) = ([0xFF; 256], [0xFF; 256], [0; POLICY_BYTES]);
@@ -23,7 +24,9 @@
 //!
 //! let attributes = Attributes::NV | Attributes::BS;
 //! engine.set(&board, &serial, attributes, b"0042")?;
-//! assert_eq!(engine.set(&board, &serial, attributes, b"0043"), Err(Status::WriteProtected));
+//! let refused = engine.set(&board, &serial, attributes, b"0043").unwrap_err();
+//! assert_eq!((refused.status, refused.report.ground), (Status::WriteProtected, Ground::Lock));
+//! assert_eq!(refused.to_string(), "WRITE_PROTECTED: entry 0 (rank 0) locks the variable");
 //! assert_eq!(engine.read(&board, &serial)?.payload, b"0042");
 //! # Ok::<(), Status>(())
 //! ```
@@ -35,6 +38,7 @@ pub mod calls;
 mod engine;
 mod entry;
 mod limits;
+mod report;
 mod status;
 mod switches;
 
@@ -44,6 +48,7 @@ pub use entry::{Entry, Lock, Name, PackedEntry};
 pub use limits::{
     MAX_ENTRIES, MAX_ENTRY_SIZE, MAX_NAME_UNITS, MAX_PAYLOAD_BYTES, MAX_STORE_BYTES, MIN_ENTRY_SIZE, POLICY_BYTES,
 };
+pub use report::{Ground, Refused, Report};
 pub use status::Status;
 pub use switches::{SwitchBytes, Switches};
 

@@ -1,6 +1,7 @@
-//! An engine that is started anew: refused, it keeps its own switches and its history goes on.
+//! An engine that is started anew: refused, it keeps its own switches and its history goes on. An engine that refuses a
+//! set, and the sentence that it tells.
 
-use varpolicy::{Attributes, Engine, Entry, Name, POLICY_BYTES, Status, Switches};
+use varpolicy::{Attributes, Engine, Entry, Ground, Lock, Name, POLICY_BYTES, Refused, Report, Status, Switches};
 
 const G: [u8; 16] = [0x5C, 0x67, 0xD1, 0x81, 0xF6, 0x86, 0xDF, 0x48, 0xBD, 0x95, 0x9A, 0x6E, 0x4F, 0x09, 0x25, 0xC3];
 const FRESH: Switches = Switches { enabled: true, locked: false, disabling_allowed: false };
@@ -99,4 +100,71 @@ fn a_refused_power_on_leaves_the_engine_its_switches() {
     assert_eq!(engine.power_on_again(false), Err(Status::VolumeCorrupted));
     expect_used(&mut engine);
     assert_eq!(lent.volatile, volatile);
+}
+
+/// A set and a delete of `A` by an engine with this entry; the first that is refused.
+fn refused(entry: Entry, attributes: Attributes) -> Result<(), Refused> {
+    let mut lent = Lent { nv: [0xFF; 128], volatile: [0xFF; 128], policy: [0; POLICY_BYTES] };
+    let mut engine = Engine::power_on(&mut lent.nv, &mut lent.volatile, &mut lent.policy, true).unwrap();
+    engine.register(&entry.pack()).unwrap();
+    engine.set(&G, &name("A"), attributes, &[1])?;
+    engine.delete(&G, &name("A"))
+}
+
+#[test]
+fn a_refused_set_is_a_sentence() {
+    let (all, bs) = (Entry::new(G, Name::EMPTY), Attributes::BS);
+    let sentence = |entry| refused(entry, bs).unwrap_err().to_string();
+    assert_eq!(refused(all, bs), Ok(()));
+    assert_eq!(
+        sentence(Entry { min_size: 2, ..Entry::new(G, name("A")) }),
+        "INVALID_PARAMETER: the size is not one that entry 0 (rank 0) allows"
+    );
+    assert_eq!(
+        sentence(Entry { must_have: Attributes::NV, ..all }),
+        "INVALID_PARAMETER: entry 0 (rank 65, whole namespace) requires 1 attribute bit that is missing, bit 0 (NV)"
+    );
+    assert_eq!(
+        sentence(Entry { cant_have: bs, ..all }),
+        "INVALID_PARAMETER: entry 0 (rank 65, whole namespace) prohibits 1 attribute bit that is set, bit 1 (BS)"
+    );
+    assert_eq!(
+        sentence(Entry { must_have: Attributes(0x8000_0008), ..Entry::new(G, name("A")) }),
+        "INVALID_PARAMETER: entry 0 (rank 0) requires 2 attribute bits that are missing, the lowest is bit 3"
+    );
+    assert_eq!(
+        sentence(Entry { must_have: Attributes::NV | Attributes::RT, cant_have: bs, ..Entry::new(G, name("A")) }),
+        "INVALID_PARAMETER: entry 0 (rank 0) requires 2 attribute bits that are missing and prohibits 1 that is set, \
+         the lowest is bit 0 (NV)"
+    );
+    for lock in [Lock::Now, Lock::OnCreate] {
+        let locked = "WRITE_PROTECTED: entry 0 (rank 65, whole namespace) locks the variable";
+        assert_eq!(sentence(Entry { lock, ..all }), locked);
+    }
+    assert_eq!(refused(all, Attributes::RT).unwrap_err().to_string(), "INVALID_PARAMETER");
+}
+
+#[test]
+fn more_bits_than_one_are_counted() {
+    let report = Report { ground: Ground::Attributes, place: 3, rank: 4, missing: 1, prohibited: 2, lowest_bit: 6 };
+    let told = |report| Refused { status: Status::InvalidParameter, report }.to_string();
+    assert_eq!(
+        told(report),
+        "INVALID_PARAMETER: entry 3 (rank 4) requires 1 attribute bit that is missing and prohibits 2 that are set, \
+         the lowest is bit 6 (APPEND)"
+    );
+    assert_eq!(
+        told(Report { missing: 0, lowest_bit: 1, ..report }),
+        "INVALID_PARAMETER: entry 3 (rank 4) prohibits 2 attribute bits that are set, the lowest is bit 1 (BS)"
+    );
+}
+
+#[test]
+fn a_refused_set_is_an_error_and_has_a_status() {
+    fn status_alone() -> Result<(), Status> {
+        Ok(refused(Entry { lock: Lock::Now, ..Entry::new(G, Name::EMPTY) }, Attributes::BS)?)
+    }
+    assert_eq!(status_alone(), Err(Status::WriteProtected));
+    let error: Box<dyn std::error::Error> = Box::new(refused(Entry::new(G, name("B")), Attributes(8)).unwrap_err());
+    assert_eq!(error.to_string(), "UNSUPPORTED");
 }

@@ -101,7 +101,7 @@ fn answers_to(content: &[u8]) -> [Status; 3] {
     assert_eq!(dumped.length > 0, dumped.status == Status::Success);
     assert!(dumped.status == Status::Success || buffer == [9; POLICY_BYTES]);
     let request = Request { namespace: &[0x77; 16], name: &name, attributes: Attributes::BS, payload: b"1" };
-    let set = calls::set(&mut [], &mut volatile, content, OPEN, request);
+    let set = calls::set(&mut [], &mut volatile, content, OPEN, request).status;
     assert_eq!(volatile == [0xFF; 64], set != Status::Success);
     [registered, dumped.status, set]
 }

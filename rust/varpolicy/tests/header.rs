@@ -1,7 +1,10 @@
-//! The numbers of include/varpolicy.h are those of this crate.
+//! The numbers of include/varpolicy.h are those of this crate, and so are the fields of its records.
 
 use std::collections::BTreeMap;
-use varpolicy::{Attributes, Status};
+use varpolicy::{Attributes, Ground, Status};
+
+const HEADER: &str = include_str!("../../../include/varpolicy.h");
+const RECORDS: &str = concat!(include_str!("../src/abi.rs"), include_str!("../src/switches.rs"));
 
 /// The number that a header line defines, if it defines one.
 fn definition(line: &str) -> Option<(&str, u32)> {
@@ -16,11 +19,13 @@ fn definition(line: &str) -> Option<(&str, u32)> {
 
 #[test]
 fn header_and_crate_have_the_same_numbers() {
-    let header = include_str!("../../../include/varpolicy.h");
-    let mut defined: BTreeMap<&str, u32> = header.lines().filter_map(definition).collect();
+    let mut defined: BTreeMap<&str, u32> = HEADER.lines().filter_map(definition).collect();
     let mut expect = |name: &str, number: usize| assert_eq!(defined.remove(name), Some(number as u32), "{name}");
     for status in Status::ALL {
         expect(status.name(), status.number() as usize);
+    }
+    for ground in Ground::ALL {
+        expect(&format!("GROUND_{ground}"), ground.number() as usize);
     }
     for (attribute, name) in Attributes::NAMED {
         expect(&format!("ATTRIBUTE_{name}"), attribute.0 as usize);
@@ -39,4 +44,54 @@ fn header_and_crate_have_the_same_numbers() {
     expect("MAX_NAME_UNITS", varpolicy::MAX_NAME_UNITS);
     expect("NAMESPACE_BYTES", size_of::<varpolicy::Namespace>());
     assert!(defined.is_empty(), "not checked: {defined:?}");
+}
+
+/// The fields of a C record with the types that they have in Rust, in order.
+fn header_fields(record: &str) -> Vec<String> {
+    let (before, _) = HEADER.split_once(&format!("}} varpolicy_{record};")).expect("a record of the header");
+    let (_, body) = before.rsplit_once("typedef struct {").expect("its fields");
+    let fields = body.lines().filter_map(|line| line.trim().split_once(';')).map(|(declared, _)| declared);
+    fields
+        .map(|declared| {
+            let (c_type, name) = declared.split_once(char::is_whitespace).expect("a type and a name");
+            format!("{}: {}", name.trim(), rust_type(c_type))
+        })
+        .collect()
+}
+
+fn rust_type(c_type: &str) -> &str {
+    match c_type {
+        "uint8_t" => "u8",
+        "uint32_t" => "u32",
+        "size_t" => "usize",
+        "varpolicy_switches" => "SwitchBytes",
+        "varpolicy_report" => "Report",
+        other => other,
+    }
+}
+
+/// The fields of a record of the crate that the library is lent or hands back, in order.
+fn crate_fields(record: &str) -> Vec<String> {
+    let (_, behind) = RECORDS.split_once(&format!("struct {record} {{")).expect("a record of the crate");
+    let (body, _) = behind.split_once('}').expect("its fields");
+    let fields = body.lines().map(str::trim).filter(|line| line.starts_with("pub"));
+    fields.map(|line| line.trim_start_matches("pub(crate) ").trim_start_matches("pub ").replace(',', "")).collect()
+}
+
+#[test]
+fn header_and_crate_have_the_same_records() {
+    let records = [
+        ("switches", "SwitchBytes"),
+        ("started", "Started"),
+        ("dumped", "Dumped"),
+        ("state", "State"),
+        ("found", "Found"),
+        ("report", "Report"),
+        ("written", "Written"),
+    ];
+    assert_eq!(HEADER.matches("typedef struct {").count(), records.len());
+    for (c_name, name) in records {
+        assert!(!header_fields(c_name).is_empty(), "{name}");
+        assert_eq!(header_fields(c_name), crate_fields(name), "{name}");
+    }
 }

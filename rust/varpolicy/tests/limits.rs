@@ -36,7 +36,7 @@ fn registered(entries: &[Vec<u8>]) -> Vec<Status> {
 fn answers_to(mut policy: Vec<u8>) -> [Status; 3] {
     let switches = Switches { enabled: false, locked: false, disabling_allowed: true };
     let request = Request { namespace: &namespace(0), name: b"N\0", attributes: Attributes::BS, payload: b"1" };
-    let set = calls::set(&mut [], &mut [0xFF; 64], &policy, switches, request);
+    let set = calls::set(&mut [], &mut [0xFF; 64], &policy, switches, request).status;
     let dump = calls::dump(&policy, &mut vec![0; MAX_ENTRIES * MIN_ENTRY_SIZE]).status;
     [dump, calls::register(&mut policy, switches, &shortest(POLICY_BYTES)), set]
 }
@@ -122,7 +122,7 @@ fn payload_and_name() {
         let (name, payload) = (vec![0x4E; 2 * units], vec![7; bytes]);
         let attributes = Attributes::NV | Attributes::BS;
         let request = Request { namespace: &namespace(0), name: &name, attributes, payload: &payload };
-        calls::set(&mut nv, &mut volatile, &policy, switches, request)
+        calls::set(&mut nv, &mut volatile, &policy, switches, request).status
     };
     assert_eq!(set(MAX_NAME_UNITS, MAX_PAYLOAD_BYTES), Status::Success);
     assert_eq!(set(MAX_NAME_UNITS + 1, 1), Status::InvalidParameter);

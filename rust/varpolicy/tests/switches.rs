@@ -3,7 +3,7 @@
 use std::os::unix::process::ExitStatusExt;
 use std::process::Command;
 use std::ptr;
-use varpolicy::{Attributes, Entry, Lock, Name, POLICY_BYTES, Status, SwitchBytes, Switches, calls};
+use varpolicy::{Attributes, Entry, Ground, Lock, Name, POLICY_BYTES, Status, SwitchBytes, Switches, calls};
 
 const G: [u8; 16] = [0x5C, 0x67, 0xD1, 0x81, 0xF6, 0x86, 0xDF, 0x48, 0xBD, 0x95, 0x9A, 0x6E, 0x4F, 0x09, 0x25, 0xC3];
 
@@ -96,8 +96,12 @@ fn a_set_is_held_to_the_entries_where_they_are_enforced() {
     for bytes in every_byte() {
         let (mut nv, mut volatile) = ([0xFF; 40], [0xFF; 40]);
         let request = calls::Request { namespace: &G, name: b"A\0", attributes: Attributes::BS, payload: &[1] };
-        let expected = if enforced(bytes) { Status::WriteProtected } else { Status::Success };
-        assert_eq!(calls::set(&mut nv, &mut volatile, &policy, bytes, request), expected, "{bytes:?}");
+        let written = calls::set(&mut nv, &mut volatile, &policy, bytes, request);
+        let expected = match enforced(bytes) {
+            true => (Status::WriteProtected, Ground::Lock),
+            false => (Status::Success, Ground::None),
+        };
+        assert_eq!((written.status, written.report.ground), expected, "{bytes:?}");
         assert_eq!(volatile == [0xFF; 40], enforced(bytes), "{bytes:?}");
     }
 }

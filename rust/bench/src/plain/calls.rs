@@ -1,10 +1,10 @@
 //! The calls.
 
 use super::index::{Index, Place, Small, Standard};
-use super::policy::{Entries, is_entry};
+use super::policy::{Chosen, Entries, is_entry};
 use super::stores::{Key, Stores, record_len};
-use super::{APPEND, BS, HEADER, NV, RT, is_name, le16, le32};
-use varpolicy::{MAX_ENTRIES, MAX_PAYLOAD_BYTES, POLICY_BYTES};
+use super::{APPEND, BS, ENTRY_HEADER, HEADER, NV, RT, is_name, le16, le32};
+use varpolicy::{Ground, MAX_ENTRIES, MAX_PAYLOAD_BYTES, POLICY_BYTES, Report};
 
 pub const SUCCESS: u32 = 0;
 pub const INVALID_PARAMETER: u32 = 2;
@@ -95,6 +95,20 @@ pub struct Request<'a> {
     pub payload: &'a [u8],
 }
 
+/// What a set answers.
+#[derive(Clone, Copy, PartialEq, Eq, Debug)]
+pub struct Written {
+    pub status: u32,
+    pub report: Report,
+}
+
+/// A status that no entry gave.
+impl From<u32> for Written {
+    fn from(status: u32) -> Written {
+        Written { status, report: Report::NONE }
+    }
+}
+
 /// What a set is to do with a store.
 enum Edit {
     Nothing,
@@ -103,12 +117,12 @@ enum Edit {
     Rewrite { place: Place, end: usize, kept: usize },
 }
 
-pub fn set<I>(nv: &mut [u8], volatile: &mut [u8], policy: &[u8], switches: Switches, request: Request) -> u32
+pub fn set<I>(nv: &mut [u8], volatile: &mut [u8], policy: &[u8], switches: Switches, request: Request) -> Written
 where
     I: for<'a> IndexOf<'a>,
 {
     match decide::<<I as IndexOf>::Index>(nv, volatile, policy, switches, &request) {
-        Err(status) => return status,
+        Err(refused) => return refused,
         Ok((Edit::Nothing, _)) => {}
         Ok((Edit::Delete(place), end)) => {
             let store = if place.non_volatile { nv } else { volatile };
@@ -123,7 +137,7 @@ where
             rewrite(store, place.at.into(), end, kept, request.payload);
         }
     }
-    SUCCESS
+    SUCCESS.into()
 }
 
 /// Names a table for every lifetime, so that `set` can let go of it before it writes.
@@ -152,26 +166,26 @@ fn decide<'a, I: Index<'a>>(
     policy: &[u8],
     switches: Switches,
     request: &Request,
-) -> Result<(Edit, usize), u32> {
+) -> Result<(Edit, usize), Written> {
     let stores = Stores::<I>::check(nv, volatile).ok_or(VOLUME_CORRUPTED)?;
     let entries = Entries::check(policy).ok_or(VOLUME_CORRUPTED)?;
     let Request { namespace, name, attributes, payload } = *request;
     if !is_name(name) || payload.len() > MAX_PAYLOAD_BYTES {
-        return Err(INVALID_PARAMETER);
+        return Err(INVALID_PARAMETER.into());
     }
     if attributes & !(NV | BS | RT | APPEND) != 0 {
-        return Err(UNSUPPORTED);
+        return Err(UNSUPPORTED.into());
     }
     if attributes & (RT | APPEND) != 0 && attributes & BS == 0 {
-        return Err(INVALID_PARAMETER);
+        return Err(INVALID_PARAMETER.into());
     }
     let append = attributes & APPEND != 0;
     let deletion = !append && (payload.is_empty() || attributes & (BS | RT) == 0);
     let found = stores.find(Key::new(namespace, name).bytes());
     if switches.enabled
-        && let Some(entry) = entries.choose(namespace, name)
+        && let Some(chosen) = entries.choose(namespace, name)
     {
-        enforce(entry, &stores, request, deletion, found)?;
+        enforce(chosen, &stores, request, deletion, found)?;
     }
     if deletion {
         let place = found.ok_or(NOT_FOUND)?;
@@ -180,7 +194,7 @@ fn decide<'a, I: Index<'a>>(
     if let Some(place) = found
         && le32(stores.record(place), 4) != attributes & !APPEND
     {
-        return Err(INVALID_PARAMETER);
+        return Err(INVALID_PARAMETER.into());
     }
     if append && payload.is_empty() {
         return Ok((Edit::Nothing, 0));
@@ -189,36 +203,48 @@ fn decide<'a, I: Index<'a>>(
     let (end, room) = (stores.ends[non_volatile], stores.bytes[non_volatile].len());
     let Some(place) = found else {
         let fits = end + record_len(name.len() + 2, payload.len()) <= room;
-        return if fits { Ok((Edit::Create { end }, 0)) } else { Err(OUT_OF_RESOURCES) };
+        return if fits { Ok((Edit::Create { end }, 0)) } else { Err(OUT_OF_RESOURCES.into()) };
     };
     let old = stores.payload(place).len();
     let kept = if append { old } else { 0 };
     let new = kept + payload.len();
     let len = |data| record_len(name.len() + 2, data);
     if new > MAX_PAYLOAD_BYTES || end - len(old) + len(new) > room {
-        return Err(OUT_OF_RESOURCES);
+        return Err(OUT_OF_RESOURCES.into());
     }
     Ok((Edit::Rewrite { place, end, kept }, 0))
 }
 
 /// Step 4: what the chosen entry says.
 fn enforce<'a, I: Index<'a>>(
-    entry: &[u8],
+    chosen: Chosen,
     stores: &Stores<'a, I>,
     request: &Request,
     deletion: bool,
     found: Option<Place>,
-) -> Result<(), u32> {
+) -> Result<(), Written> {
+    let Chosen { entry, place, rank } = chosen;
+    let report = |ground| Report { ground, place, rank, ..Report::NONE };
+    let header = entry.first_chunk::<ENTRY_HEADER>().expect("a checked entry");
     let attributes = request.attributes;
     if !deletion {
         let joined = found.filter(|_| attributes & APPEND != 0).map_or(0, |place| stores.payload(place).len());
         let length = (joined + request.payload.len()) as u32;
-        let (must, cant) = (le32(entry, 32), le32(entry, 36));
-        if length < le32(entry, 24) || length > le32(entry, 28) || attributes & must != must || attributes & cant != 0 {
-            return Err(INVALID_PARAMETER);
+        if length < le32(header, 24) || length > le32(header, 28) {
+            return Err(Written { status: INVALID_PARAMETER, report: report(Ground::Size) });
+        }
+        let (missing, prohibited) = (le32(header, 32) & !attributes, le32(header, 36) & attributes);
+        if missing | prohibited != 0 {
+            let report = Report {
+                missing: missing.count_ones(),
+                prohibited: prohibited.count_ones(),
+                lowest_bit: (missing | prohibited).trailing_zeros(),
+                ..report(Ground::Attributes)
+            };
+            return Err(Written { status: INVALID_PARAMETER, report });
         }
     }
-    let locked = match entry[40] {
+    let locked = match header[40] {
         0 => false,
         1 => true,
         2 => found.is_some(),
@@ -227,7 +253,7 @@ fn enforce<'a, I: Index<'a>>(
             stores.find(trigger.bytes()).is_some_and(|place| *stores.payload(place) == [entry[60]])
         }
     };
-    if locked { Err(WRITE_PROTECTED) } else { Ok(()) }
+    if locked { Err(Written { status: WRITE_PROTECTED, report: report(Ground::Lock) }) } else { Ok(()) }
 }
 
 fn delete(store: &mut [u8], at: usize, end: usize) {

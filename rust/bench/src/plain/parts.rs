@@ -31,7 +31,7 @@ pub fn choose(policy: &[u8], namespace: &[u8; 16], name: &[u8]) -> Option<usize>
     if name.is_empty() {
         return None;
     }
-    entries.choose(namespace, name).map(|entry| entry.as_ptr().addr() - policy.as_ptr().addr())
+    entries.choose(namespace, name).map(|chosen| chosen.entry.as_ptr().addr() - policy.as_ptr().addr())
 }
 
 /// Where the records of the non-volatile and of the volatile store end.

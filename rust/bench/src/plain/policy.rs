@@ -4,6 +4,7 @@ use super::index::Small;
 use super::pattern::{Four, SIGN, eight, matches, signs};
 use super::{ENTRY_HEADER, MAX_NAME, all_are, is_closed_name, le16, le32};
 use std::array::from_fn;
+use std::ptr::from_ref;
 use varpolicy::{MAX_ENTRIES, POLICY_BYTES};
 
 /// Whether bytes are a well-formed entry. It is part of the walk's loop, where the compiler would not put it by itself.
@@ -96,6 +97,14 @@ pub fn name_of(entry: &[u8]) -> &[u8] {
     &entry[usize::from(le16(entry, 6))..]
 }
 
+/// The entry that was chosen: its bytes, its place among all, and its rank.
+#[derive(Clone, Copy)]
+pub struct Chosen<'a> {
+    pub entry: &'a [u8],
+    pub place: u32,
+    pub rank: u32,
+}
+
 /// The slots of the table. Of 256, 512 and 1,024 these cost fewest instructions at the most entries.
 const SLOTS: usize = 1024;
 
@@ -160,14 +169,14 @@ impl<'a> Entries<'a> {
 
     /// The chosen entry: lowest rank, first among equals. Most entries are passed by after a look at how long their names
     /// are and at the last four units of these, or also at the first four.
-    pub fn choose(&self, namespace: &[u8; 16], name: &[u8]) -> Option<&'a [u8]> {
+    pub fn choose(&self, namespace: &[u8; 16], name: &[u8]) -> Option<Chosen<'a>> {
         let record: &'a [u8; POLICY_BYTES] = self.record.try_into().ok()?;
         let [first, last] = Four::first_and_last(name);
         let mut best = None;
-        let mut best_rank = usize::MAX;
+        let mut best_rank = NO_RANK;
         let mut next = 0;
-        for end in &self.ends[..self.count] {
-            let (start, end) = (next, usize::from(*end));
+        for noted in &self.ends[..self.count] {
+            let (start, end) = (next, usize::from(*noted));
             next = end;
             // OffsetToName ends the first eight bytes of an entry, and a zero unit ends its name.
             let name_at = start + (le64(record, start)? >> 48) as usize;
@@ -181,15 +190,18 @@ impl<'a> Entries<'a> {
                 continue;
             }
             let entry = &record[start..end];
-            if let Some(rank) = rank_for(entry, namespace, name).filter(|rank| *rank < best_rank) {
+            let rank = rank_for(entry, namespace, name);
+            if rank < best_rank {
                 best_rank = rank;
-                best = Some(entry);
+                best = Some((entry, noted));
                 if rank == 0 {
                     break;
                 }
             }
         }
-        best
+        // To count the places in the loop would be one instruction more for each entry.
+        let place = |noted: &u16| (from_ref(noted).addr() - self.ends.as_ptr().addr()) / size_of::<u16>();
+        best.map(|(entry, noted)| Chosen { entry, place: place(noted) as u32, rank: best_rank })
     }
 }
 
@@ -201,16 +213,20 @@ fn le64(record: &[u8; POLICY_BYTES], at: usize) -> Option<u64> {
     record[at..].first_chunk().map(|bytes| u64::from_le_bytes(*bytes))
 }
 
-/// The rank of an entry that targets the variable. Few entries come here, so it stays out of the loop.
+/// More than any rank.
+const NO_RANK: u32 = 66;
+
+/// The rank of an entry that targets the variable, and more than any of one that does not. Few entries come here, so it
+/// stays out of the loop.
 #[inline(never)]
-fn rank_for(entry: &[u8], namespace: &[u8; 16], name: &[u8]) -> Option<usize> {
+fn rank_for(entry: &[u8], namespace: &[u8; 16], name: &[u8]) -> u32 {
     if entry[8..24] != *namespace {
-        return None;
+        return NO_RANK;
     }
     match name_of(entry) {
-        [] => Some(65),
-        [pattern @ .., _, _] => matches(pattern, name).then(|| signs(pattern)),
-        _ => None,
+        [] => 65,
+        [pattern @ .., _, _] if matches(pattern, name) => signs(pattern) as u32,
+        _ => NO_RANK,
     }
 }
 
@@ -315,8 +331,10 @@ mod tests {
             let chosen = ranks.filter_map(|(place, rank)| Some((rank?, place))).min();
             let lent = with_entries(&entries);
             let checked = Entries::check(&lent.policy).expect("valid");
-            let found = checked.choose(&[7; 16], &name).map(|entry| entry.to_vec());
-            assert_eq!(found, chosen.map(|(_, place)| entries[place].pack().to_vec()), "round {round}");
+            let found = checked.choose(&[7; 16], &name);
+            let found = found.map(|Chosen { entry, place, rank }| (entry.to_vec(), place as usize, rank as usize));
+            let expected = chosen.map(|(rank, place)| (entries[place].pack().to_vec(), place, rank));
+            assert_eq!(found, expected, "round {round}");
         }
     }
 }

@@ -6,14 +6,15 @@ use compare::make::{EntryFields, G, entry_of_size, packed, unit_bytes, units};
 use compare::state::{Guarded, State};
 use reference::POLICY_BYTES;
 use std::process::ExitCode;
+use varpolicy::Report;
 
 /// An implementation: makes a call on a state.
 type Implementation = fn(&mut State, &Call) -> Answer;
 
-/// A reading: its text, what answers it, and the statuses expected.
+/// A reading: its text, what answers it, and the numbers expected, most of them statuses.
 type Reading = (&'static str, fn(Implementation) -> Vec<u32>, &'static [u32]);
 
-const READINGS: [Reading; 22] = [
+const READINGS: [Reading; 25] = [
     ("an entry of 43 bytes, one of 44", least_entry, &[2, 0]),
     ("a name of no units, closed", zero_unit_name, &[2]),
     ("a trigger's name of no units, of one", trigger_name, &[2, 0]),
@@ -33,6 +34,13 @@ const READINGS: [Reading; 22] = [
     ("MaxSize 64, locked, 60 bytes in the other store: appends of 5 bytes, 4", append_if_locked, &[2, 8]),
     ("RT without BS; an unknown bit", attributes, &[2, 3]),
     ("disable and lock, lock and disable, disable twice", switches, &[0, 0, 0, 8, 0, 20]),
+    (
+        "reports of sets of `A0` under `A#`, behind `B`: size, attributes, lock, none; disabled",
+        reports,
+        GROUNDS.as_flattened(),
+    ),
+    ("the report where bit 31 is required of a whole namespace", required_bit, &[2, 2, 0, 65, 1, 0, 31]),
+    ("the same, and BS prohibited", required_and_prohibited_bit, &[2, 2, 0, 65, 1, 1, 1]),
     ("an empty store of 40 bytes: a record of 40, one of 44", forty_bytes, &[0, 9]),
     ("51 entries that sum to 16,384, and one more", full_record, &[0, 16384, 9]),
     ("128 entries of 44 bytes, and one more", most_entries, &[0, 5632, 9]),
@@ -44,6 +52,21 @@ const READINGS: [Reading; 22] = [
     ),
     ("the record with `A#`: power-on, restart, and whether each cleared it", start_over_sign, &[0, 1, 0, 1]),
     ("the dump of two entries, 94 bytes", whole_dump, &[0, 94, 1]),
+];
+
+/// A status and its report: ground, place, rank, missing, prohibited, lowest bit.
+type Reported = [u32; 7];
+
+const GROUNDS: &[Reported] = &[
+    [2, 1, 1, 1, 0, 0, 0],
+    [2, 2, 1, 1, 2, 0, 0],
+    [2, 2, 1, 1, 0, 1, 6],
+    [2, 2, 1, 1, 2, 1, 0],
+    [8, 3, 1, 1, 0, 0, 0],
+    [8, 3, 1, 1, 0, 0, 0],
+    [3, 0, 0, 0, 0, 0, 0],
+    [0, 0, 0, 0, 0, 0, 0],
+    [0, 0, 0, 0, 0, 0, 0],
 ];
 
 fn main() -> ExitCode {
@@ -86,6 +109,17 @@ impl Bench {
     fn set_with(&mut self, name: &str, attributes: u32, payload: &[u8]) -> u32 {
         let name = unit_bytes(&units(name));
         self.call(&Call::Set { namespace: G, name, attributes, payload: payload.to_vec() })
+    }
+
+    /// A set with its report.
+    fn report(&mut self, name: &str, attributes: u32, payload: &[u8]) -> Reported {
+        let (name, payload) = (unit_bytes(&units(name)), payload.to_vec());
+        let answer = (self.implementation)(&mut self.state, &Call::Set { namespace: G, name, attributes, payload });
+        let Values::Written(report) = answer.values else {
+            panic!("a set has a report");
+        };
+        let Report { ground, place, rank, missing, prohibited, lowest_bit } = report;
+        [answer.status.number(), ground.number(), place, rank, missing, prohibited, lowest_bit]
     }
 
     /// A set with NV and BS.
@@ -215,6 +249,39 @@ fn switches(implementation: Implementation) -> Vec<u32> {
         calls.each_ref().map(|call| bench.call(call))
     });
     answers.collect()
+}
+
+fn reports(implementation: Implementation) -> Vec<u32> {
+    let mut bench = Bench::new(implementation, 256);
+    let asking = EntryFields { max_size: 2, must_have: 5, cant_have: 0x40, ..locked_now("A#") };
+    assert_eq!([entry("B"), asking].map(|fields| bench.register(&fields)), [0, 0]);
+    let refused = [
+        bench.report("A0", 2, &[1; 3]),
+        bench.report("A0", 2, &[1]),
+        bench.report("A0", 0x47, &[1]),
+        bench.report("A0", 0x42, &[1]),
+        bench.report("A0", 7, &[1]),
+        bench.report("A0", 3, &[]),
+        bench.report("A0", 8, &[1]),
+    ];
+    let granted = bench.report("B", 3, &[1]);
+    assert_eq!(bench.call(&Call::Disable), 0);
+    [refused.as_flattened(), &granted, &bench.report("A0", 2, &[1])].concat()
+}
+
+fn required_bit(implementation: Implementation) -> Vec<u32> {
+    report_of_whole(implementation, 0)
+}
+
+fn required_and_prohibited_bit(implementation: Implementation) -> Vec<u32> {
+    report_of_whole(implementation, 2)
+}
+
+/// A set under a whole namespace that requires bit 31 and prohibits these.
+fn report_of_whole(implementation: Implementation, cant_have: u32) -> Vec<u32> {
+    let mut bench = Bench::new(implementation, 256);
+    assert_eq!(bench.register(&EntryFields { must_have: 0x8000_0000, cant_have, ..entry("") }), 0);
+    bench.report("A", 3, &[1]).to_vec()
 }
 
 fn forty_bytes(implementation: Implementation) -> Vec<u32> {

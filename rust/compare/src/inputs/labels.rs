@@ -349,3 +349,73 @@ pub fn sum_labels() -> Vec<String> {
         ["none", "4 attributes", "4 lock", "4 lock and another NV", "4 lock and another RT", "6", "7", "8", "9"];
     crossed(&sums, &steps)
 }
+
+/// The ground of a report, and what else the entry has against the set. A deletion is asked for the lock alone.
+pub const REPORT: [&str; 11] = [
+    "size alone",
+    "size, and attributes",
+    "size, and lock",
+    "size, attributes and lock",
+    "attributes alone",
+    "attributes, and lock",
+    "lock alone",
+    "lock: a deletion",
+    "lock: a deletion of another size",
+    "lock: a deletion with other attributes",
+    "lock: a deletion with both",
+];
+
+/// Reports that differ from none in little: place, rank and lowest bit are 0.
+pub const REPORT_ZEROS: [&str; 4] = [
+    "size, all numbers 0",
+    "lock, all numbers 0",
+    "attributes, 1 missing, all others 0",
+    "attributes, 1 prohibited, all others 0",
+];
+
+/// Every ground, with an entry beside the chosen one that targets the variable too.
+pub fn report_choice_labels() -> Vec<String> {
+    let others = [
+        "none, and none before",
+        "none, but others before",
+        "the whole namespace before",
+        "the whole namespace behind",
+        "a higher rank before",
+        "a higher rank behind",
+        "the same rank behind",
+    ];
+    crossed(&GROUNDS, &others)
+}
+
+const GROUNDS: [&str; 3] = ["size", "attributes", "lock"];
+
+/// Every kind of set that is measured, with where the variable is and which bound it broke. The last is left out, as in
+/// [`against_sizes_labels`].
+pub fn report_size_labels() -> Vec<String> {
+    let kinds = crossed(&["set", "append", "empty append"], &["there", "absent"]);
+    let mut labels = crossed(&kinds, &["short", "long"]);
+    labels.pop();
+    labels
+}
+
+/// Every type of lock that locks, with the kind of set.
+pub fn report_lock_labels() -> Vec<String> {
+    crossed(&LOCK_TYPES[1..], &["set", "append", "delete"])
+}
+
+/// Which bits are the lowest: those that a set can lack, and those that it can have.
+pub fn report_lowest_labels() -> Vec<String> {
+    let lacking = (0..32).filter(|bit| *bit != 1).map(|bit| format!("{bit} missing"));
+    lacking.chain([0, 1, 2, 6].map(|bit| format!("{bit} prohibited"))).collect()
+}
+
+/// Bits of both kinds: of which the lowest is, and of which there are more.
+pub fn report_both_labels() -> Vec<String> {
+    let lowest = ["lowest prohibited", "lowest missing"];
+    crossed(&lowest, &["fewer missing", "as many missing", "more missing"])
+}
+
+/// Every ground, and whether the entry stands elsewhere than without the rebuilds.
+pub fn report_reordered_labels() -> Vec<String> {
+    crossed(&GROUNDS, &["the same place", "another place"])
+}

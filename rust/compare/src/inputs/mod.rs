@@ -3,12 +3,13 @@
 
 mod former;
 pub mod labels;
+pub mod reports;
 mod set;
 mod signs;
 mod triggers;
 
 use crate::FORMER_POLICY_BYTES;
-use crate::call::Call;
+use crate::call::{Answer, Call, Ground, Values};
 use crate::coverage::{Coverage, Input};
 use crate::damage::entry_sizes;
 use crate::state::State;
@@ -17,8 +18,8 @@ use labels::{CALLS, CALLS_ON_BYTES, DATA_SIZES, NAME_SIZES, START};
 use reference::{Entry, MAX_ENTRIES, POLICY_BYTES, Pair, Policy, Switches};
 use varpolicy::{MAX_STORE_BYTES, Status};
 
-/// Counts what a call is given.
-pub fn count(coverage: &mut Coverage, state: &State, call: &Call) {
+/// Counts what a call was given that got this answer, for this reason.
+pub fn count(coverage: &mut Coverage, state: &State, call: &Call, answer: &Answer, decided: Ground) {
     count_switches(coverage, state.read_switches(), call.name());
     count_switch_bytes(coverage, state, call);
     match call {
@@ -27,25 +28,21 @@ pub fn count(coverage: &mut Coverage, state: &State, call: &Call) {
         Call::Register { entry } => count_registration(coverage, state, entry),
         Call::Dump { buffer } => count_dump(coverage, &state.policy, buffer.len()),
         Call::Read { name, .. } => count_request_name(coverage, name),
-        Call::Set { namespace, name, attributes, payload } => {
-            count_request_name(coverage, name);
-            set::count(coverage, state, (namespace, name), (*attributes, payload.len()));
-        }
+        Call::Set { name, .. } => count_request_name(coverage, name),
         Call::Lock | Call::Disable | Call::Query => {}
     }
     if let Call::PowerOn { .. } | Call::Restart { .. } | Call::Read { .. } | Call::Set { .. } = call {
         count_first_record(coverage, &state.nv);
         count_first_record(coverage, &state.volatile);
     }
-}
-
-/// Counts what a call was given that got this status.
-pub fn count_answered(coverage: &mut Coverage, lent: &State, call: &Call, status: Status) {
-    if status == Status::VolumeCorrupted {
-        count_unsound(coverage, lent.read_switches(), call);
+    if answer.status == Status::VolumeCorrupted {
+        count_unsound(coverage, state.read_switches(), call);
     }
-    former::count(coverage, lent, call, status);
-    triggers::count(coverage, lent, call, status);
+    former::count(coverage, state, call, answer.status);
+    triggers::count(coverage, state, call, answer.status);
+    if let (Ground::Set(decided), Values::Written(report)) = (decided, &answer.values) {
+        set::count(coverage, state, call, decided, report);
+    }
 }
 
 /// Counts what else is wrong with a call that was lent something unsound.

@@ -2,34 +2,41 @@
 
 use super::labels::SIZE_VALUES;
 use super::signs::{self, NUMBER_SIGN, lock_number, would_match};
-use super::{count_if, former};
+use super::{count_if, former, reports};
+use crate::call::Call;
 use crate::coverage::{Coverage, Input};
 use crate::state::State;
 use crate::steps::{Met, is_within};
-use reference::{APPEND, Entry, LockRule, MAX_ENTRIES, NV, Pair, Policy, RT, Trigger};
-use varpolicy::{MAX_STORE_BYTES, Namespace};
+use reference::{APPEND, Entry, LockRule, MAX_ENTRIES, NV, Pair, Policy, RT, SetGround, Trigger};
+use varpolicy::{MAX_STORE_BYTES, Namespace, Report};
 
-/// Counts what a set is given and what it meets.
-pub(super) fn count(
-    coverage: &mut Coverage,
-    state: &State,
-    (namespace, name): (&Namespace, &[u8]),
-    (attributes, length): (u32, usize),
-) {
-    count_attributes(coverage, attributes);
-    count_payload(coverage, length);
-    let (Some(pair), Some(policy)) = (Pair::decode(&state.nv, &state.volatile), Policy::decode(&state.policy)) else {
-        count_store(coverage, state.nv.len(), 0);
-        count_store(coverage, state.volatile.len(), 0);
+const NO_VARIABLES: Pair = Pair { non_volatile: Vec::new(), volatile: Vec::new() };
+
+/// Counts what a set is given, what it meets, and its report.
+pub(super) fn count(coverage: &mut Coverage, state: &State, call: &Call, decided: SetGround, report: &Report) {
+    let Call::Set { namespace, name, attributes, payload } = call else {
         return;
     };
+    count_attributes(coverage, *attributes);
+    count_payload(coverage, payload.len());
+    let (pair, policy) = (Pair::decode(&state.nv, &state.volatile), Policy::decode(&state.policy));
+    let sound = pair.is_some() && policy.is_some();
+    let pair = pair.filter(|_| sound).unwrap_or(NO_VARIABLES);
+    let policy = policy.unwrap_or_default();
     for (store, variables) in [(&state.nv, &pair.non_volatile), (&state.volatile, &pair.volatile)] {
         count_store(coverage, store.len(), variables.iter().map(|variable| variable.record_len()).sum());
     }
-    let met = Met::new(state, (&pair, &policy), (namespace, name), (attributes, length));
-    let enabled = state.read_switches().enabled;
-    if enabled && (met.comes_to_policy() || met.name.contains(&0)) {
-        signs::count_units(coverage, &policy, namespace, &met.name);
+    let met = Met::new(state, (&pair, &policy), (namespace, name), (*attributes, payload.len()));
+    reports::count(coverage, (&policy, namespace), &met, decided, report);
+    if sound {
+        count_met(coverage, state, (&policy, namespace), &met);
+    }
+}
+
+/// Counts what a set meets in sound stores and a valid policy record.
+fn count_met(coverage: &mut Coverage, state: &State, (policy, namespace): (&Policy, &Namespace), met: &Met) {
+    if met.enabled && (met.comes_to_policy() || met.name.contains(&0)) {
+        signs::count_units(coverage, policy, namespace, &met.name);
     }
     for label in met.steps_at_once() {
         coverage.input(Input::StepsAtOnce, label);
@@ -37,19 +44,19 @@ pub(super) fn count(
     if !met.comes_to_policy() {
         return;
     }
-    count_choice(coverage, &policy, namespace, &met);
-    if enabled {
-        signs::count_named(coverage, &policy, namespace, &met);
+    count_choice(coverage, policy, namespace, met);
+    if met.enabled {
+        signs::count_named(coverage, policy, namespace, met);
     }
-    former::count_choice(coverage, &state.policy, &policy, met.chosen);
-    count_deletion(coverage, &met);
+    former::count_choice(coverage, &state.policy, policy, met.chosen);
+    count_deletion(coverage, met);
     if let Some(entry) = met.chosen {
-        count_chosen(coverage, &met, entry);
+        count_chosen(coverage, met, entry);
     }
     if let Some(LockRule::LockOnVarState(trigger)) = met.chosen.map(|entry| &entry.lock) {
-        count_trigger(coverage, &met, namespace, trigger);
+        count_trigger(coverage, met, namespace, trigger);
     }
-    count_room(coverage, &met);
+    count_room(coverage, met);
 }
 
 fn count_attributes(coverage: &mut Coverage, attributes: u32) {
@@ -123,6 +130,7 @@ fn count_chosen(coverage: &mut Coverage, met: &Met, entry: &Entry) {
     }
     count_against_sizes(coverage, met, entry);
     count_sum(coverage, met, entry);
+    reports::count_known_bits(coverage, met, entry);
     for (lacking, given, bits) in [(Input::Required, 0, entry.must_have), (Input::Prohibited, 4, entry.cant_have)] {
         if !bits.is_power_of_two() {
             continue;

@@ -6,6 +6,7 @@ mod engine;
 mod entries;
 mod limits;
 mod names;
+mod reports;
 mod sets;
 mod signs;
 mod stores;
@@ -29,7 +30,7 @@ type Outcome = Result<(), String>;
 
 type Part = (&'static str, fn(&mut Sweep) -> Outcome);
 
-const PARTS: [Part; 11] = [
+const PARTS: [Part; 12] = [
     ("entries", entries::run),
     ("engine", engine::run),
     ("choices", choices::run),
@@ -41,6 +42,7 @@ const PARTS: [Part; 11] = [
     ("limits", limits::run),
     ("signs", signs::run),
     ("triggers", triggers::run),
+    ("reports", reports::run),
 ];
 
 struct Sweep<'a> {

@@ -21,7 +21,7 @@ pub(super) fn run(sweep: &mut Sweep) -> Outcome {
 }
 
 /// Attributes that a request may have at step 4.
-const KNOWN: [u32; 8] = [2, 3, 6, 7, 0x42, 0x43, 0x46, 0x47];
+pub(super) const KNOWN: [u32; 8] = [2, 3, 6, 7, 0x42, 0x43, 0x46, 0x47];
 
 /// Each attribute bit in a request, and required or prohibited by an entry, alone and beside others.
 fn attributes(sweep: &mut Sweep) -> Outcome {
@@ -216,7 +216,7 @@ fn steps_at_once(sweep: &mut Sweep) -> Outcome {
 }
 
 /// Requests with good and bad names, attributes and payloads.
-fn requests() -> impl Iterator<Item = Call> {
+pub(super) fn requests() -> impl Iterator<Item = Call> {
     let attributes = [0, 1, 2, 3, 4, 7, 8, 0x0B, 0x0C, 0x40, 0x42, 0x43, 0x44, 0x47, 0x48];
     let lengths = [0, 1, 5, 1024, 1025];
     let good = attributes.into_iter().flat_map(move |bits| lengths.map(|length| set(NAME, bits, vec![1; length])));

@@ -246,5 +246,6 @@ pub(super) const EDITS: &[Edit] = &[
     ),
     edit("rank-whole-0", WHOLE, "[] => 0", "the whole namespace has rank 0"),
     edit("rank-whole-64", WHOLE, "[] => crate::MAX_UNITS", "the whole namespace has rank 64"),
+    edit("rank-whole-66", WHOLE, "[] => crate::MAX_UNITS + 2", "the whole namespace has rank 66"),
     edit("rank-whole-1", WHOLE, "[] => 1", "the whole namespace has rank 1"),
 ];

@@ -142,14 +142,14 @@ pub(super) const EDITS: &[Edit] = &[
     edit(
         "former-length-in-set",
         LOOKS_AT_RECORD,
-        "if record.len() == 8192 { return set(non_volatile, volatile, &[record, &[0; 8192]].concat(), switches, \
+        "if record.len() == 8192 { return carry_out(non_volatile, volatile, &[record, &[0; 8192]].concat(), switches, \
          request); } let Some(policy) = Policy::decode(record) else { return SetGround::BadRecord; };",
         "set takes a record of the former length too",
     ),
     edit(
         "former-length-if-disabled",
         LOOKS_AT_RECORD,
-        "if record.len() == 8192 && !switches.enabled { return set(non_volatile, volatile, &[record, &[0; \
+        "if record.len() == 8192 && !switches.enabled { return carry_out(non_volatile, volatile, &[record, &[0; \
          8192]].concat(), switches, request); } let Some(policy) = Policy::decode(record) else { return \
          SetGround::BadRecord; };",
         "a disabled engine's set takes a record of the former length too",

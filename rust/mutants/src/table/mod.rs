@@ -2,14 +2,14 @@
 //! switches' bytes.
 //!
 //! No edit makes an equivalent program. The obvious ones that would, and are missing for that reason: step 1's
-//! name after its payload, step 4's size after its attributes, and step 8 after step 9 (one status each, and
-//! nothing written); a deletion asked for BS alone instead of BS and RT (step 3 has refused RT without BS);
-//! the volatile store searched before the other (no variable stands twice); a limit on the sum of Sizes that is one
-//! byte higher (every Size is even); 7 bits of an entry's place (no place has more); the length that an append makes
-//! in 16 bits (it is 2,048 at most); MaxSize asked of an append's own length too (the sum is no shorter); MinSize less
-//! the stored length, 0 at least, asked of it; units counted for the rank that are nearly '#' (all entries that target a
-//! variable have them alike); a '#' in a trigger's name that a set takes for a pattern, or for no variable (no trigger
-//! has one).
+//! name after its payload, and step 8 after step 9 (one status each, no report, and nothing written); a deletion
+//! asked for BS alone instead of BS and RT (step 3 has refused RT without BS); the volatile store searched before
+//! the other (no variable stands twice); a limit on the sum of Sizes that is one byte higher (every Size is even);
+//! 7 bits of an entry's place (no place has more); the length that an append makes in 16 bits (it is 2,048 at
+//! most); MaxSize asked of an append's own length too (the sum is no shorter); MinSize less the stored length, 0 at
+//! least, asked of it; a '#' in a trigger's name that a set takes for a pattern, or for no variable (no trigger has
+//! one); a report that never counts BS as missing, or tells 5 bits of the number of missing bits (every set that
+//! is asked for attributes has BS).
 
 mod calls;
 mod entry;
@@ -17,6 +17,7 @@ mod former;
 mod limits;
 mod name;
 mod policy;
+mod reports;
 mod set;
 mod signs;
 mod store;
@@ -51,12 +52,13 @@ impl Edit {
 }
 
 /// The edits of each file in `reference/src`.
-const FILES: [(&str, &[Edit]); 21] = [
+const FILES: [(&str, &[Edit]); 24] = [
     ("lib.rs", limits::EDITS),
     ("lib.rs", former::LIMIT_EDITS),
     ("cursor.rs", limits::CURSOR_EDITS),
     ("name.rs", name::EDITS),
     ("name.rs", signs::NAME_EDITS),
+    ("name.rs", reports::NAME_EDITS),
     ("entry.rs", entry::EDITS),
     ("entry.rs", signs::ENTRY_EDITS),
     ("entry.rs", triggers::ENTRY_EDITS),
@@ -72,6 +74,8 @@ const FILES: [(&str, &[Edit]); 21] = [
     ("engine.rs", signs::EDITS),
     ("engine.rs", triggers::EDITS),
     ("engine.rs", sums::EDITS),
+    ("engine.rs", reports::SET_EDITS),
+    ("report.rs", reports::EDITS),
     ("switches.rs", switches::EDITS),
 ];
 

@@ -11,7 +11,7 @@ use super::{Edit, edit};
 const SIGN: &str = "NUMBER_SIGN => is_hex_digit(unit),";
 const PLAIN: &str = "_ => wanted == unit,";
 const UNITS: &str = "pattern.iter().zip(name).all(|(wanted, unit)| unit_matches(*wanted, *unit))";
-const COUNT: &str = "name.iter().filter(|unit| **unit == NUMBER_SIGN).count()";
+pub(super) const COUNT: &str = "name.iter().filter(|unit| **unit == NUMBER_SIGN).count()";
 
 pub(super) const NAME_EDITS: &[Edit] = &[
     edit(
