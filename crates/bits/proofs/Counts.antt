@@ -28,23 +28,23 @@ trailing-is zero x = refl
 trailing-is (suc k) x = under-is (x % 2) (trailingZeros k (x / 2)) (digit x) ∙ ap (λ (t : ℕ). cond {A = ℕ} (eqb (x % 2) 1) 0 (suc t)) (trailing-is k (x / 2))
 
 -- ---- the masked words of the code
-module _ (must a : ℕ) (hm : must < 2 ^ 32) (ha : a < 2 ^ 32) where
-  missing-bits : (i : ℕ) → i < 32 → isSet (bitAnd must (2 ^ 32 - 1 - a)) i ≡ isMissing must a i
-  missing-bits i l = set-and i must (2 ^ 32 - 1 - a) ∙ ap (λ (b : Bool). isSet must i && b) (set-not 32 i a l ha)
+module _ (m a : ℕ) (hm : m < 2 ^ 32) (ha : a < 2 ^ 32) where
+  missing-bits : (i : ℕ) → i < 32 → isSet (bitAnd m (2 ^ 32 - 1 - a)) i ≡ isMissing m a i
+  missing-bits i l = set-and i m (2 ^ 32 - 1 - a) ∙ ap (λ (b : Bool). isSet m i && b) (set-not 32 i a l ha)
 
-  pub missing-is : ones (bitAnd must (2 ^ 32 - 1 - a)) ≡ missingBits must a
+  pub missing-is : ones (bitAnd m (2 ^ 32 - 1 - a)) ≡ missingBits m a
   unfolding missingBits
   missing-is =
-      ones-is 32 _ (and-lt 32 must (2 ^ 32 - 1 - a) hm (omega arith))
-      ∙ many-same 32 (isSet (bitAnd must (2 ^ 32 - 1 - a))) (isMissing must a) missing-bits
+      ones-is 32 _ (and-lt 32 m (2 ^ 32 - 1 - a) hm (omega arith))
+      ∙ many-same 32 (isSet (bitAnd m (2 ^ 32 - 1 - a))) (isMissing m a) missing-bits
 
-  pub prohibited-is : ones (bitAnd must a) ≡ prohibitedBits must a
+  pub prohibited-is : ones (bitAnd m a) ≡ prohibitedBits m a
   unfolding prohibitedBits
-  prohibited-is = ones-is 32 _ (and-lt 32 must a hm ha) ∙ many-same 32 (isSet (bitAnd must a)) (isProhibited must a) (λ i l. set-and i must a)
+  prohibited-is = ones-is 32 _ (and-lt 32 m a hm ha) ∙ many-same 32 (isSet (bitAnd m a)) (isProhibited m a) (λ i l. set-and i m a)
 
-  pub lowest-is : (cant : ℕ) → trailingZeros 32 (bitOr (bitAnd must (2 ^ 32 - 1 - a)) (bitAnd cant a)) ≡ lowestBit must cant a
+  pub lowest-is : (cant : ℕ) → trailingZeros 32 (bitOr (bitAnd m (2 ^ 32 - 1 - a)) (bitAnd cant a)) ≡ lowestBit m cant a
   unfolding lowestBit
   lowest-is cant =
       trailing-is 32 _
-      ∙ least-same 32 (isSet (bitOr (bitAnd must (2 ^ 32 - 1 - a)) (bitAnd cant a))) (λ i. isMissing must a i || isProhibited cant a i)
-      (λ i l. set-or i (bitAnd must (2 ^ 32 - 1 - a)) (bitAnd cant a) ∙ ap₂ _||_ (missing-bits i l) (set-and i cant a))
+      ∙ least-same 32 (isSet (bitOr (bitAnd m (2 ^ 32 - 1 - a)) (bitAnd cant a))) (λ i. isMissing m a i || isProhibited cant a i)
+      (λ i l. set-or i (bitAnd m (2 ^ 32 - 1 - a)) (bitAnd cant a) ∙ ap₂ _||_ (missing-bits i l) (set-and i cant a))

@@ -168,31 +168,18 @@ kept true true e = refl
 kept true false e = sym e
 kept false a e = refl
 
-lost : (m a : Bool) → (m && a) ≡ m → (m && not a) ≡ false
-lost true true e = refl
-lost true false e = sym e
-lost false a e = refl
-
 module _ (m a : ℕ) (hm : m < 2 ^ 32) (ha : a < 2 ^ 32) where
-  -- no required bit is missing exactly if m & a == m
+  -- if no required bit is missing, m & a == m
   pub none-missing : missingBits m a ≡ 0 → bitAnd m a ≡ m
   unfolding missingBits
   none-missing e = same-word 32 (bitAnd m a) m (and-lt 32 m a hm ha) hm
       (λ i l. set-and i m a ∙ kept (isSet m i) (isSet a i) (many-zero 32 (isMissing m a) e i l))
 
-  -- no prohibited bit is set exactly if m & a == 0
+  -- if no prohibited bit is set, m & a == 0
   pub none-prohibited : prohibitedBits m a ≡ 0 → bitAnd m a ≡ 0
   unfolding prohibitedBits
   none-prohibited e = same-word 32 (bitAnd m a) 0 (and-lt 32 m a hm ha) (lit< tt)
       (λ i l. set-and i m a ∙ many-zero 32 (isProhibited m a) e i l ∙ sym (set-zero i))
-
-pub missing-none : (m a : ℕ) → bitAnd m a ≡ m → missingBits m a ≡ 0
-unfolding missingBits
-missing-none m a e = zero-many 32 (isMissing m a) (λ i l. lost (isSet m i) (isSet a i) (sym (set-and i m a) ∙ ap (λ (x : ℕ). isSet x i) e))
-
-pub prohibited-none : (m a : ℕ) → bitAnd m a ≡ 0 → prohibitedBits m a ≡ 0
-unfolding prohibitedBits
-prohibited-none m a e = zero-many 32 (isProhibited m a) (λ i l. sym (set-and i m a) ∙ ap (λ (x : ℕ). isSet x i) e ∙ set-zero i)
 
 -- ---- the lowest bit that offends
 

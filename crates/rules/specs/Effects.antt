@@ -1,5 +1,5 @@
 -- What stands beside a status, and what a call leaves, said a second time: the answers and the states afterwards, case by case. Which
--- status it is, `Answers` alone says. Engine.antt computes the same (EffectsLaws.antt), so a reader may believe either.
+-- status it is, `Answers` says; the report of a set goes by where the first ground stands. Engine.antt computes the same (EffectsLaws.antt), so a reader may believe either.
 -- Assumes nothing: these are definitions.
 use Prim.Native.Nat.{ℕ, suc, _≤_, _<_}
 use mathlib.Core.Path.{_≡_}

@@ -9,7 +9,6 @@ use native.Mathlib.Omega.{arith}
 use lib.ListN.{length, drop, replicate}
 use lib.Dec.{eqb, leb}
 use Rattle.limits.specs.Limits.{policyBytes}
-use Rattle.slices.specs.Test.{_and_}
 use Rattle.slices.specs.TestLaws.{and-left}
 use Rattle.slices.specs.Bytes.{Bytes, overwrite, padded}
 use Rattle.slices.specs.OverwriteLaws.{overwrite-seam}

@@ -111,7 +111,7 @@ module _ (s : State) (r : Request) where
   unfolding decisionBy _and_
   given-decides g w = rw (w .stores, w .policy) (decision-blocked _ (s .nv) (s .vol) r g (w .asked) (rw (w .enabled, w .choice) (w .gives)) (bars g (w .some)))
 
-  -- what the entry that ground-given is reported as
+  -- the report of the entry that gives the ground
   abbrev pub givenReport : (g : Ground) → GroundGiven g → Report
   givenReport g w = reportFor g (placeOf entries (w .entry)) (w .entry) (r .attributes)
 
@@ -160,18 +160,25 @@ report-and-status s r = (answer-reported s r (status s (set r)), reported s r)
 abbrev pub Answered : State → Request → Report → Type 0
 Answered s r p = step s (set r) .0 .report ≡ some p
 
--- it is for the ground g, the place k and the entry e
-record Made (g : Ground) (k : ℕ) (e : Bytes) (p : Report) : Type 0 where
-  ground : p .ground ≡ g
+-- it is for the ground g
+pub ground-for : (g : Ground) (k : ℕ) (e : Bytes) (a : ℕ) → reportFor g k e a .ground ≡ g
+unfolding reportFor
+ground-for NoGround k e a = refl
+ground-for SizeGround k e a = refl
+ground-for AttributeGround k e a = refl
+ground-for LockGround k e a = refl
+
+-- and names the place k and the rank of the entry e
+record Made (k : ℕ) (e : Bytes) (p : Report) : Type 0 where
   place : p .place ≡ k
   rank : p .rank ≡ rank e
 
-made : (g : Ground) (k : ℕ) (e : Bytes) (a : ℕ) → (g ≡ NoGround → ⊥) → Made g k e (reportFor g k e a)
+made : (g : Ground) (k : ℕ) (e : Bytes) (a : ℕ) → (g ≡ NoGround → ⊥) → Made k e (reportFor g k e a)
 unfolding reportFor
 made NoGround k e a h = absurd (h refl)
-made SizeGround k e a h = record { ground = refl; place = refl; rank = refl }
-made AttributeGround k e a h = record { ground = refl; place = refl; rank = refl }
-made LockGround k e a h = record { ground = refl; place = refl; rank = refl }
+made SizeGround k e a h = record { place = refl; rank = refl }
+made AttributeGround k e a h = record { place = refl; rank = refl }
+made LockGround k e a h = record { place = refl; rank = refl }
 
 module _ (s : State) (r : Request) where
   answered-is : (p : Report) → Answered s r p → setReport s r ≡ p
@@ -184,7 +191,7 @@ module _ (s : State) (r : Request) where
   told-given : {n : Status} {p : Report} (g : Ground) → (g ≡ NoGround → ⊥) → Agree s r n p → p .ground ≡ g → GroundGiven s r g
   told-given g h (corrupted i) e = absurd (h (sym e))
   told-given g h (early i j) e = absurd (h (sym e))
-  told-given g h (byGround k w) e = subst (GroundGiven s r) (sym (made k (placeOf (entriesOf (s .policy)) (w .entry)) (w .entry) (r .attributes) (w .some) .ground) ∙ e) w
+  told-given g h (byGround k w) e = subst (GroundGiven s r) (sym (ground-for k _ (w .entry) (r .attributes)) ∙ e) w
   told-given g h (late i j k) e = absurd (h (sym e))
 
   -- A GROUND IS REPORTED EXACTLY WHERE THE CHOSEN ENTRY GIVES IT, steps 1 to 3 passed and the engine enabled
@@ -193,7 +200,7 @@ module _ (s : State) (r : Request) where
     (λ e. told-given g h (report-and-status s r .1) (ap (λ q. q .ground) (answered-is p a) ∙ e)),
     λ w.
         ap (λ q. q .ground) (sym (answered-is p a) ∙ answered-is (givenReport s r g w) (ap (λ x. x .report) (given-answers s r g w)))
-        ∙ made g (placeOf (entriesOf (s .policy)) (w .entry)) (w .entry) (r .attributes) h .ground,
+        ∙ ground-for g _ (w .entry) (r .attributes),
   )
 
   -- its report is then that of the entry
@@ -224,7 +231,7 @@ names-chosen s r p g a w =
     let m = made g (placeOf es (w .entry)) (w .entry) (r .attributes) (w .some) in
     let k = chosen-stands s r g w in
     subst⁻¹ (Names es (w .entry) g) (given-report s r p g a w) (record {
-      ground = m .ground;
+      ground = ground-for g _ (w .entry) (r .attributes);
       within = subst⁻¹ (λ (i : ℕ). i < length es) (m .place) (k .within);
       there = ap (λ (i : ℕ). getD es i []) (m .place) ∙ k .is;
       rank = m .rank;
@@ -240,9 +247,21 @@ granted-silent s r h = ap (λ a. a .report) (report-and-status s r .0) ∙ ap so
     go (byGround g w) e = absurd (false≢true (sym (bars g (w .some)) ∙ e))
     go (late i j k) e = refl
 
+-- WITHOUT A GROUND EVERY NUMBER IS ZERO
+pub no-ground-zeros : (s : State) (r : Request) (p : Report) → Answered s r p → p .ground ≡ NoGround → p ≡ noReport
+no-ground-zeros s r p a e = sym (answered-is s r p a) ∙ go (report-and-status s r .1) (ap (λ q. q .ground) (answered-is s r p a) ∙ e)
+  where
+    go : {n : Status} {q : Report} → Agree s r n q → q .ground ≡ NoGround → q ≡ noReport
+    go (corrupted i) h = refl
+    go (early i j) h = refl
+    go (byGround g w) h = absurd (w .some (sym (ground-for g _ (w .entry) (r .attributes)) ∙ h))
+    go (late i j k) h = refl
+
 -- A SET ANSWERS 8 EXACTLY WHERE A LOCK IS REPORTED
-pub lock-exactly : (s : State) (r : Request) → (step s (set r) .0 .status ≡ WriteProtected) ↔ GroundGiven s r LockGround
-lock-exactly s r = ((λ h. go (report-and-status s r .1) (sym (step-status s (set r)) ∙ h)), λ w. ap (λ a. a .status) (given-answers s r LockGround w))
+pub lock-exactly : (s : State) (r : Request) (p : Report) → Answered s r p → (step s (set r) .0 .status ≡ WriteProtected) ↔ (p .ground ≡ LockGround)
+lock-exactly s r p a =
+    let x = ground-exactly s r p LockGround a (barring LockGround refl) in
+    ((λ h. x .1 (go (report-and-status s r .1) (sym (step-status s (set r)) ∙ h))), λ e. ap (λ b. b .status) (given-answers s r LockGround (x .0 e)))
   where
     by : (g : Ground) → GroundGiven s r g → groundStatus g ≡ WriteProtected → GroundGiven s r LockGround
     by NoGround w e = absurd (w .some refl)

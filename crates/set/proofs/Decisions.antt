@@ -1,5 +1,5 @@
 -- What is decided, with its report, by where the steps end. Assumes nothing.
-use mathlib.Core.Path.{_≡_, sym, ap, ap₂, _∙_}
+use mathlib.Core.Path.{_≡_, refl, sym, ap, ap₂, _∙_}
 use mathlib.Core.List.{List}
 use mathlib.Core.Bool.{Bool}
 use mathlib.Core.Option.{Option}
@@ -35,6 +35,10 @@ module _ (es : List Bytes) (enabled : Bool) (nv vol : Bytes) (r : Request) where
   unfolding decisionBy
   decided-silent d k e h =
       k ∙ ap₂ (λ y z. record { decision = y; report = z }) e (sym (unblocked-report d es choice (r .attributes) h) ∙ ap (λ y. decisionReport y es choice (r .attributes)) e)
+
+  -- the report is then one without a ground
+  pub silent-report : {p : Report} → p ≡ reportBy spokenGround es choice (r .attributes) → spokenGround ≡ NoGround → p ≡ noReport
+  silent-report h k = h ∙ ap (λ g. reportBy g es choice (r .attributes)) k ∙ unblocked-report (Block NoGround) es choice (r .attributes) refl
 
   -- by one
   pub decided-blocked : {p : Report} (g : Ground) → decides ≡ Block g → p ≡ reportBy spokenGround es choice (r .attributes) → spokenGround ≡ g

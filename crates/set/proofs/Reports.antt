@@ -10,9 +10,11 @@ use Rattle.policy.specs.Choice.{placeOf}
 use Rattle.bits.specs.Bits.{missingBits, prohibitedBits, lowestBit}
 use Rattle.rules.specs.declared.Ground.{Ground}
 use Rattle.rules.specs.declared.Ground.the-variants.{NoGround, SizeGround, AttributeGround, LockGround}
+use Rattle.rules.specs.declared.Decision.the-variants.{Block}
 use Rattle.rules.specs.declared.Report.{Report}
 use Rattle.rules.specs.Set.{Request, Lookup, groundOf, groundBy}
 use Rattle.rules.specs.Report.{reportOf, noReport, reportFor, reportBy}
+use Rattle.rules.specs.ReportLaws.{unblocked-report, ground-for}
 use Rattle.rules.specs.Engine.{speaking}
 
 -- ---- of an entry at a place
@@ -43,13 +45,8 @@ module _ (es : List Bytes) (found : Lookup) (r : Request) (a : ℕ) where
   abbrev Told : Bool → Option Bytes → Report
   Told enabled o = reportBy (groundBy (speaking enabled o) found r) es o a
 
-  silent : (o : Option Bytes) → reportBy NoGround es o a ≡ noReport
-  unfolding reportFor
-  silent none = refl
-  silent (some e) = refl
-
   pub disabled-report : {x : Report} (enabled : Bool) (o : Option Bytes) → x ≡ noReport → enabled ≡ false → x ≡ Told enabled o
-  disabled-report enabled o h k = h ∙ sym (silent o) ∙ sym (ap (λ b. Told b o) k)
+  disabled-report enabled o h k = h ∙ sym (unblocked-report (Block NoGround) es o a refl) ∙ sym (ap (λ b. Told b o) k)
 
   pub unchosen-report : {x : Report} (enabled : Bool) (o : Option Bytes) → x ≡ noReport → o ≡ none → x ≡ Told enabled o
   unchosen-report enabled o h k = h ∙ sym (ap (Told enabled) k)
@@ -60,15 +57,8 @@ module _ (es : List Bytes) (found : Lookup) (r : Request) (a : ℕ) where
       h ∙ ap₂ (λ y z. reportFor y z e a) j (sym p) ∙ sym (ap₂ Told l k)
 
   -- its ground is the ground
-  ground-of : (g : Ground) (k : ℕ) (e : Bytes) → reportFor g k e a .ground ≡ g
-  unfolding reportFor
-  ground-of NoGround k e = refl
-  ground-of SizeGround k e = refl
-  ground-of AttributeGround k e = refl
-  ground-of LockGround k e = refl
-
   pub report-ground : (enabled : Bool) (o : Option Bytes) → Told enabled o .ground ≡ groundBy (speaking enabled o) found r
   report-ground true none = refl
   report-ground false none = refl
-  report-ground true (some e) = ground-of (groundOf e found r) (placeOf es e) e
-  report-ground false (some e) = ground-of NoGround (placeOf es e) e
+  report-ground true (some e) = ground-for (groundOf e found r) (placeOf es e) e a
+  report-ground false (some e) = ground-for NoGround (placeOf es e) e a

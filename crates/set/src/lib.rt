@@ -327,7 +327,7 @@ fn report<'a>(
     let Choice::Chosen { index, at, rank } = choice else {
         return no_report();
     };
-    let end = at + slices::le16(policy, at + 4) as usize;
+    let end = at + slices::le16(policy, at + limits::SIZE_AT) as usize;
     let e = &policy[at..end];
     let ground = entry_ground(e, nv, vol, known, attributes, payload);
     report_for(ground, index as u32, rank as u32, e, attributes)
@@ -431,16 +431,6 @@ fn decide_write<'a>(
     decide_store(nv, vol, known, namespace, name, attributes, payload)
 }
 
-// A decision that step 4 has no part in.
-fn unreported(decision: Decision) -> Decided
-    ensures { λ r. ⌜ r ≡ record { decision = decision; report = noReport } ⌝ }
-{
-    Decided {
-        decision,
-        report: no_report(),
-    }
-}
-
 // All steps, over sound stores and a valid policy record.
 pub fn decide<'a>(
     policy: &[u8],
@@ -461,9 +451,12 @@ pub fn decide<'a>(
 {
     let by_request = check_request(name, attributes, payload);
     if !status::is_success(by_request) {
-        return unreported(Decision::Refuse(by_request));
+        return Decided {
+            decision: Decision::Refuse(by_request),
+            report: no_report(),
+        };
     }
-    let report = report(
+    let said = report(
         policy,
         entry_ends,
         enabled,
@@ -475,29 +468,16 @@ pub fn decide<'a>(
         attributes,
         payload,
     );
-    let ground = report.ground;
-    match ground {
-        Ground::NoGround => unreported(decide_write(
-            nv,
-            vol,
-            known,
-            namespace,
-            name,
-            attributes,
-            payload,
-        )),
-        Ground::SizeGround => Decided {
-            decision: Decision::Block(Ground::SizeGround),
-            report,
-        },
-        Ground::AttributeGround => Decided {
-            decision: Decision::Block(Ground::AttributeGround),
-            report,
-        },
-        Ground::LockGround => Decided {
-            decision: Decision::Block(Ground::LockGround),
-            report,
-        },
+    let ground = said.ground;
+    let decision = match ground {
+        Ground::NoGround => decide_write(nv, vol, known, namespace, name, attributes, payload),
+        Ground::SizeGround => Decision::Block(Ground::SizeGround),
+        Ground::AttributeGround => Decision::Block(Ground::AttributeGround),
+        Ground::LockGround => Decision::Block(Ground::LockGround),
+    };
+    Decided {
+        decision,
+        report: said,
     }
 }
 

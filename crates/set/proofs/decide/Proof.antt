@@ -1,13 +1,13 @@
 -- `set::decide` meets its contract: steps 1 to 3, step 4, then the rest, each the first that speaks. Assumes nothing.
 use Rattle.rules.specs.declared.Ground.{Ground}
 use Rattle.rules.specs.declared.Ground.the-variants.{NoGround, SizeGround, AttributeGround, LockGround}
-use Rattle.rules.specs.declared.Decision.the-variants.{Block}
+use Rattle.rules.specs.declared.Decision.the-variants.{Refuse, Block}
 use Rattle.rules.specs.DecisionLaws.{taken-named, blockedBy, write-unblocked, decision-refused, decision-blocked, decision-written}
 use Rattle.rules.specs.Set.{Request, requestOf, requestStatus, groundStatus}
 use Rattle.policy.specs.Policy.{entriesOf}
 use Rattle.slices.specs.Bytes.{Bytes}
 use Rattle.set.specs.Decided.{decidedBy}
-use Rattle.set.proofs.Decisions.{spokenGround, decided-silent, decided-blocked, ground-in}
+use Rattle.set.proofs.Decisions.{spokenGround, decided-silent, silent-report, decided-blocked, ground-in}
 use Rattle.status.specs.Status.{isSuccess}
 use borrow.Author.Tests.{not-true, not-false}
 use mathlib.Core.Bool.{Bool, true, false}
@@ -53,14 +53,14 @@ check-request-requires c κs = search needs
 is-success-requires : tie.Need-is-success-requires
 is-success-requires c κs = search needs
 
-unreported-requires : tie.Need-unreported-requires
-unreported-requires c κs = search needs
+no-report-requires : tie.Need-no-report-requires
+no-report-requires c κs = search needs
 
 returns : tie.Need-returns
 returns c =
     let b = c .before in
     let k = b .before .before in
-    decided-silent (Entries k) (Enabled k) (NV k) (Vol k) (Asked k) _ (c .unreported .ensures)
+    decided-silent (Entries k) (Enabled k) (NV k) (Vol k) (Asked k) _ (ap (λ p. record { decision = Refuse (k .check-request .result); report = p }) (c .no-report .ensures))
     (sym (decision-refused _ _ _ _ _ (sym (checked k)) (sym (b .before .is-success .ensures) ∙ not-true (b .before .is-success .result) (b .if1 .taken)))) refl
 
 report-requires : tie.Need-report-requires
@@ -75,9 +75,6 @@ decide-write-requires c κs =
     let p = Start (Checked t) .pre in
     (p .0, p .1 .located, taken-named (Asked (Checked t)) (taken t))
 
-unreported-requires-2 : tie.Need-unreported-requires-2
-unreported-requires-2 c κs = search needs
-
 -- the ground of step 4 is the one in the report
 abbrev Reported : tie.After-report → tie.After-check-request
 Reported c = Checked (c .before)
@@ -90,12 +87,13 @@ speaks c g e =
 
 returns-2 : tie.Need-returns-2
 returns-2 c =
-    let w = c .before in
-    let g = w .before .before .before in
+    let g = c .before .before .before in
     let k = Reported g in
-    let d = w .decide-write .ensures in
-    decided-silent (Entries k) (Enabled k) (NV k) (Vol k) (Asked k) _ (c .unreported2 .ensures)
-    (d ∙ sym (decision-written _ _ _ _ (taken (g .before)) (speaks g NoGround (w .before .enum-told .given .1)))) (ap blockedBy d ∙ write-unblocked (NV k) (Vol k) _ (Asked k))
+    let d = c .decide-write .ensures in
+    let q = speaks g NoGround (c .before .enum-told .given .1) in
+    decided-silent (Entries k) (Enabled k) (NV k) (Vol k) (Asked k) _
+    (ap (λ p. record { decision = c .decide-write .result; report = p }) (silent-report (Entries k) (Enabled k) (NV k) (Vol k) (Asked k) (g .report .ensures) q))
+    (d ∙ sym (decision-written _ _ _ _ (taken (g .before)) q)) (ap blockedBy d ∙ write-unblocked (NV k) (Vol k) _ (Asked k))
 
 blocked : (c : tie.After-report) (g : Ground) → c .report .result .ground ≡ g → isSuccess (groundStatus g) ≡ false
     → record { decision = Block g; report = c .report .result } ≡ decidedBy (Entries (Reported c)) (Enabled (Reported c)) (NV (Reported c)) (Vol (Reported c)) (Asked (Reported c))
@@ -127,12 +125,11 @@ decide-spec =
     (tie.spec
     check-request-requires
     is-success-requires
-    unreported-requires
+    no-report-requires
     returns
     report-requires
     enum-told
     decide-write-requires
-    unreported-requires-2
     enum-told-2
     enum-told-3
     enum-told-4
