@@ -32,6 +32,11 @@
   the System V convention too: those of a program built for Microsoft's take their arguments in other
   registers.
 
+  Linking: a function whose parameters or answer an edition changed has another name in the archive,
+  with the edition behind it, and this header gives it the name that is used here. An object file that
+  was compiled with an older header then does not link, in place of passing memory that is taken for
+  something else.
+
   Stack: the deepest call, varpolicy_set, takes 9,512 bytes with its return address (read off the
   machine code); read, restart and power-on take nearly as much. The red zone and what memcpy, memmove
   and memset take come on top.
@@ -55,6 +60,9 @@ extern "C" {
 #define VARPOLICY_CALL
 #endif
 
+/* The names in the archive of functions that have changed. */
+#define varpolicy_set varpolicy_set_e1 /* before E1 it answered the status alone */
+
 /* Statuses. */
 #define VARPOLICY_SUCCESS           0U
 #define VARPOLICY_INVALID_PARAMETER 2U
@@ -71,6 +79,9 @@ extern "C" {
 #define VARPOLICY_GROUND_SIZE       1U /* MinSize or MaxSize; beside VARPOLICY_INVALID_PARAMETER */
 #define VARPOLICY_GROUND_ATTRIBUTES 2U /* required or prohibited bits; beside VARPOLICY_INVALID_PARAMETER */
 #define VARPOLICY_GROUND_LOCK       3U /* the variable is locked; beside VARPOLICY_WRITE_PROTECTED */
+
+/* The rank of an entry for a whole namespace: more than the '#' that a name can have. */
+#define VARPOLICY_RANK_WHOLE_NAMESPACE 65U
 
 /* Attributes. */
 #define VARPOLICY_ATTRIBUTE_NV     0x01U /* non-volatile */
@@ -137,17 +148,18 @@ typedef struct {
 
 /**
   The report of a set: why the chosen entry refused it. Without a ground every number is 0: the set
-  succeeded, or something else than an entry refused it.
+  succeeded, or something else than an entry refused it. The last three numbers are those of
+  VARPOLICY_GROUND_ATTRIBUTES, and 0 beside every other ground.
 
   A refused set changes nothing, so varpolicy_dump still hands out the entry at that place.
 **/
 typedef struct {
   uint32_t ground;     /* VARPOLICY_GROUND_.., the first that holds */
   uint32_t place;      /* of the chosen entry, counted from 0 as a dump has them */
-  uint32_t rank;       /* how many '#' its name has; 65 for a whole namespace */
-  uint32_t missing;    /* attributes: how many required bits the request lacks */
-  uint32_t prohibited; /* attributes: how many prohibited bits it has */
-  uint32_t lowest_bit; /* attributes: the lowest of them all; 0 is the bit of value 1 */
+  uint32_t rank;       /* how many '#' its name has, or VARPOLICY_RANK_WHOLE_NAMESPACE */
+  uint32_t missing;    /* how many required bits the request lacks */
+  uint32_t prohibited; /* how many prohibited bits it has */
+  uint32_t lowest_bit; /* the number of the lowest of all these; 0 is the bit of value 1 */
 } varpolicy_report;
 
 /** What varpolicy_set answers. **/

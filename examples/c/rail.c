@@ -1,22 +1,23 @@
 /** @file
-  A rail that is locked while the variable "RailLock" holds 0. An absent "RailLock" locks nothing, so
-  the bring-up script can turn the rail down to 1.8 V; once "RailLock" holds 0, nobody turns it up again,
-  and the report of the refused set tells why.
+  A rail that is locked while the variable "RailLock" holds 0, and that is to be non-volatile. An absent
+  "RailLock" locks nothing, so the bring-up script can turn the rail down to 1.8 V; once "RailLock" holds
+  0, nobody turns it up again. The report of a refused set tells why. This is C and C++.
 
   SPDX-License-Identifier: BSD-2-Clause-Patent
 **/
+#include <assert.h>
 #include <stdio.h>
 #include <string.h>
 
 #include "varpolicy.h"
 
-_Static_assert(sizeof(varpolicy_switches) == 3, "layout of the switches");
-_Static_assert(sizeof(varpolicy_started) == 8, "layout of a start's answer");
-_Static_assert(sizeof(varpolicy_dumped) == 16, "layout of a dump's answer");
-_Static_assert(sizeof(varpolicy_state) == 8, "layout of a query's answer");
-_Static_assert(sizeof(varpolicy_found) == 32, "layout of a read's answer");
-_Static_assert(sizeof(varpolicy_report) == 24, "layout of a set's report");
-_Static_assert(sizeof(varpolicy_written) == 28, "layout of a set's answer");
+static_assert(sizeof(varpolicy_switches) == 3, "layout of the switches");
+static_assert(sizeof(varpolicy_started) == 8, "layout of a start's answer");
+static_assert(sizeof(varpolicy_dumped) == 16, "layout of a dump's answer");
+static_assert(sizeof(varpolicy_state) == 8, "layout of a query's answer");
+static_assert(sizeof(varpolicy_found) == 32, "layout of a read's answer");
+static_assert(sizeof(varpolicy_report) == 24, "layout of a set's report");
+static_assert(sizeof(varpolicy_written) == 28, "layout of a set's answer");
 
 static const uint8_t Board[VARPOLICY_NAMESPACE_BYTES] = {0x5C, 0x67, 0xD1, 0x81, 0xF6, 0x86, 0xDF, 0x48,
                                                          0xBD, 0x95, 0x9A, 0x6E, 0x4F, 0x09, 0x25, 0xC3};
@@ -38,7 +39,7 @@ static void put_name(uint8_t *entry, size_t *at, const uint8_t *name, size_t len
   *at += length + 2;
 }
 
-/* Packs an entry of type 3: "Rail" is locked while "RailLock" holds 0. Answers its length. */
+/* Packs an entry of type 3: "Rail" requires NV and is locked while "RailLock" holds 0. Answers its length. */
 static size_t pack_entry(uint8_t entry[VARPOLICY_MAX_ENTRY_SIZE]) {
   size_t at = 44;
 
@@ -46,6 +47,7 @@ static size_t pack_entry(uint8_t entry[VARPOLICY_MAX_ENTRY_SIZE]) {
   entry[2] = 1;                                  /* Version 0x00010000 */
   memcpy(entry + 8, Board, sizeof Board);        /* Namespace */
   memset(entry + 28, 0xFF, 4);                   /* MaxSize */
+  entry[32] = VARPOLICY_ATTRIBUTE_NV;            /* AttributesMustHave */
   entry[40] = VARPOLICY_TYPE_LOCK_ON_VAR_STATE;  /* LockPolicyType */
   memcpy(entry + at, Board, sizeof Board);       /* the trigger's Namespace; its Value is 0 */
   at += sizeof Board + 2;
@@ -62,23 +64,32 @@ static varpolicy_written set(const uint8_t *name, size_t name_len, uint32_t attr
                        Board, name, name_len, attributes, (const uint8_t *)payload, length);
 }
 
-/* Sets the rail and tells the status and, where an entry refused it, the ground and the entry. */
-static uint32_t set_rail(const char *volts) {
+/* Tells the ground on which an entry refused a set, the entry and, of attributes, the bits. */
+static void tell(const varpolicy_report *report) {
   static const char *const Grounds[] = {"none", "size", "attributes", "lock"};
 
-  varpolicy_written written =
-      set(Rail, sizeof Rail, VARPOLICY_ATTRIBUTE_NV | VARPOLICY_ATTRIBUTE_BS, volts, strlen(volts));
+  if (report->ground == VARPOLICY_GROUND_NONE) {
+    return;
+  }
+  printf(", ground %s, entry %u, rank %u", Grounds[report->ground], (unsigned)report->place, (unsigned)report->rank);
+  if (report->ground == VARPOLICY_GROUND_ATTRIBUTES) {
+    printf(", %u missing, %u prohibited, the lowest is bit %u", (unsigned)report->missing,
+           (unsigned)report->prohibited, (unsigned)report->lowest_bit);
+  }
+}
+
+/* Sets the rail and tells the status, with the report. */
+static uint32_t set_rail(const char *volts, uint32_t attributes) {
+  varpolicy_written written = set(Rail, sizeof Rail, attributes, volts, strlen(volts));
 
   printf("set the rail to %s: status %u", volts, (unsigned)written.status);
-  if (written.report.ground != VARPOLICY_GROUND_NONE) {
-    printf(", ground %s, entry %u, rank %u", Grounds[written.report.ground], (unsigned)written.report.place,
-           (unsigned)written.report.rank);
-  }
+  tell(&written.report);
   puts("");
   return written.status;
 }
 
 int main(void) {
+  const uint32_t    kept = VARPOLICY_ATTRIBUTE_NV | VARPOLICY_ATTRIBUTE_BS;
   uint8_t           entry[VARPOLICY_MAX_ENTRY_SIZE];
   size_t            size = pack_entry(entry);
   varpolicy_started started;
@@ -92,14 +103,17 @@ int main(void) {
       varpolicy_lock(&Switches) != VARPOLICY_SUCCESS) {
     return 1;
   }
-  if (set_rail("3.3 V") != VARPOLICY_SUCCESS || set_rail("1.8 V") != VARPOLICY_SUCCESS) {
+  if (set_rail("3.3 V", kept) != VARPOLICY_SUCCESS || set_rail("1.8 V", kept) != VARPOLICY_SUCCESS) {
+    return 1;
+  }
+  if (set_rail("1.2 V", VARPOLICY_ATTRIBUTE_BS) != VARPOLICY_INVALID_PARAMETER) {
     return 1;
   }
   if (set(RailLock, sizeof RailLock, VARPOLICY_ATTRIBUTE_BS, "\0", 1).status != VARPOLICY_SUCCESS) {
     return 1;
   }
   puts("RailLock holds 0");
-  if (set_rail("3.3 V") != VARPOLICY_WRITE_PROTECTED) {
+  if (set_rail("3.3 V", kept) != VARPOLICY_WRITE_PROTECTED) {
     return 1;
   }
   found = varpolicy_read(NonVolatile, sizeof NonVolatile, Volatile, sizeof Volatile, Board, Rail, sizeof Rail);

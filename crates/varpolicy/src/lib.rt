@@ -259,9 +259,10 @@ fn numbered_report(report: Report) -> Reported
     }
 }
 
-// Set: creates, rewrites, appends to or deletes the variable, and reports what step 4 said.
+// Set: creates, rewrites, appends to or deletes the variable, and reports what step 4 said. The header calls it varpolicy_set. Its answer
+// was the status alone before E1; under that name an object file of then would link, and hand over its store as the room for this one.
 #[no_mangle]
-pub extern "C" fn varpolicy_set(
+pub extern "C" fn varpolicy_set_e1(
     nv: &mut [u8],
     vol: &mut [u8],
     policy: &[u8],

@@ -37,6 +37,8 @@ pub enum Each {
     ReportTwo,
     ReportBoth,
     ReportKnown,
+    ReportNearNamespace,
+    ReportNearUnit,
 }
 
 const UNITS: usize = 1 << 16;
@@ -56,7 +58,7 @@ const FIRST_OF_REPORTS: usize = Each::ReportPlace as usize;
 
 /// What is hit, in words, and how many there are of it; in the order of [`Each`]. No pattern and no trigger has the
 /// unit zero, and a name of one unit has no place between two.
-const TALLIES: [(Each, &str, usize); 29] = [
+const TALLIES: [(Each, &str, usize); 31] = [
     (Each::UnderSign, "units under '#', which is the whole pattern", UNITS),
     (Each::UnderSignOfFour, "units under '#', one of four units", UNITS),
     (Each::UnderSignOfEight, "units under '#', one of eight units", UNITS),
@@ -86,6 +88,8 @@ const TALLIES: [(Each, &str, usize); 29] = [
     (Each::ReportTwo, "two missing bits, none prohibited", LACKING * (LACKING - 1) / 2),
     (Each::ReportBoth, "lowest missing bit and lowest prohibited one", PAIRS),
     (Each::ReportKnown, "known bits required, prohibited and given", 81 * 8),
+    (Each::ReportNearNamespace, "bits of another entry's namespace, by ground", 3 * 128),
+    (Each::ReportNearUnit, "bits of a unit of its name, by ground", 3 * 16),
 ];
 
 /// The number of a place in a name of so many units.

@@ -177,7 +177,7 @@ fn unknown(attributes: Attributes) -> Attributes {
 fn bad_name(name: &[u8]) -> String {
     match name.len() {
         0 => "the name is empty".to_string(),
-        odd if odd % 2 == 1 => format!("the name has {odd} bytes, an odd number"),
+        odd if odd % 2 == 1 => format!("the name has {}, an odd number", describe::count(odd)),
         bytes if bytes / 2 > MAX_NAME_UNITS => {
             format!("{MAX_NAME_UNITS} units are the most, and the name has {}", bytes / 2)
         }
@@ -231,6 +231,8 @@ mod tests {
         assert_eq!(told(&[], "set G \"\" BS 01"), "INVALID_PARAMETER step 1: the name is empty");
         let odd = "INVALID_PARAMETER step 1: the name has 3 bytes, an odd number";
         assert_eq!(told(&[], "set G hex:410042 BS|0x8 01"), odd);
+        let one = "INVALID_PARAMETER step 1: the name has 1 byte, an odd number";
+        assert_eq!(told(&[], "set G hex:41 BS 01"), one);
         assert_eq!(told(&[], "set G \"A\\u0000\" BS 01"), "INVALID_PARAMETER step 1: the name has a zero unit");
         let long = format!("append G \"{}\" BS 01", "A".repeat(65));
         assert_eq!(told(&[], &long), "INVALID_PARAMETER step 1: 64 units are the most, and the name has 65");

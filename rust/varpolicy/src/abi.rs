@@ -94,6 +94,7 @@ unsafe extern "C" {
         name_len: usize,
     ) -> Found;
 
+    #[link_name = "varpolicy_set_e1"]
     pub(crate) fn varpolicy_set(
         nv: *mut u8,
         nv_len: usize,

@@ -48,7 +48,7 @@ pub use entry::{Entry, Lock, Name, PackedEntry};
 pub use limits::{
     MAX_ENTRIES, MAX_ENTRY_SIZE, MAX_NAME_UNITS, MAX_PAYLOAD_BYTES, MAX_STORE_BYTES, MIN_ENTRY_SIZE, POLICY_BYTES,
 };
-pub use report::{Ground, Refused, Report};
+pub use report::{Ground, Refused, Report, WHOLE_NAMESPACE_RANK};
 pub use status::Status;
 pub use switches::{SwitchBytes, Switches};
 

@@ -3,6 +3,9 @@
 use crate::{Attributes, Status, abi};
 use core::fmt;
 
+/// The rank of an entry for a whole namespace: more than the `#` that a name can have.
+pub const WHOLE_NAMESPACE_RANK: u32 = 65;
+
 /// What the chosen entry had against a set: the first of its grounds that holds.
 #[derive(Clone, Copy, PartialEq, Eq, Hash, Debug)]
 #[repr(u32)]
@@ -56,7 +59,7 @@ pub struct Report {
     /// The place of that entry, counted from 0 as a dump has them. A refused set changes nothing, so the entry is
     /// still there.
     pub place: u32,
-    /// How many `#` the name of that entry has; 65 for a whole namespace.
+    /// How many `#` the name of that entry has, or [`WHOLE_NAMESPACE_RANK`].
     pub rank: u32,
     /// How many required bits the request lacks. 0 but for [`Ground::Attributes`].
     pub missing: u32,
@@ -123,16 +126,13 @@ impl fmt::Display for Refused {
 
 impl core::error::Error for Refused {}
 
-/// The rank of an entry for a whole namespace.
-const WHOLE_NAMESPACE: u32 = 65;
-
 /// The entry of a report, as text.
 struct EntryOf<'a>(&'a Report);
 
 impl fmt::Display for EntryOf<'_> {
     fn fmt(&self, out: &mut fmt::Formatter) -> fmt::Result {
         let Report { place, rank, .. } = self.0;
-        let whole = if *rank == WHOLE_NAMESPACE { ", whole namespace" } else { "" };
+        let whole = if *rank == WHOLE_NAMESPACE_RANK { ", whole namespace" } else { "" };
         write!(out, "entry {place} (rank {rank}{whole})")
     }
 }

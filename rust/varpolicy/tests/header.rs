@@ -1,4 +1,5 @@
-//! The numbers of include/varpolicy.h are those of this crate, and so are the fields of its records.
+//! The numbers of include/varpolicy.h are those of this crate, and so are the fields of its records and the names that
+//! functions have in the archive.
 
 use std::collections::BTreeMap;
 use varpolicy::{Attributes, Ground, Status};
@@ -34,6 +35,7 @@ fn header_and_crate_have_the_same_numbers() {
         expect(&format!("TYPE_{name}"), place);
     }
     // The limits are read from the header; tests/limits.rs holds them to the library.
+    expect("RANK_WHOLE_NAMESPACE", varpolicy::WHOLE_NAMESPACE_RANK as usize);
     expect("ENTRY_VERSION", 0x0001_0000);
     expect("MIN_ENTRY_SIZE", varpolicy::MIN_ENTRY_SIZE);
     expect("MAX_ENTRY_SIZE", varpolicy::MAX_ENTRY_SIZE);
@@ -94,4 +96,22 @@ fn header_and_crate_have_the_same_records() {
         assert!(!header_fields(c_name).is_empty(), "{name}");
         assert_eq!(header_fields(c_name), crate_fields(name), "{name}");
     }
+}
+
+/// Each function that has another name in the archive, with that name.
+fn renamed() -> Vec<(&'static str, &'static str)> {
+    let lines = HEADER.lines().filter_map(|line| line.strip_prefix("#define varpolicy_"));
+    lines
+        .filter_map(|line| line.split_once(' '))
+        .map(|(name, behind)| (name, behind.split(' ').next().unwrap()))
+        .collect()
+}
+
+#[test]
+fn header_and_crate_link_the_same_functions() {
+    for (name, archived) in renamed() {
+        let declared = format!("#[link_name = \"{archived}\"]\n    pub(crate) fn varpolicy_{name}(");
+        assert!(RECORDS.contains(&declared), "{name}");
+    }
+    assert_eq!(RECORDS.matches("#[link_name").count(), renamed().len());
 }

@@ -119,6 +119,7 @@ fn count_report(coverage: &mut Coverage, choosing: (&Policy, &Namespace), met: &
     count_besides(coverage, met, entry, report.ground);
     count_zeros(coverage, report);
     count_choice(coverage, choosing, met, report);
+    count_near(coverage, choosing.0, entry, ground);
     match report.ground {
         Ground::Size => count_size(coverage, met, entry),
         Ground::Attributes => count_bits(coverage, met, entry, report),
@@ -178,6 +179,25 @@ fn count_choice(coverage: &mut Coverage, (policy, namespace): (&Policy, &Namespa
     }
     let alone = others.is_empty();
     count_if(coverage, Input::ReportChoice, &[alone && spoke == 0, alone && spoke > 0], first_label);
+}
+
+/// Counts the entries that differ from the one that spoke in one bit of the namespace, or of a unit of the name.
+fn count_near(coverage: &mut Coverage, policy: &Policy, entry: &Entry, ground: usize) {
+    for other in &policy.entries {
+        let namespaces = u128::from_le_bytes(other.namespace) ^ u128::from_le_bytes(entry.namespace);
+        if namespaces.is_power_of_two() && other.name == entry.name {
+            coverage.each(Each::ReportNearNamespace, 128 * ground + namespaces.trailing_zeros() as usize);
+        }
+        if namespaces == 0 && other.name.len() == entry.name.len() {
+            let units = other.name.iter().zip(&entry.name).map(|(one, other)| one ^ other);
+            let differing: Vec<u16> = units.filter(|unit| *unit != 0).collect();
+            if let [unit] = differing[..]
+                && unit.is_power_of_two()
+            {
+                coverage.each(Each::ReportNearUnit, 16 * ground + unit.trailing_zeros() as usize);
+            }
+        }
+    }
 }
 
 /// Counts a length that was refused: the kind of set, where the variable is, and which bound it was.

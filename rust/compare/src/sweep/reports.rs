@@ -1,11 +1,12 @@
 //! The reports of sets (docs/RULES.md, 10.10): every bit and every two bits that an entry can ask for, every number of
-//! missing and prohibited ones, every place and every rank, grounds at once, and sets that have none.
+//! missing and prohibited ones, every place and every rank, grounds at once, sets that have none, and entries that are
+//! nearly the one that speaks.
 
 use super::sets::{KNOWN, NAME, requests};
 use super::{ERASED, OPEN, Outcome, Sweep, delete, engine, entry, full, register, set, state, store};
 use crate::call::{Call, Values};
 use crate::comparison::{Sides, check};
-use crate::make::{EntryFields, G, LONGEST, entries_of_size, entry_of_size, packed, record, units};
+use crate::make::{EntryFields, G, LONGEST, entries_of_size, entry_of_size, packed, record, unit_bytes, units};
 use crate::state::{Guarded, State};
 use reference::{MAX_ENTRIES, MAX_UNITS, POLICY_BYTES};
 use varpolicy::{Namespace, Report, SwitchBytes};
@@ -22,7 +23,10 @@ pub(super) fn run(sweep: &mut Sweep) -> Outcome {
     without_report(sweep)?;
     damaged_record(sweep)?;
     one_after_another(sweep)?;
-    orders(sweep)
+    orders(sweep)?;
+    nearly_the_same(sweep)?;
+    plain_bytes(sweep)?;
+    two_long_names(sweep)
 }
 
 /// An entry of "A" that requires and prohibits these bits.
@@ -352,4 +356,56 @@ fn reports_in(sweep: &mut Sweep, sides: &mut Sides, order: &[usize]) -> Result<V
         Ok(Report { place: 0, ..report })
     };
     asked.into_iter().map(report).collect()
+}
+
+/// A letter, half of a pair of units, and two units that have the bytes of '#' between them.
+const NEARLY: [u16; 4] = [0x41, 0xD800, 0x2341, 0x4100];
+
+/// Each entry that differs from another in one bit of its namespace or of its name, before the other and behind it, with
+/// another ground.
+fn nearly_the_same(sweep: &mut Sweep) -> Outcome {
+    let namespaces = (0..128).map(|bit| (u128::from_le_bytes(G) ^ 1 << bit).to_le_bytes());
+    let names = (0..16 * NEARLY.len()).map(|bit| {
+        let mut name = NEARLY;
+        name[bit / 16] ^= 1 << (bit % 16);
+        name
+    });
+    let near = namespaces.map(|namespace| (namespace, NEARLY)).chain(names.map(|name| (G, name)));
+    for (namespace, name) in near {
+        for (ground, fields) in refusing(&NEARLY).into_iter().enumerate() {
+            let other = EntryFields { namespace, ..refusing(&name)[(ground + 1) % 3].clone() };
+            for entries in [[&other, &fields], [&fields, &other]] {
+                sweep.each(&engine(&entries.map(|fields| fields.pack())), set_and_delete(&NEARLY))?;
+            }
+        }
+    }
+    Ok(())
+}
+
+/// Entries with reserved bytes that are not zero, and of namespaces of one byte throughout.
+fn plain_bytes(sweep: &mut Sweep) -> Outcome {
+    for namespace in [[0; 16], [0x23; 16], [0xFF; 16]] {
+        let call = |attributes, payload| Call::Set { namespace, name: unit_bytes(NAME), attributes, payload };
+        let calls = [call(3, vec![1]), call(0, Vec::new())];
+        for fields in refusing(NAME) {
+            for reserved in [[0; 3], [1, 0, 0], [0, 2, 0], [0, 0, 3], [0xFF; 3]] {
+                let fields = EntryFields { namespace, reserved, ..fields.clone() };
+                sweep.each(&engine(&[entry("A").pack(), fields.pack()]), calls.clone())?;
+            }
+        }
+    }
+    Ok(())
+}
+
+/// Entries of the greatest length, with a trigger of 64 units, and every number of '#' at the end of their own name.
+fn two_long_names(sweep: &mut Sweep) -> Outcome {
+    let trigger = [0x54; MAX_UNITS];
+    let nv = store(256, &[record(&G, &trigger, 3, &[1])]);
+    for signs in 0..=MAX_UNITS {
+        let name = [vec![0x37; MAX_UNITS - signs], vec![0x23; signs]].concat();
+        for fields in refusing(&name).map(|fields| fields.with_trigger(G, &trigger, 1)) {
+            sweep.each(&state(&nv, ERASED, &[fields.pack()]), set_and_delete(&[0x37; MAX_UNITS]))?;
+        }
+    }
+    Ok(())
 }

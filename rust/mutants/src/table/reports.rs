@@ -53,6 +53,13 @@ macro_rules! place_by_targets {
     };
 }
 
+/// The place of the first entry of which this holds.
+macro_rules! place_of {
+    ($is:expr) => {
+        concat!("place: policy.entries.iter().position(|known| ", $is, ")? as u32,")
+    };
+}
+
 pub(super) const EDITS: &[Edit] = &[
     // Which ground it is.
     edit(
@@ -389,6 +396,67 @@ pub(super) const EDITS: &[Edit] = &[
         "place 0 for a whole namespace",
     ),
     edit("report-place-for-rank", PLACE, "place: entry.rank() as u32,", "the rank in place of the place"),
+    edit("report-near-name", PLACE, place_of!("known.name == entry.name"), "the place of the first of that name"),
+    edit(
+        "report-near-case",
+        PLACE,
+        place_of!(
+            "known.namespace == entry.namespace && String::from_utf16_lossy(&known.name).to_lowercase() == \
+             String::from_utf16_lossy(&entry.name).to_lowercase()"
+        ),
+        "the place of the first of that name in either case",
+    ),
+    edit(
+        "report-near-text",
+        PLACE,
+        place_of!(
+            "known.namespace == entry.namespace && String::from_utf16_lossy(&known.name) == \
+             String::from_utf16_lossy(&entry.name)"
+        ),
+        "the place by the name as text: halves of pairs are all alike",
+    ),
+    edit(
+        "report-near-low-bytes",
+        PLACE,
+        place_of!(
+            "known.namespace == entry.namespace && known.name.iter().map(|unit| *unit as \
+             u8).eq(entry.name.iter().map(|unit| *unit as u8))"
+        ),
+        "the place by the low bytes of the name's units",
+    ),
+    edit(
+        "report-near-namespace-8",
+        PLACE,
+        place_of!("known.namespace[..8] == entry.namespace[..8] && known.name == entry.name"),
+        "the place by the first 8 bytes of the namespace",
+    ),
+    edit(
+        "report-near-namespace-15",
+        PLACE,
+        place_of!("known.namespace[1..] == entry.namespace[1..] && known.name == entry.name"),
+        "the place by the last 15 bytes of the namespace",
+    ),
+    edit(
+        "report-near-namespace-parts",
+        PLACE,
+        place_of!(
+            "known.namespace[..4] == entry.namespace[..4] && known.namespace[8..] == entry.namespace[8..] && \
+             known.name == entry.name"
+        ),
+        "the place by the first and the last part of the namespace",
+    ),
+    edit(
+        "report-near-zero-namespace",
+        ENTRY,
+        chosen_then!("if entry.namespace == [0; 16] { return None; }"),
+        "nothing is reported of the namespace of zeros",
+    ),
+    edit(
+        "report-near-reserved",
+        ENTRY,
+        chosen_then!("if entry.reserved != [0; 3] { return None; }"),
+        "nothing is reported of an entry whose reserved bytes are not zero",
+    ),
     // The rank.
     edit(
         "report-rank-for-place",
@@ -439,6 +507,20 @@ pub(super) const EDITS: &[Edit] = &[
         "rank: if entry.name.is_empty() { 65 } else { entry.encode()[44..].chunks(2).filter(|unit| *unit == [0x23, \
          0]).count() as u32 },",
         "the rank counts '#' in the trigger too",
+    ),
+    edit(
+        "report-near-rank-odd",
+        RANK,
+        "rank: if entry.name.is_empty() { 65 } else { entry.name.iter().flat_map(|unit| \
+         unit.to_le_bytes()).collect::<Vec<u8>>().windows(2).filter(|unit| **unit == [0x23, 0]).count() as u32 },",
+        "the rank counts the bytes of '#' between two units too",
+    ),
+    edit(
+        "report-near-rank-255",
+        RANK,
+        "rank: if entry.name.is_empty() { 65 } else { let packed = entry.encode(); let end = packed.len().min(255); \
+         packed[usize::from(packed[6])..end].chunks(2).filter(|unit| *unit == [0x23, 0]).count() as u32 },",
+        "the rank counts '#' in the first 255 bytes of the entry",
     ),
     edit(
         "report-rank-not-of-size",

@@ -1,8 +1,8 @@
--- `varpolicy::varpolicy_set` meets its contract, by `engine::set`. Assumes nothing.
+-- `varpolicy::varpolicy_set_e1` meets its contract, by `engine::set`. Assumes nothing.
 use borrow.Author.Needs.{needs}
 use Rattle.varpolicy.proofs.Answers.{set-at}
-use Rattle.varpolicy.proofs.varpolicy_set.Statement.{statement}
-use Rattle.varpolicy.proofs.varpolicy_set.Tie as tie
+use Rattle.varpolicy.proofs.varpolicy_set_e1.Statement.{statement}
+use Rattle.varpolicy.proofs.varpolicy_set_e1.Tie as tie
 
 switches-of-requires : tie.Need-switches-of-requires
 switches-of-requires c κs = search needs
@@ -27,7 +27,7 @@ returns c =
     let s = c .before .before .before .before .before .before .before in
     set-at (s .before .before .switches-of .ensures) _ _ _ _ _ _ (s .set .result) (s .set .ensures) (c .before .number .ensures) (c .numbered-report .ensures)
 
-pub varpolicy-set-spec : {M : Type 1} → statement M
-varpolicy-set-spec =
+pub varpolicy-set-e1-spec : {M : Type 1} → statement M
+varpolicy-set-e1-spec =
     tie.close
     (tie.spec switches-of-requires set-requires number-requires numbered-report-requires same-length same-length-2 returns)
