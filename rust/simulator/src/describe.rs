@@ -2,7 +2,7 @@
 
 use crate::text;
 use std::collections::BTreeMap;
-use varpolicy::{Attributes, Entry, Lock, Name, Namespace};
+use varpolicy::{Attributes, Entry, Lock, Name, Namespace, SwitchBytes, Switches};
 
 /// A number of bytes.
 pub fn count(bytes: usize) -> String {
@@ -24,6 +24,15 @@ pub fn payload(bytes: &[u8]) -> String {
         }
         _ => format!("{count}: {shown}{more}"),
     }
+}
+
+/// The three switches.
+pub fn switches(bytes: SwitchBytes) -> String {
+    let switches = Switches::from(bytes);
+    let enabled = if switches.enabled { "enabled" } else { "disabled" };
+    let locked = if switches.locked { "locked" } else { "unlocked" };
+    let allowed = if switches.disabling_allowed { "allowed" } else { "not allowed" };
+    format!("{enabled}, {locked}, disabling {allowed}")
 }
 
 /// The entries of a dump, one line each, with their places.

@@ -1,5 +1,5 @@
 //! `simulate [FILE]`: reads a history from FILE or standard input, one call to a line, makes each call
-//! through the proved library, and prints its status by UEFI name with the values beside it. Of a refused set it prints
+//! through the proved library, and prints its status by UEFI name with the values beside it. Of a refused call it prints
 //! why.
 //!
 //! A line that is not understood gets a message with its number and what was expected; the rest still
@@ -8,7 +8,6 @@
 mod command;
 mod describe;
 mod reason;
-mod signs;
 mod simulation;
 mod text;
 mod ties;
@@ -49,9 +48,9 @@ Reads a history from FILE or standard input, one call to a line:
               have no #; min and max measure the payload as it would be afterwards, an append's with
               what is stored
 
-A refused set, append or delete tells why: the step of docs/RULES.md, 10.9, and at step 4 the entry, by
-its place in a dump and its name. A set without APPEND that has no payload, or neither BS nor RT, is a
-deletion, and its line says so.
+A refused call tells why. A refused set, append or delete begins with the step of docs/RULES.md, 10.9, and
+at step 4 names the entry, by its place in a dump and its name. A set without APPEND that has no payload, or
+neither BS nor RT, is a deletion, and its line says so.
 
 ; and // begin a comment, but not in a note. Before the first power-on the engine is locked.
 ";

@@ -2,8 +2,9 @@
 
 use crate::command::{Command, Expected, Order, Part};
 use crate::reason::{self, Refusal};
-use crate::{describe, signs, ties};
+use crate::{describe, ties};
 use std::collections::BTreeMap;
+use std::fmt::Display;
 use varpolicy::calls::{self, Request, Started};
 use varpolicy::{Attributes, Namespace, POLICY_BYTES, Status, SwitchBytes, Switches};
 
@@ -45,11 +46,11 @@ impl Simulation {
             }
             Command::PowerOn { disabling_allowed } => {
                 let started = calls::power_on(&self.nv, &mut self.volatile, &mut self.policy, disabling_allowed);
-                self.started(started)
+                self.started(started, reason::power_on)
             }
             Command::Restart { disabling_allowed } => {
                 let started = calls::restart(&self.nv, &self.volatile, &mut self.policy, disabling_allowed);
-                self.started(started)
+                self.started(started, reason::restart)
             }
             Command::Register { entry } => self.register(&entry),
             Command::Set { namespace, name, attributes, payload } => {
@@ -63,8 +64,10 @@ impl Simulation {
             }
             Command::Read { namespace, name } => self.read(&namespace, &name),
             Command::Dump { buffer } => self.dump(buffer, namespaces),
-            Command::Lock => calls::lock(&mut self.switches).to_string(),
-            Command::Disable => calls::disable(&mut self.switches).to_string(),
+            Command::Lock => answered(calls::lock(&mut self.switches), |_| reason::LOCKED_ALREADY),
+            Command::Disable => {
+                answered(calls::disable(&mut self.switches), |status| reason::disable(status, self.switches))
+            }
             Command::State => self.state(),
             Command::Rebuild(order) => self.rebuild(order)?,
             Command::Poke { part, at, bytes } => self.poke(part, at, &bytes)?,
@@ -73,26 +76,19 @@ impl Simulation {
     }
 
     /// After a start that succeeded the engine goes on with the switches handed back, else with its own.
-    fn started(&mut self, started: Started) -> String {
+    fn started(&mut self, started: Started, reason: fn(&[u8], &[u8]) -> String) -> String {
         let Started { status, switches } = started;
-        if status == Status::Success {
-            self.switches = switches;
+        let handed_back = describe::switches(switches);
+        if status != Status::Success {
+            return format!("{status} {}; handed back: {handed_back}", reason(&self.nv, &self.volatile));
         }
-        let switches = Switches::from(switches);
-        let enabled = if switches.enabled { "enabled" } else { "disabled" };
-        let locked = if switches.locked { "locked" } else { "unlocked" };
-        let allowed = if switches.disabling_allowed { "allowed" } else { "not allowed" };
-        format!("{status} {enabled}, {locked}, disabling {allowed}")
+        self.switches = switches;
+        format!("{status} {handed_back}")
     }
 
-    /// Registers an entry, and tells the reason of a refusal if '#' in the trigger's name is the only one.
     fn register(&mut self, entry: &[u8]) -> String {
-        match calls::register(&mut self.policy, self.switches, entry) {
-            refused @ Status::InvalidParameter if signs::are_the_only_defect(entry) => {
-                format!("{refused} the trigger's name has a '#'")
-            }
-            status => status.to_string(),
-        }
+        let status = calls::register(&mut self.policy, self.switches, entry);
+        answered(status, |status| reason::register(status, &self.policy, entry))
     }
 
     /// Makes a set. Tells `granted` if it is, else the status and why.
@@ -112,7 +108,7 @@ impl Simulation {
         let found = calls::read(&self.nv, &self.volatile, namespace, name);
         match found.status {
             Status::Success => format!("SUCCESS {}, {}", found.attributes, describe::payload(found.payload)),
-            refused => refused.to_string(),
+            refused => answered(refused, |status| reason::read(status, &self.nv, &self.volatile, name)),
         }
     }
 
@@ -125,7 +121,7 @@ impl Simulation {
                 format!("SUCCESS {} bytes{entries}", dumped.length)
             }
             Status::BufferTooSmall => format!("BUFFER_TOO_SMALL {} bytes needed", dumped.length),
-            refused => refused.to_string(),
+            refused => answered(refused, |_| reason::BAD_RECORD),
         }
     }
 
@@ -140,7 +136,7 @@ impl Simulation {
         let mut buffer = vec![0; POLICY_BYTES];
         let dumped = calls::dump(&self.policy, &mut buffer);
         if dumped.status != Status::Success {
-            return Ok(format!("dump {}", dumped.status));
+            return Ok(format!("dump {}", answered(dumped.status, |_| reason::BAD_RECORD)));
         }
         let entries = describe::split(&buffer[..dumped.length]);
         let places = match order {
@@ -151,7 +147,7 @@ impl Simulation {
         let old = Switches::from(self.switches);
         let started = calls::restart(&self.nv, &self.volatile, &mut self.policy, old.disabling_allowed);
         if started.status != Status::Success {
-            return Ok(format!("restart {}", started.status));
+            return Ok(format!("restart {}", answered(started.status, |_| reason::restart(&self.nv, &self.volatile))));
         }
         self.switches = started.switches;
         for &place in &places {
@@ -196,6 +192,14 @@ impl Simulation {
             }
             None => Err(format!("expected bytes within the {len} that are lent")),
         }
+    }
+}
+
+/// A status and, if it is a refusal, its reason.
+fn answered<T: Display>(status: Status, reason: impl FnOnce(Status) -> T) -> String {
+    match status {
+        Status::Success => status.to_string(),
+        refused => format!("{refused} {}", reason(refused)),
     }
 }
 

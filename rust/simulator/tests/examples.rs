@@ -64,7 +64,7 @@ the line
 18: set G hex:410042 BS 01 -> INVALID_PARAMETER step 1: the name has 3 bytes, an odd number
 19: set G \"A\\u0000\" BS 01 -> INVALID_PARAMETER step 1: the name has a zero unit
 20: poke volatile 0 00 -> written
-21: read G \"A\" -> VOLUME_CORRUPTED
+21: read G \"A\" -> VOLUME_CORRUPTED the volatile store is not sound
 ";
     assert_eq!(String::from_utf8_lossy(&output.stdout), expected);
 }
@@ -74,7 +74,8 @@ fn a_note_is_printed_whole() {
     let output =
         simulate(b"note see https://uefi.org; and \"A // B\n note\t; x\nnote\nlock // told\n; note\n// note\n");
     assert!(output.status.success());
-    let expected = "see https://uefi.org; and \"A // B\n; x\n\n4: lock -> WRITE_PROTECTED\n";
+    let expected =
+        "see https://uefi.org; and \"A // B\n; x\n\n4: lock -> WRITE_PROTECTED the engine is locked already\n";
     assert_eq!(String::from_utf8_lossy(&output.stdout), expected);
 }
 
@@ -104,7 +105,7 @@ places: later answers may differ
 }
 
 #[test]
-fn a_number_sign_in_a_trigger_is_told_where_it_is_the_reason() {
+fn a_number_sign_in_a_trigger_is_told_and_so_is_every_defect_before_it() {
     let history = b"namespace G 5C67D181F686DF48BD959A6E4F0925C3\nregister G \"A\" lock=on-state trigger=G:\"T#\" value=01\n\
         power-on\nregister G \"A\" lock=on-state trigger=G:\"T#\" value=01\n\
         register G \"A#\" min=2 max=1 lock=on-state trigger=G:\"T#\" value=01\n\
@@ -113,14 +114,15 @@ fn a_number_sign_in_a_trigger_is_told_where_it_is_the_reason() {
     let output = simulate(history);
     assert!(output.status.success());
     let expected = "\
-2: register G \"A\" lock=on-state trigger=G:\"T#\" value=01 -> WRITE_PROTECTED
+2: register G \"A\" lock=on-state trigger=G:\"T#\" value=01 -> WRITE_PROTECTED the engine is locked
 3: power-on -> SUCCESS enabled, unlocked, disabling not allowed
 4: register G \"A\" lock=on-state trigger=G:\"T#\" value=01 -> INVALID_PARAMETER the trigger's name has a '#'
-5: register G \"A#\" min=2 max=1 lock=on-state trigger=G:\"T#\" value=01 -> INVALID_PARAMETER
-6: register G \"A#\" lock=on-state trigger=G:\"\" value=01 -> INVALID_PARAMETER
+5: register G \"A#\" min=2 max=1 lock=on-state trigger=G:\"T#\" value=01 -> INVALID_PARAMETER MinSize, 2, is over \
+MaxSize, 1
+6: register G \"A#\" lock=on-state trigger=G:\"\" value=01 -> INVALID_PARAMETER the trigger's name has no units
 7: register G \"A#\" lock=on-state trigger=G:\"T0\" value=01 -> SUCCESS
 8: register G \"A#\" lock=on-state trigger=G:\"\\u0023\" value=01 -> INVALID_PARAMETER the trigger's name has a '#'
-9: register raw 2300 -> INVALID_PARAMETER
+9: register raw 2300 -> INVALID_PARAMETER 44 bytes are the least, and the entry has 2
 10: dump -> SUCCESS 74 bytes
     0: G \"A#\" lock=on-state trigger=G:\"T0\" value=01
 ";
@@ -128,12 +130,12 @@ fn a_number_sign_in_a_trigger_is_told_where_it_is_the_reason() {
 }
 
 #[test]
-fn help_tells_what_another_order_a_number_sign_and_a_refused_set_do() {
+fn help_tells_what_another_order_a_number_sign_and_a_refused_call_do() {
     let output = Command::new(env!("CARGO_BIN_EXE_simulate")).arg("--help").output().expect("simulate runs");
     let help = String::from_utf8_lossy(&output.stdout);
     let order = "of equal rank target one variable and\n";
     let trigger = "NAME is one variable's and may\n              have no #";
-    let refused = "A refused set, append or delete tells why";
+    let refused = "A refused call tells why. A refused set, append or delete";
     for words in [order, "but not in a note", "matches a hex digit and nothing else", trigger, refused] {
         assert!(help.contains(words), "{words}");
     }

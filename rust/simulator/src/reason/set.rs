@@ -1,10 +1,11 @@
 //! Why a set was refused: the step (docs/RULES.md, 10.9) and what it found. Which ground of step 4 spoke, and of which
 //! entry, is the library's report (10.10); the other steps are told from the status, the request and reads.
 
+use super::{ABSENT, BAD_RECORD, bad_name, bad_stores};
 use crate::{describe, text};
 use std::collections::BTreeMap;
 use varpolicy::calls::{self, Found, Request, Written};
-use varpolicy::{Attributes, Entry, Ground, Lock, MAX_NAME_UNITS, MAX_PAYLOAD_BYTES, Namespace, POLICY_BYTES, Status};
+use varpolicy::{Attributes, Entry, Ground, Lock, MAX_PAYLOAD_BYTES, Namespace, POLICY_BYTES, Status};
 
 /// A set that was refused, and what it was lent, which it left as it was.
 pub struct Refusal<'a> {
@@ -26,7 +27,8 @@ impl Refusal<'_> {
     /// The step and what it found, as a sentence.
     pub fn reason(&self) -> String {
         if self.written.status == Status::VolumeCorrupted {
-            return format!("before step 1: {}", self.damage());
+            let stores = bad_stores(self.nv, self.volatile);
+            return format!("before step 1: {}", stores.as_deref().unwrap_or(BAD_RECORD));
         }
         let (step, found) = match self.written.report.ground {
             Ground::None => self.other_step(),
@@ -36,20 +38,6 @@ impl Refusal<'_> {
         };
         let deletion = if is_deletion(&self.request) { " of a deletion" } else { "" };
         format!("step {step}{deletion}: {found}")
-    }
-
-    /// What is wrong with the stores or, if nothing is, the policy record.
-    fn damage(&self) -> &'static str {
-        let unsound = |nv, volatile| calls::read(nv, volatile, &[0; 16], b"A\0").status == Status::VolumeCorrupted;
-        if unsound(self.nv, &[]) {
-            "the non-volatile store is not sound"
-        } else if unsound(&[], self.volatile) {
-            "the volatile store is not sound"
-        } else if unsound(self.nv, self.volatile) {
-            "one variable stands in both stores"
-        } else {
-            "the policy record is not valid"
-        }
     }
 
     /// The entry whose place the report has, and what `against` says of it.
@@ -106,7 +94,7 @@ impl Refusal<'_> {
     fn other_step(&self) -> (u32, String) {
         match self.written.status {
             Status::Unsupported => (2, format!("attribute bits outside 0x47: {}", unknown(self.request.attributes))),
-            Status::NotFound => (5, "the variable does not exist".to_string()),
+            Status::NotFound => (5, ABSENT.to_string()),
             Status::OutOfResources => self.no_room(),
             _ => self.invalid(),
         }
@@ -173,39 +161,11 @@ fn unknown(attributes: Attributes) -> Attributes {
     Attributes::NAMED.iter().fold(attributes, |rest, (known, _)| Attributes(rest.0 & !known.0))
 }
 
-/// What is wrong with the bytes of a name.
-fn bad_name(name: &[u8]) -> String {
-    match name.len() {
-        0 => "the name is empty".to_string(),
-        odd if odd % 2 == 1 => format!("the name has {}, an odd number", describe::count(odd)),
-        bytes if bytes / 2 > MAX_NAME_UNITS => {
-            format!("{MAX_NAME_UNITS} units are the most, and the name has {}", bytes / 2)
-        }
-        _ => "the name has a zero unit".to_string(),
-    }
-}
-
 #[cfg(test)]
 mod tests {
+    use super::super::tests::told;
     use super::*;
-    use crate::command::Parser;
-    use crate::simulation::Simulation;
     use varpolicy::{Name, Report};
-
-    /// What a line answers, on stores of 1,280 and 64 bytes, behind a power-on and lines that are granted.
-    fn told(before: &[&str], line: &str) -> String {
-        let (mut parser, mut simulation) = (Parser::default(), Simulation::default());
-        let mut run = |line: &str| {
-            let command = parser.parse(line).expect(line);
-            simulation.run(command, parser.namespaces()).expect(line)
-        };
-        let start = ["namespace G 5C67D181F686DF48BD959A6E4F0925C3", "stores 1280 64", "power-on allow-disable"];
-        for line in start.iter().chain(before) {
-            let granted = |answer: &str| answer.starts_with("SUCCESS") || answer == "written";
-            assert!(run(line).is_none_or(|answer| granted(&answer)), "{line}");
-        }
-        run(line).expect("a call")
-    }
 
     const A_IN_NV: &str = "set G \"A\" NV|BS 00";
 
