@@ -8,6 +8,9 @@
   - a policy record of VARPOLICY_POLICY_BYTES bytes: packed entries end to end, then zeros;
   - three switches, varpolicy_switches, in each byte of which every value has a meaning.
 
+  varpolicy_quarrels alone is lent none of these: it is given the bytes of a dump, from wherever they come,
+  and a buffer for a name, and concerns no engine.
+
   A call checks all of each store and policy record that it is lent, and answers
   VARPOLICY_VOLUME_CORRUPTED before all else if one is not so. The exceptions: varpolicy_power_on takes
   a volatile store with any content, and varpolicy_power_on and varpolicy_restart a policy record with
@@ -104,6 +107,7 @@ extern "C" {
 #define VARPOLICY_MAX_STORE_BYTES 32768U /* bytes of a store */
 #define VARPOLICY_MAX_PAYLOAD     1024U  /* bytes of a payload */
 #define VARPOLICY_MAX_NAME_UNITS  64U    /* 16-bit units of a name */
+#define VARPOLICY_MAX_NAME_BYTES  128U   /* bytes of a name without a closing zero: two for each unit */
 #define VARPOLICY_NAMESPACE_BYTES 16U    /* bytes of a namespace, as an EFI_GUID lies in memory */
 
 /**
@@ -167,6 +171,15 @@ typedef struct {
   uint32_t         status;
   varpolicy_report report;
 } varpolicy_written;
+
+/** What varpolicy_quarrels answers. Without a pair every number is 0. **/
+typedef struct {
+  uint32_t status;
+  bool     found;       /* two entries quarrel */
+  uint32_t earlier;     /* the place of the earlier one, counted from 0 */
+  uint32_t later;       /* and of the later one */
+  size_t   name_length; /* bytes of the smallest name that both target */
+} varpolicy_quarrel;
 
 /**
   Powers an engine on: the policy record becomes all zeros, the volatile store all 0xFF. The engine is
@@ -404,6 +417,39 @@ varpolicy_set (
   uint32_t           attributes,
   const uint8_t     *payload,
   size_t             payload_len
+  );
+
+/**
+  Tells whether two entries of a dump quarrel: they have the same rank, and some variable, stored or not,
+  is targeted by both. Which of the two speaks for it depends on which was registered first, so that an
+  engine may be rebuilt in every order exactly if no two entries of its dump quarrel. To settle a
+  quarrel, put a hex digit in the place of a '#' in one of the two names. The rank is how many '#' a name
+  has; entries for a whole namespace quarrel with none.
+
+  Of all pairs that quarrel the one with the lowest earlier place is handed back, and of those the one
+  with the lowest later place; with them the smallest name that both entries target. Their namespace is
+  that of either entry.
+
+  No part of an engine is lent, and none is changed.
+
+  @param[in]     dump      The entries, end to end as varpolicy_dump writes them, and nothing behind them.
+  @param[in]     dump_len  Their length, as varpolicy_dump answers it: not that of its buffer.
+  @param[in,out] name      A buffer. Of a pair, the bytes of the 16-bit units of the smallest name are
+                           written to its front, without a closing zero, and the bytes behind them
+                           stay. Without a pair all of it stays.
+
+  @retval VARPOLICY_INVALID_PARAMETER  The bytes are not a dump: at most VARPOLICY_MAX_ENTRIES well-formed
+                                       entries in at most VARPOLICY_POLICY_BYTES bytes, no two for one
+                                       namespace and name, and nothing behind them. Zeros are no entry,
+                                       so that a policy record with free room is not a dump.
+  @retval VARPOLICY_SUCCESS            It is a dump, and found tells whether two entries quarrel. No bytes
+                                       at all are a dump without entries.
+**/
+VARPOLICY_CALL varpolicy_quarrel
+varpolicy_quarrels (
+  const uint8_t *dump,
+  size_t         dump_len,
+  uint8_t        name[VARPOLICY_MAX_NAME_BYTES]
   );
 
 #ifdef __cplusplus

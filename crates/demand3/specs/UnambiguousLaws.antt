@@ -20,7 +20,8 @@ use Rattle.slices.specs.BytesLaws.{pairwise-length, same-eq}
 use Rattle.slices.specs.PartLaws.{bytes-part}
 use Rattle.names.specs.Name.{Variable, units, each, isName, named, unitMatches}
 use Rattle.names.specs.NameLaws.{isName-length, isName-even, named-namespace, named-name, units-length, wildcards-le, unit-cases}
-use Rattle.entry.specs.Entry.{offsetToName, namespaceOf, nameIsEmpty, nameOf, targets, rank}
+use Rattle.entry.specs.Entry.{offsetToName, nameIsEmpty, nameOf, targets, rank}
+use Rattle.entry.specs.EntryLaws.{target-namespace, target-name, rank-of-name, rank-of-namespace}
 use Rattle.history.specs.History.{Unambiguous}
 use Rattle.demand3.specs.Machine.{machine}
 
@@ -93,22 +94,6 @@ targets-respelled e v r = rw (r .sameUnits)
 
 -- ---- two entries of equal rank
 
-target-namespace : (e : Bytes) (v : Variable) → targets e v ≡ true → namespaceOf e ≡ v .namespace
-unfolding targets
-target-namespace e v h = same-eq (namespaceOf e) (v .namespace) (and-left _ _ h)
-
--- a name that matches has as many units, so at most 64 of them are '#'
-rank-of-name : (e : Bytes) (v : Variable) → named v ≡ true → targets e v ≡ true → nameIsEmpty e ≡ false → rank e < wholeNamespaceRank
-unfolding targets rank
-rank-of-name e v n h z =
-    let m = pairwise-length unitMatches (units (nameOf e)) (units (v .name)) (rw z at (and-right _ _ h)) in
-    let l = isName-length (v .name) (named-name v n) in
-    rw z (omega (arith, m, l, wildcards-le (units (nameOf e)), units-length (v .name)))
-
-rank-of-namespace : (e : Bytes) → nameIsEmpty e ≡ true → rank e ≡ wholeNamespaceRank
-unfolding rank
-rank-of-namespace e z = rw z
-
 -- two entries that target one variable at one rank, the first of them bytes, so target a variable in bytes
 module _ (e f : Bytes) (v : Variable) (h : AreBytes e) (n : named v ≡ true) (p : targets e v ≡ true) (q : targets f v ≡ true)
     (k : rank e ≡ rank f) (differ : (w : Variable) → NamedInBytes w → RanksDiffer rank (λ x. targets x w) e f) where
@@ -117,10 +102,8 @@ module _ (e f : Bytes) (v : Variable) (h : AreBytes e) (n : named v ≡ true) (p
 
   -- by name: the same variable, spelled anew
   by-name : nameIsEmpty e ≡ false → ⊥
-  unfolding targets
   by-name z =
-      let m : pairwise unitMatches (units (nameOf e)) (units (v .name)) ≡ true = rw z at (and-right _ _ p) in
-      let r = spell (nameOf e) (v .name) (bytes-name e h) (isName-even (v .name) (named-name v n)) m in
+      let r = spell (nameOf e) (v .name) (bytes-name e h) (isName-even (v .name) (named-name v n)) (target-name e v z p) in
       differ (respelled v (r .bytes)) (record { namespace = namespace-bytes; name = r .areBytes; taken = named-respelled v r ∙ n })
       (targets-respelled e v r ∙ p) (targets-respelled f v r ∙ q) k
 

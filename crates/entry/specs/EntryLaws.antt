@@ -1,5 +1,5 @@
 -- Laws of well-formed entries. Assumes nothing.
-use Prim.Native.Nat.{ℕ, _+_, _-_, _%_, _≤_}
+use Prim.Native.Nat.{ℕ, _+_, _-_, _%_, _≤_, _<_}
 use mathlib.Core.Path.{_≡_, refl, sym, ap, ap₂, _∙_}
 use mathlib.Core.List.{[]}
 use mathlib.Core.Bool.{Bool, true, false, cond, _||_, false≢true}
@@ -11,14 +11,15 @@ use lib.Seq.{take-take}
 use lib.Dec.{eqb, leb}
 use borrow.Author.Tests.{eq-eqb, ne-eqb, leb-true, eqb-true}
 use Rattle.lists.specs.Lists.{Among}
-use Rattle.limits.specs.Limits.{maxNameBytes, maxNameSize, wholeNamespaceRank, entryHeader, triggerNameAt, maxEntryBytes}
+use Rattle.limits.specs.Limits.{maxNameBytes, maxNameSize, namespaceBytes, namespaceAt, wholeNamespaceRank, entryHeader, triggerNameAt, maxEntryBytes}
 use Rattle.slices.specs.Test.{_and_}
 use Rattle.slices.specs.TestLaws.{and-left, and-right, and-intro}
-use Rattle.slices.specs.Bytes.{Bytes, part, same}
-use Rattle.slices.specs.BytesLaws.{same-eq, same-sym, same-of}
+use Rattle.slices.specs.Bytes.{Bytes, le32, part, same}
+use Rattle.slices.specs.NumberLaws.{le32-take, le32-drop}
+use Rattle.slices.specs.BytesLaws.{pairwise-length, same-eq, same-sym, same-of}
 use Rattle.slices.specs.PartLaws.{length-part, part-none}
-use Rattle.names.specs.Name.{isName, isTerminated, isPlainTerminated, units, Variable, numberSign, matches, wildcards}
-use Rattle.names.specs.NameLaws.{isName-length, isName-even, isTerminated-length, isTerminated-name, plain-terminated, plain-wildcards, units-length, wildcards-le, sign-in-name}
+use Rattle.names.specs.Name.{isName, isTerminated, isPlainTerminated, units, Variable, named, numberSign, unitMatches, matches, wildcards}
+use Rattle.names.specs.NameLaws.{isName-length, isName-even, named-name, isTerminated-length, isTerminated-name, plain-terminated, plain-wildcards, units-length, wildcards-le, sign-in-name}
 use Rattle.entry.specs.Entry.{headerOk, lockOk, nameOk, wellFormed, sizeField, offsetToName, lockPolicyType, nameIsEmpty, nameOf, namespaceOf, targets, rank, sameTarget}
 
 -- ---- lengths and places
@@ -84,6 +85,10 @@ part-shorter a b e h =
     let k : b - a - 2 ≡ b - 2 - a = omega arith in
     rw (length-part a b e h, k) (take-take (b - 2 - a) (b - a) (drop a e) (omega arith))
 
+pub nameOf-empty : (e : Bytes) → nameIsEmpty e ≡ true → nameOf e ≡ []
+unfolding nameOf
+nameOf-empty e q = part-none (offsetToName e) (length e - 2) e (omega (arith, eqb-true (offsetToName e) (length e) q))
+
 -- the entry's name is empty, or a name that step 1 of a set takes
 pub nameOf-name : (e : Bytes) → wellFormed e ≡ true → (nameOf e ≡ []) ⊎ (isName (nameOf e) ≡ true)
 unfolding wellFormed nameOk nameOf
@@ -91,7 +96,7 @@ nameOf-name e w = go (nameIsEmpty e) refl (and-right _ _ (and-right _ _ (and-rig
   where
     go : (t : Bool) → nameIsEmpty e ≡ t → (t || isTerminated (part (offsetToName e) (length e) e)) ≡ true
         → (part (offsetToName e) (length e - 2) e ≡ []) ⊎ (isName (part (offsetToName e) (length e - 2) e) ≡ true)
-    go true q h = inl (part-none (offsetToName e) (length e - 2) e (omega (arith, eqb-true (offsetToName e) (length e) q)))
+    go true q h = inl (nameOf-empty e q)
     go false q h = inr (rw (part-shorter (offsetToName e) (length e) e (le-refl (length e))) at (isTerminated-name _ h))
 
 -- a name that is not empty has at least one unit and its zero unit
@@ -107,7 +112,7 @@ unfolding nameOf
 nameOf-none e w = go (nameIsEmpty e) refl
   where
     go : (t : Bool) → nameIsEmpty e ≡ t → t ≡ eqb (length (part (offsetToName e) (length e - 2) e)) 0
-    go true q = sym (eq-eqb _ 0 (ap length (part-none (offsetToName e) (length e - 2) e (omega (arith, eqb-true (offsetToName e) (length e) q)))))
+    go true q = sym (eq-eqb _ 0 (ap length (nameOf-empty e q)))
     go false q = sym (ne-eqb (length (part (offsetToName e) (length e - 2) e)) 0 (λ z. omega (arith, name-least e w q, length-part (offsetToName e) (length e - 2) e (omega arith))))
 
 -- a name that is not empty and its zero unit go to the entry's end
@@ -137,6 +142,27 @@ rank-most e w = go (nameIsEmpty e)
     go : (t : Bool) → cond t wholeNamespaceRank (wildcards (units (nameOf e))) ≤ wholeNamespaceRank
     go true = omega arith
     go false = omega (arith, wildcards-le (units (nameOf e)), units-length (nameOf e), nameOf-most e w)
+
+-- ---- entries that target a variable
+pub target-namespace : (e : Bytes) (v : Variable) → targets e v ≡ true → namespaceOf e ≡ v .namespace
+unfolding targets
+target-namespace e v h = same-eq (namespaceOf e) (v .namespace) (and-left _ _ h)
+
+-- by its name: the name matches, and has at most 64 '#'
+pub target-name : (e : Bytes) (v : Variable) → nameIsEmpty e ≡ false → targets e v ≡ true → matches (units (nameOf e)) (units (v .name)) ≡ true
+unfolding targets
+target-name e v z h = rw z at (and-right _ _ h)
+
+pub rank-of-name : (e : Bytes) (v : Variable) → named v ≡ true → targets e v ≡ true → nameIsEmpty e ≡ false → rank e < wholeNamespaceRank
+unfolding rank
+rank-of-name e v n h z =
+    let m = pairwise-length unitMatches (units (nameOf e)) (units (v .name)) (target-name e v z h) in
+    rw z (omega (arith, m, isName-length (v .name) (named-name v n), wildcards-le (units (nameOf e)), units-length (v .name)))
+
+-- as one for its whole namespace
+pub rank-of-namespace : (e : Bytes) → nameIsEmpty e ≡ true → rank e ≡ wholeNamespaceRank
+unfolding rank
+rank-of-namespace e z = rw z
 
 -- A VARIABLE WITH '#' IN ITS NAME IS TARGETED BY NO ENTRY WITH A NAME, only by one for its whole namespace
 pub guarded-by-namespace : (e : Bytes) (v : Variable) → Among numberSign (units (v .name)) → targets e v ≡ true → nameIsEmpty e ≡ true
@@ -179,6 +205,10 @@ module _ (e : Bytes) (w : wellFormed e ≡ true) (q : leb (lockPolicyType e) 2 �
   trigger-wildcards = rw trigger-part at (plain-wildcards (part triggerNameAt (offsetToName e) e) trigger-plain)
 
 -- ---- the same namespace and name
+-- the namespace's first bytes in the entry
+pub namespace-start : (e : Bytes) → le32 (namespaceOf e) 0 ≡ le32 e namespaceAt
+namespace-start e = le32-take namespaceBytes (drop namespaceAt e) 0 (omega arith) ∙ le32-drop namespaceAt e 0
+
 pub record Same (e f : Bytes) : Type 0 where
   pub namespace : namespaceOf e ≡ namespaceOf f
   pub name : nameOf e ≡ nameOf f

@@ -10,7 +10,7 @@ use lib.ListN.{length, getD, take, drop, drop-of-length-le, length-append, lengt
 use lib.Seq.{getD-append-add, getD-append-seam, take-append-seam}
 use lib.Dec.{eqb, leb}
 use lib.Bits.{bitAnd, and-zero-l}
-use borrow.Author.Tests.{eq-eqb, ne-eqb, le-leb, leb-true, eqb-true, eqb-false}
+use borrow.Author.Tests.{eq-eqb, ne-eqb, le-leb, leb-true, eqb-true, eqb-false, not-true}
 use Rattle.limits.specs.Limits.{maxNameBytes, namespaceBytes}
 use Rattle.lists.specs.Lists.{All, nil, more, Among}
 use Rattle.lists.specs.ListsLaws.{all-among, among-left, among-right}
@@ -115,6 +115,18 @@ wildcards-le (u ∷ us) = at-most (eqb u numberSign) (wildcards-le us)
     at-most : (b : Bool) → wildcards us ≤ length us → oneIf b + wildcards us ≤ suc (length us)
     at-most true h = omega arith
     at-most false h = omega arith
+
+-- one turn of a loop that goes on to its end, over units that are no '#'
+pub wildcards-clear : {n u : ℕ} (s : Bytes) (i j : ℕ) → i + j + 2 ≤ length s → u ≡ le16 s (i + j) → (ok : Bool) → (ok ≡ true → n ≡ wildcards (units (drop (i + j) s)))
+    → (ok && not (eqb u numberSign)) ≡ true → n ≡ wildcards (units (drop (i + (j + 2)) s))
+wildcards-clear {n} {u} s i j h v true f t =
+    let k : i + (j + 2) ≡ i + j + 2 = omega arith in
+    f refl ∙ rw k (wildcards-miss s (i + j) h (λ e. eqb-false u numberSign (not-true (eqb u numberSign) t) (v ∙ e)))
+wildcards-clear s i j h v false f t = absurd (false≢true t)
+
+-- the number of '#' from byte i on, after so many at the start, is at most that of the units
+pub wildcards-within : (s : Bytes) (h i r rest : ℕ) → wildcards (units s) ≡ h + wildcards (units (drop i s)) → wildcards (units (drop i s)) ≡ r + rest → h + r ≤ length s
+wildcards-within s h i r rest e f = omega (arith, wildcards-le (units s), units-length s)
 
 -- each unit is neither zero nor '#' exactly if none is zero and the number of '#' is 0
 pub plain-units : (us : List ℕ) → (noZero us and eqb (wildcards us) 0) ≡ each plainUnit us
@@ -302,16 +314,20 @@ hex-digits u = (
   all-among hexDigits all-hex u,
 )
 
-hex-small : (u : ℕ) → isHexDigit u ≡ true → u < 256
+-- the least is '0', and all are below 256
+pub hex-range : (u : ℕ) → isHexDigit u ≡ true → (0x30 ≤ u) × (u < 256)
 unfolding isHexDigit
-hex-small u h = go (or-cases (leb 0x30 u and leb u 0x39) (leb 0x41 u and leb u 0x46 || leb 0x61 u and leb u 0x66) h)
+hex-range u h = go (or-cases (leb 0x30 u and leb u 0x39) (leb 0x41 u and leb u 0x46 || leb 0x61 u and leb u 0x66) h)
   where
-    letter : ((leb 0x41 u and leb u 0x46) ≡ true) ⊎ ((leb 0x61 u and leb u 0x66) ≡ true) → u < 256
-    letter (inl k) = omega (arith, leb-true u 0x46 (and-right _ _ k))
-    letter (inr k) = omega (arith, leb-true u 0x66 (and-right _ _ k))
+    range : (a b : ℕ) → 0x30 ≤ a → b < 256 → (leb a u and leb u b) ≡ true → (0x30 ≤ u) × (u < 256)
+    range a b l m k = omega (arith, leb-true a u (and-left _ _ k), leb-true u b (and-right _ _ k))
 
-    go : ((leb 0x30 u and leb u 0x39) ≡ true) ⊎ ((leb 0x41 u and leb u 0x46 || leb 0x61 u and leb u 0x66) ≡ true) → u < 256
-    go (inl k) = omega (arith, leb-true u 0x39 (and-right _ _ k))
+    letter : ((leb 0x41 u and leb u 0x46) ≡ true) ⊎ ((leb 0x61 u and leb u 0x66) ≡ true) → (0x30 ≤ u) × (u < 256)
+    letter (inl k) = range 0x41 0x46 (omega arith) (omega arith) k
+    letter (inr k) = range 0x61 0x66 (omega arith) (omega arith) k
+
+    go : ((leb 0x30 u and leb u 0x39) ≡ true) ⊎ ((leb 0x41 u and leb u 0x46 || leb 0x61 u and leb u 0x66) ≡ true) → (0x30 ≤ u) × (u < 256)
+    go (inl k) = range 0x30 0x39 (omega arith) (omega arith) k
     go (inr k) = letter (or-cases (leb 0x41 u and leb u 0x46) (leb 0x61 u and leb u 0x66) k)
 
 -- ---- what '#' and other units match
@@ -363,7 +379,7 @@ unfolding unitMatches
 unit-cases p u h = go (eqb p numberSign) h
   where
     go : (b : Bool) → cond b (isHexDigit u) (eqb p u) ≡ true → (p ≡ u) ⊎ (u < 256)
-    go true k = inr (hex-small u k)
+    go true k = inr (hex-range u k .1)
     go false k = inl (eqb-true p u k)
 
 -- ---- the comparison, as loops make it
@@ -389,45 +405,49 @@ unit-nears p u h = go (eqb p numberSign) (eqb p u) h
     go true false k = refl
     go false b k = rw k
 
--- the comparison from byte i on
+-- a comparison of the units of both, pair by pair, from byte i on
+abbrev pub pairsFrom : (ℕ → ℕ → Bool) → Bytes → Bytes → ℕ → Bool
+pairsFrom f p v i = pairwise f (units (drop i p)) (units (drop i v))
+
 abbrev pub matchesFrom : Bytes → Bytes → ℕ → Bool
-matchesFrom p v i = pairwise unitMatches (units (drop i p)) (units (drop i v))
+matchesFrom = pairsFrom unitMatches
 
--- one turn of a loop over the bytes of both, where a and b are the units from byte i on
-module _ (p v : Bytes) (i : ℕ) (h : i + 2 ≤ length p) (g : i + 2 ≤ length v) {a b : ℕ} (ea : a ≡ le16 p i) (eb : b ≡ le16 v i) where
-  matches-step : matchesFrom p v i ≡ (unitMatches a b and matchesFrom p v (i + 2))
+module _ (f : ℕ → ℕ → Bool) where
+  -- one turn of a loop over the bytes of both, where a and b are the units from byte i on
+  module _ (p v : Bytes) (i : ℕ) (h : i + 2 ≤ length p) (g : i + 2 ≤ length v) {a b : ℕ} (ea : a ≡ le16 p i) (eb : b ≡ le16 v i) where
+    pairs-step : pairsFrom f p v i ≡ (f a b and pairsFrom f p v (i + 2))
+    unfolding pairwise
+    pairs-step = rw (units-step p i h, units-step v i g, ea, eb)
+
+    pub pairs-hit : f a b ≡ true → pairsFrom f p v i ≡ pairsFrom f p v (i + 2)
+    unfolding _and_
+    pairs-hit e = pairs-step ∙ rw e
+
+    pub pairs-miss : f a b ≡ false → pairsFrom f p v i ≡ false
+    unfolding _and_
+    pairs-miss e = pairs-step ∙ rw e
+
+    pub pairs-first : pairsFrom f p v i ≡ true → f a b ≡ true
+    pairs-first e = and-left _ _ (sym pairs-step ∙ e)
+
+  -- no whole unit is left of either
+  pub pairs-end : (p v : Bytes) (i : ℕ) → length p < i + 2 → length v < i + 2 → pairsFrom f p v i ≡ true
   unfolding pairwise
-  matches-step = rw (units-step p i h, units-step v i g, ea, eb)
-
-  pub matches-hit : unitMatches a b ≡ true → matchesFrom p v i ≡ matchesFrom p v (i + 2)
-  unfolding _and_
-  matches-hit e = matches-step ∙ rw e
-
-  pub matches-miss : unitMatches a b ≡ false → matchesFrom p v i ≡ false
-  unfolding _and_
-  matches-miss e = matches-step ∙ rw e
-
-  pub matches-first : matchesFrom p v i ≡ true → unitMatches a b ≡ true
-  matches-first e = and-left _ _ (sym matches-step ∙ e)
-
--- no whole unit is left of either
-pub matches-end : (p v : Bytes) (i : ℕ) → length p < i + 2 → length v < i + 2 → matchesFrom p v i ≡ true
-unfolding pairwise
-matches-end p v i h g = rw (units-end p i h, units-end v i g)
+  pairs-end p v i h g = rw (units-end p i h, units-end v i g)
 
 -- one turn of a loop that goes on to its end, j bytes behind i
 module _ (p v : Bytes) (i j : ℕ) (h : i + j + 2 ≤ length p) (g : i + j + 2 ≤ length v) {a b : ℕ} (ea : a ≡ le16 p (i + j)) (eb : b ≡ le16 v (i + j)) where
   behind : i + (j + 2) ≡ i + j + 2
   behind = omega arith
 
-  pub matches-more : {x r : Bool} (ok : Bool) → x ≡ (ok and matchesFrom p v (i + j)) → r ≡ unitMatches a b → x ≡ ((ok && r) and matchesFrom p v (i + (j + 2)))
-  matches-more ok e q =
-      e ∙ rw (q, behind, and-eager, matches-step p v (i + j) h g ea eb) (sym (and-assoc ok (unitMatches a b) (matchesFrom p v (i + j + 2))))
+  pub pairs-more : (f : ℕ → ℕ → Bool) {x r : Bool} (ok : Bool) → x ≡ (ok and pairsFrom f p v (i + j)) → r ≡ f a b → x ≡ ((ok && r) and pairsFrom f p v (i + (j + 2)))
+  pairs-more f ok e q =
+      e ∙ rw (q, behind, and-eager, pairs-step f p v (i + j) h g ea eb) (sym (and-assoc ok (f a b) (pairsFrom f p v (i + j + 2))))
 
   -- a unit that is the same in both, and no '#'
   pub matches-plain : {x : Bool} (ok : Bool) → (ok ≡ true → x ≡ matchesFrom p v (i + j)) → (ok && (eqb a b && not (eqb a numberSign))) ≡ true
       → x ≡ matchesFrom p v (i + (j + 2))
-  matches-plain true f e = f refl ∙ matches-hit p v (i + j) h g ea eb (plain (eqb a b) (eqb a numberSign) refl refl e) ∙ rw behind
+  matches-plain true f e = f refl ∙ pairs-hit unitMatches p v (i + j) h g ea eb (plain (eqb a b) (eqb a numberSign) refl refl e) ∙ rw behind
     where
       plain : (s t : Bool) → eqb a b ≡ s → eqb a numberSign ≡ t → (s && not t) ≡ true → unitMatches a b ≡ true
       plain true false y z k = plain-unit a b z ∙ y
@@ -439,7 +459,7 @@ module _ (p v : Bytes) (i j : ℕ) (h : i + j + 2 ≤ length p) (g : i + j + 2 �
   pub matches-near : {x r : Bool} (ok : Bool) → (x ≡ true → (ok ≡ true) × (matchesFrom p v (i + j) ≡ true)) → (unitMatches a b ≡ true → r ≡ true)
       → x ≡ true → ((ok && r) ≡ true) × (matchesFrom p v (i + (j + 2)) ≡ true)
   matches-near {x} {r} ok f q t =
-      let m : (unitMatches a b and matchesFrom p v (i + j + 2)) ≡ true = sym (matches-step p v (i + j) h g ea eb) ∙ f t .1 in
+      let m : (unitMatches a b and matchesFrom p v (i + j + 2)) ≡ true = sym (pairs-step unitMatches p v (i + j) h g ea eb) ∙ f t .1 in
       (and-eager ok r ∙ and-intro ok r (f t .0) (q (and-left _ _ m)), rw behind (and-right _ _ m))
 
 units-later : (k : ℕ) (s : Bytes) → units (drop (2 * k) s) ≡ drop k (units s)
@@ -449,13 +469,13 @@ units-later (suc k) [] = let n : 2 * suc k ≡ suc (suc (2 * k)) = omega arith i
 units-later (suc k) (a ∷ []) = let n : 2 * suc k ≡ suc (suc (2 * k)) = omega arith in rw n
 units-later (suc k) (a ∷ b ∷ s) = let n : 2 * suc k ≡ suc (suc (2 * k)) = omega arith in rw n (units-later k s)
 
--- names that match do so from each later unit on
-matches-later : (k : ℕ) (p v : Bytes) → pairwise unitMatches (units p) (units v) ≡ true
-    → pairwise unitMatches (units (drop (2 * k) p)) (units (drop (2 * k) v)) ≡ true
-matches-later k p v e = rw (units-later k p, units-later k v) (pairwise-later unitMatches k (units p) (units v) e)
+-- what holds of all pairs of units holds from each later one on
+pairs-later : (f : ℕ → ℕ → Bool) (k : ℕ) (p v : Bytes) → pairwise f (units p) (units v) ≡ true → pairsFrom f p v (2 * k) ≡ true
+pairs-later f k p v e = rw (units-later k p, units-later k v) (pairwise-later f k (units p) (units v) e)
 
--- and in their last n bytes, if they are as long as each other and of whole units
-pub matches-last : (p v : Bytes) → length v % 2 ≡ 0 → pairwise unitMatches (units p) (units v) ≡ true → (n : ℕ) → n ≤ length v → n % 2 ≡ 0 → matchesFrom p v (length v - n) ≡ true
-matches-last p v even m n h e =
+-- and in the last n bytes, if they are as long as each other and of whole units
+pub pairs-last : (f : ℕ → ℕ → Bool) (p v : Bytes) → length v % 2 ≡ 0 → pairwise f (units p) (units v) ≡ true → (n : ℕ) → n ≤ length v → n % 2 ≡ 0
+    → pairsFrom f p v (length v - n) ≡ true
+pairs-last f p v even m n h e =
     let k : 2 * ((length v - n) / 2) ≡ length v - n = omega arith in
-    rw k at (matches-later ((length v - n) / 2) p v m)
+    rw k at (pairs-later f ((length v - n) / 2) p v m)

@@ -12,7 +12,7 @@ use Rattle.lists.specs.ListsLaws.{all-among}
 use Rattle.slices.specs.Test.{_and_}
 use Rattle.slices.specs.Bytes.{Bytes, le16, le32, le64, pairwise}
 use Rattle.names.specs.Name.{units, numberSign, hexDigits, isHexDigit, unitMatches}
-use Rattle.names.specs.NameLaws.{hex-digits, matchesFrom, matches-first, matches-last}
+use Rattle.names.specs.NameLaws.{hex-digits, matchesFrom, pairs-first, pairs-last}
 use Rattle.names.specs.Tail.{unitMask, word, maskAt, TailOf}
 
 -- ---- one unit
@@ -46,7 +46,7 @@ two-and a b x y h k =
     let f : x + 65536 * y ≡ y * 65536 + x = omega arith in
     ap₂ bitAnd e f ∙ and-block 16 b y a x h k ∙ omega arith
 
-word-and : (a b c d w x y z : ℕ) → a < 65536 → b < 65536 → c < 65536 → w < 65536 → x < 65536 → y < 65536
+pub word-and : (a b c d w x y z : ℕ) → a < 65536 → b < 65536 → c < 65536 → w < 65536 → x < 65536 → y < 65536
     → bitAnd (word a b c d) (word w x y z) ≡ word (bitAnd a w) (bitAnd b x) (bitAnd c y) (bitAnd d z)
 word-and a b c d w x y z ha hb hc hw hx hy =
     two-and a _ w _ ha hw
@@ -56,7 +56,7 @@ pub word-same : {a b c d w x y z : ℕ} → a ≡ w → b ≡ x → c ≡ y → 
 word-same e f g h = omega arith
 
 -- eight bytes are four units
-le64-word : (s : Bytes) (i : ℕ) → le64 s i ≡ word (le16 s i) (le16 s (i + 2)) (le16 s (i + 4)) (le16 s (i + 6))
+pub le64-word : (s : Bytes) (i : ℕ) → le64 s i ≡ word (le16 s i) (le16 s (i + 2)) (le16 s (i + 4)) (le16 s (i + 6))
 unfolding le64 le32
 le64-word s i =
     let e : i + 4 + 2 ≡ i + 6 = omega arith in
@@ -66,7 +66,7 @@ le64-word s i =
 abbrev pub InBytes : Bytes → Type 0
 InBytes s = (k : ℕ) → k < length s → getD s k 0 < 256
 
-unit-most : (s : Bytes) → InBytes s → (i : ℕ) → i + 2 ≤ length s → le16 s i < 65536
+pub unit-most : (s : Bytes) → InBytes s → (i : ℕ) → i + 2 ≤ length s → le16 s i < 65536
 unfolding le16
 unit-most s h i l = omega (arith, h i (omega arith), h (i + 1) (omega arith))
 
@@ -75,8 +75,8 @@ module _ (p v : Bytes) (hp : InBytes p) (hv : InBytes v) (as-long : length p ≡
   -- the unit that begins n bytes before the end
   same-bits : (n i : ℕ) → i ≡ length v - n → n ≤ length v → n % 2 ≡ 0 → 2 ≤ n → bitAnd (le16 p i) (unitMask (le16 v i)) ≡ bitAnd (le16 v i) (unitMask (le16 v i))
   same-bits n i z h e k =
-      let f : matchesFrom p v i ≡ true = rw z (matches-last p v even m n h e) in
-      unit-agrees (le16 p i) (le16 v i) (matches-first p v i (omega arith) (omega arith) refl refl f)
+      let f : matchesFrom p v i ≡ true = rw z (pairs-last unitMatches p v even m n h e) in
+      unit-agrees (le16 p i) (le16 v i) (pairs-first unitMatches p v i (omega arith) (omega arith) refl refl f)
 
   masked : (s : Bytes) → InBytes s → (i : ℕ) → i + 8 ≤ length s
       → bitAnd (le64 s i) (maskAt v i)

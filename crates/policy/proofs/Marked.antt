@@ -1,7 +1,7 @@
 -- What the filter tells: an entry whose slot is free, or has another fingerprint, has the target of none that was met, since entries with one target have
 -- one slot and one fingerprint. And the check as it goes on: `Checked` is what is known where the walk has come to an entry, with one law for each way on. Assumes nothing.
 use Prim.Native.Nat.{ℕ, _+_, _/_, _%_, _≤_, _<_}
-use mathlib.Core.Path.{_≡_, refl, sym, ap, ap₂, _∙_}
+use mathlib.Core.Path.{_≡_, refl, sym, ap, ap₂, subst, _∙_}
 use mathlib.Core.List.{List, [], _∷_, _++_, append-assoc}
 use mathlib.Core.Bool.{Bool, true, false, _||_, cond, false≢true}
 use native.Mathlib.Omega.{arith}
@@ -21,20 +21,17 @@ use Rattle.slices.specs.FilterLaws.{filter-met, filter-unmet}
 use Rattle.slices.specs.Chunks.{flat, contains, distinct}
 use Rattle.lists.specs.Lists.{nil}
 use Rattle.slices.specs.ItemsLaws.{or-off, or-left-off, or-right-off, contains-append, contains-one, distinct-apart, distinct-left, distinct-append}
-use Rattle.entry.specs.Entry.{namespaceOf, nameOf, sameTarget}
-use Rattle.entry.specs.EntryLaws.{sameTarget-same, sameTarget-sym, sameTarget-alike}
+use Rattle.entry.specs.Entry.{namespaceOf, nameOf, wellFormed, sameTarget}
+use Rattle.entry.specs.EntryLaws.{namespace-start, sameTarget-same, sameTarget-sym, sameTarget-alike}
+use Rattle.policy.specs.declared.PolicyCheck.{PolicyCheck}
 use Rattle.policy.specs.declared.PolicyCheck.the-variants.{Valid, Invalid}
-use Rattle.policy.specs.Policy.{entryLength, entriesOf, sizesSum, validWithin, policyValid, policyCheck}
-use Rattle.policy.specs.PolicyLaws.{check-invalid}
+use Rattle.policy.specs.Policy.{entryLength, entriesOf, sizesSum, validWithin, checkWithin, policyCheck}
+use Rattle.policy.specs.PolicyLaws.{within-invalid}
 use Rattle.policy.specs.Filter.{slots, keyAt, keyOf, slotOf, fingerprintOf, Marks, marksWith}
 use Rattle.policy.specs.Walk.{At, EntryEnds}
 use Rattle.policy.proofs.Walk.{at-start, at-next, all-met, sum-met, count-met, more-left, whole, grown}
 
 -- ---- the key
--- the namespace's first bytes in the entry
-namespace-start : (e : Bytes) → le32 (namespaceOf e) 0 ≡ le32 e namespaceAt
-namespace-start e = le32-take namespaceBytes (drop namespaceAt e) 0 (omega arith) ∙ le32-drop namespaceAt e 0
-
 pub key-is : {h n : ℕ} {m : Bytes} (e : Bytes) → n ≡ le32 e namespaceAt → m ≡ nameOf e → h ≡ hashFrom n m → keyAt h ≡ keyOf e
 unfolding keyOf
 key-is e a b c = rw (c, a, b, namespace-start e)
@@ -98,22 +95,26 @@ pub repeated : (xs : List Bytes) (q : Bytes) (ys : List Bytes) → contains (sam
 repeated xs q ys h = forced-off (distinct sameTarget (xs ++ (q ∷ ys))) (λ d.
     sym (last-apart xs q (distinct-left sameTarget (xs ++ (q ∷ [])) ys (ap (distinct sameTarget) (append-assoc xs (q ∷ []) ys) ∙ d))) ∙ h)
 
--- ---- the answer
-pub invalid : (p : Bytes) → policyValid p ≡ false → Invalid ≡ policyCheck p
-unfolding policyCheck
-invalid p e = rw e
+-- ---- the answer, under any limit of bytes
+module _ (bytes : ℕ) (p : Bytes) where
+  abbrev valid : Bool
+  valid = validWithin wellFormed maxEntries bytes p
+
+  pub invalid : valid ≡ false → Invalid ≡ checkWithin bytes p
+  unfolding checkWithin
+  invalid e = rw e
+
+  many : maxEntries < length (entriesOf p) → valid ≡ false
+  unfolding validWithin _and_
+  many h = rw (lt-leb (length (entriesOf p)) maxEntries h) (and-no (eqb (length p) bytes))
+
+  double : distinct sameTarget (entriesOf p) ≡ false → valid ≡ false
+  unfolding validWithin
+  double h = rw (h, and-no (allAre 0 (drop (sizesSum p) p)), and-no (leb (length (entriesOf p)) maxEntries)) (and-no (eqb (length p) bytes))
 
 pub invalid-length : (p : Bytes) → (length p ≡ policyBytes → ⊥) → Invalid ≡ policyCheck p
-unfolding policyCheck validWithin _and_
+unfolding checkWithin validWithin _and_
 invalid-length p h = rw (ne-eqb (length p) policyBytes h)
-
-many : (p : Bytes) → maxEntries < length (entriesOf p) → policyValid p ≡ false
-unfolding validWithin _and_
-many p h = rw (lt-leb (length (entriesOf p)) maxEntries h) (and-no (eqb (length p) policyBytes))
-
-double : (p : Bytes) → distinct sameTarget (entriesOf p) ≡ false → policyValid p ≡ false
-unfolding validWithin
-double p h = rw (h, and-no (allAre 0 (drop (sizesSum p) p)), and-no (leb (length (entriesOf p)) maxEntries)) (and-no (eqb (length p) policyBytes))
 
 -- ---- where the entries before index i end
 pub record Noted (ends : List ℕ) (p : Bytes) (i : ℕ) : Type 0 where
@@ -146,17 +147,17 @@ unfolding distinct
 checked-start p t m = record { walk = at-start p; few = omega arith; apart = refl; filter = m }
 
 module _ (p : Bytes) (t : Bytes) (i at n : ℕ) (w : Checked p t i at) (e : entryLength (drop at p) ≡ n) where
-  pub too-many : 0 < n → i ≡ maxEntries → Invalid ≡ policyCheck p
-  too-many h k = invalid p (many p (omega (arith, more-left p i at (w .walk) n e h)))
+  pub too-many : 0 < n → i ≡ maxEntries → Invalid ≡ checkWithin (length p) p
+  too-many h k = invalid (length p) p (many (length p) p (omega (arith, more-left p i at (w .walk) n e h)))
 
   module _ {r : Bool} (k : r ≡ contains (sameTarget (part at (at + n) p)) (take i (entriesOf p))) where
     met : r ≡ contains (sameTarget (take n (drop at p))) (take i (entriesOf p))
     met = rw part-of at k
 
-    pub met-before : 0 < n → r ≡ true → Invalid ≡ policyCheck p
+    pub met-before : 0 < n → r ≡ true → Invalid ≡ checkWithin (length p) p
     met-before h z =
-        invalid p
-        (double p
+        invalid (length p) p
+        (double (length p) p
         (ap (distinct sameTarget) (whole p i at (w .walk) n e h)
         ∙ repeated (take i (entriesOf p)) (take n (drop at p)) (entriesOf (drop (at + n) p)) (sym met ∙ z)))
 
@@ -172,16 +173,16 @@ module _ (p : Bytes) (t : Bytes) (i at n : ℕ) (w : Checked p t i at) (e : entr
         }
 
   -- no entry is left
-  module _ (z : n ≡ 0) (l : length p ≡ policyBytes) where
-    valid-is : policyValid p ≡ allAre 0 (drop at p)
+  module _ (z : n ≡ 0) where
+    valid-is : validWithin wellFormed maxEntries (length p) p ≡ allAre 0 (drop at p)
     unfolding validWithin _and_
     valid-is =
         let k = e ∙ z in
         let d : distinct sameTarget (entriesOf p) ≡ true = ap (distinct sameTarget) (all-met p i at (w .walk) k) ∙ w .apart in
-        rw (eq-eqb (length p) policyBytes l, d, sum-met p i at (w .walk) k, count-met p i at (w .walk) k, le-leb i maxEntries (w .few)) (and-yes (allAre 0 (drop at p)))
+        rw (eq-eqb (length p) (length p) refl, d, sum-met p i at (w .walk) k, count-met p i at (w .walk) k, le-leb i maxEntries (w .few)) (and-yes (allAre 0 (drop at p)))
 
-    pub checked-end : {r : Bool} → r ≡ allAre 0 (drop at p) → policyCheck p ≡ cond r (Valid i at) Invalid
-    unfolding policyCheck
+    pub checked-end : {r : Bool} → r ≡ allAre 0 (drop at p) → checkWithin (length p) p ≡ cond r (Valid i at) Invalid
+    unfolding checkWithin
     checked-end k = rw (valid-is, ← k, sum-met p i at (w .walk) (e ∙ z), count-met p i at (w .walk) (e ∙ z))
 
     pub noted-end : {ends : List ℕ} → Noted ends p i → EntryEnds ends p
@@ -189,6 +190,12 @@ module _ (p : Bytes) (t : Bytes) (i at n : ℕ) (w : Checked p t i at) (e : entr
         let c = count-met p i at (w .walk) (e ∙ z) in
         record { few = omega (arith, c, w .few); end = λ k h. m .noted k (omega (arith, c)) }
 
--- of a record that is not valid nothing was promised
-pub invalid-promise : {A : Type 0} (p : Bytes) → Invalid ≡ policyCheck p → policyValid p ≡ true → A
-invalid-promise p e v = absurd (false≢true (sym (check-invalid p (sym e)) ∙ v))
+-- of what is not valid nothing was promised
+pub invalid-promise : {A : Type 0} (bytes : ℕ) (p : Bytes) → Invalid ≡ checkWithin bytes p → validWithin wellFormed maxEntries bytes p ≡ true → A
+invalid-promise bytes p e v = absurd (false≢true (sym (within-invalid bytes p (sym e)) ∙ v))
+
+-- what holds of a record of just its own length, where that is the right one
+pub of-length : {r : PolicyCheck} {A : Type 0} (n : ℕ) (p : Bytes) → length p ≡ n
+    → (r ≡ checkWithin (length p) p) × (validWithin wellFormed maxEntries (length p) p ≡ true → A)
+    → (r ≡ checkWithin n p) × (validWithin wellFormed maxEntries n p ≡ true → A)
+of-length {r} {A} n p e h = subst (λ (m : ℕ). (r ≡ checkWithin m p) × (validWithin wellFormed maxEntries m p ≡ true → A)) e h

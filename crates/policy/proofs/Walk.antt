@@ -1,12 +1,12 @@
 -- A walk over the entries of a policy record that has come to the entry at index i, whose first byte is at.
 -- Assumes nothing.
 use Prim.Native.Nat.{ℕ, zero, suc, _+_, _-_, _≤_, _<_}
-use mathlib.Core.Path.{_≡_, refl, sym, ap, _∙_}
+use mathlib.Core.Path.{_≡_, refl, sym, ap, subst, _∙_}
 use mathlib.Core.List.{List, [], _∷_, _++_}
 use mathlib.Core.Bool.{Bool, true, false, _||_}
 use native.Mathlib.Omega.{arith}
 use lib.ListN.{length, getD, take, drop, length-append, length-drop, take-append-drop}
-use lib.Seq.{length-take-le, take-add, drop-drop, take-all}
+use lib.Seq.{length-take-le, take-add, drop-drop, take-all, getD-drop}
 use Rattle.limits.specs.Limits.{sizeAt, entryHeader}
 use Rattle.slices.specs.Bytes.{Bytes, le16, part}
 use Rattle.slices.specs.PartLaws.{part-of}
@@ -128,6 +128,51 @@ hand ends p i at q w h =
       formed = rw o (begins p i at w n refl (omega arith) .formed);
       next = rw e a;
     }
+
+-- ---- the entry at an index, where its end and that of the one before it were noted
+at-index : (p : Bytes) (i : ℕ) → i ≤ length (entriesOf p) → At p i (length (flat (take i (entriesOf p))))
+unfolding flat
+at-index p zero h = at-start p
+at-index p (suc i) h =
+    let w = at-index p i (omega arith) in
+    let a = at-next p i _ w _ refl (some-here p i _ w (omega arith)) in
+    let n : i + 1 ≡ suc i = omega arith in
+    subst (λ (m : ℕ). At p m (length (flat (take m (entriesOf p))))) n (rw (a .sum) a)
+
+pub record EntryAt (p : Bytes) (i start end : ℕ) : Type 0 where
+  pub inside : end ≤ length p
+  pub behind : start ≤ end
+  pub is : part start end p ≡ getD (entriesOf p) i []
+  pub formed : wellFormed (part start end p) ≡ true
+
+entry-at : (ends : List ℕ) (p : Bytes) (i start : ℕ) → EntryEnds ends p → i < length (entriesOf p) → start ≡ length (flat (take i (entriesOf p)))
+    → EntryAt p i start (getD ends i 0)
+entry-at ends p i start q h e =
+    let w = at-index p i (omega arith) in
+    let g = hand ends p i _ q w h in
+    let n : i ≡ i + 0 = omega arith in
+    let k : getD (entriesOf p) i [] ≡ take (g .size) (drop (length (flat (take i (entriesOf p)))) p) =
+    ap (λ (m : ℕ). getD (entriesOf p) m []) n ∙ sym (getD-drop i (entriesOf p) 0 []) ∙ ap (λ (l : List Bytes). getD l 0 []) (split p i _ w (g .size) (g .here) (omega (arith, g .least))) in
+    record { inside = g .inside; behind = omega (arith, g .ends, e); is = ap (λ (m : ℕ). part m (getD ends i 0) p) e ∙ g .own ∙ sym k; formed = rw e (g .formed) }
+
+module _ (ends : List ℕ) (p : Bytes) (i : ℕ) (q : EntryEnds ends p) (h : i < length (entriesOf p)) where
+  pub end-inside : getD ends i 0 ≤ length p
+  end-inside = entry-at ends p i _ q h refl .inside
+
+  first-entry : i ≡ 0 → EntryAt p i 0 (getD ends i 0)
+  unfolding flat
+  first-entry z = entry-at ends p i 0 q h (rw z)
+
+  pub first-is : i ≡ 0 → (take (getD ends i 0) p ≡ getD (entriesOf p) i []) × (wellFormed (take (getD ends i 0) p) ≡ true)
+  first-is z =
+      let n : getD ends i 0 ≡ getD ends i 0 - 0 = omega arith in
+      let e = ap (λ (m : ℕ). take m p) n in
+      (e ∙ first-entry z .is, ap wellFormed e ∙ first-entry z .formed)
+
+  pub later-entry : (i ≡ 0 → ⊥) → EntryAt p i (getD ends (i - 1) 0) (getD ends i 0)
+  later-entry z =
+      let n : i - 1 + 1 ≡ i = omega arith in
+      entry-at ends p i (getD ends (i - 1) 0) q h (q .end (i - 1) (omega arith) ∙ ap (λ (m : ℕ). length (flat (take m (entriesOf p)))) n)
 
 -- ---- a search among the first count entries
 module _ (f : Bytes → Bool) (p : Bytes) (count i at n : ℕ) (w : At p i at) (e : entryLength (drop at p) ≡ n) (h : 0 < n) (q : i < count) where

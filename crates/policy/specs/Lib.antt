@@ -1,5 +1,7 @@
 pub mod Policy
 pub mod PolicyLaws
+pub mod Dump
+pub mod DumpLaws
 pub mod Choice
 pub mod ChoiceLaws
 pub mod PlaceLaws

@@ -49,5 +49,9 @@ validWithin ok most bytes p =
 abbrev pub policyValid : Bytes → Bool
 policyValid p = validWithin wellFormed maxEntries policyBytes p
 
-unfoldable pub policyCheck : Bytes → PolicyCheck
-policyCheck p = cond (policyValid p) (Valid (length (entriesOf p)) (sizesSum p)) Invalid
+-- what the check answers of bytes that are to be as many as `bytes`
+unfoldable pub checkWithin : ℕ → Bytes → PolicyCheck
+checkWithin bytes p = cond (validWithin wellFormed maxEntries bytes p) (Valid (length (entriesOf p)) (sizesSum p)) Invalid
+
+abbrev pub policyCheck : Bytes → PolicyCheck
+policyCheck p = checkWithin policyBytes p

@@ -35,7 +35,7 @@ use Rattle.slices.specs.ItemsLaws.{distinct-append}
 use Rattle.entry.specs.Entry.{sizeField, headerOk, wellFormed, sameTarget}
 use Rattle.entry.specs.EntryLaws.{sized, header-least, header-stated, well-formed-header, sameTarget-sym, sameTarget-alike}
 use Rattle.policy.specs.declared.PolicyCheck.the-variants.{Valid, Invalid}
-use Rattle.policy.specs.Policy.{lengthBy, entryLength, entriesOf, sizesSum, packPolicy, validWithin, policyValid, policyCheck}
+use Rattle.policy.specs.Policy.{lengthBy, entryLength, entriesOf, sizesSum, packPolicy, validWithin, policyValid, checkWithin, policyCheck}
 
 -- no byte of a list of zeros is another
 getD-zeros : (k i : ℕ) → _≡_ {A = ℕ} (getD (replicate k 0) i 0) 0
@@ -229,30 +229,41 @@ packs-policy es p k = rw (k .packs) at (entries-policy es (k .entries))
 pub packs-only : (es : List Bytes) (p : Bytes) → Packs es p → entriesOf p ≡ es
 packs-only es p k = rw (k .packs) at (entriesOf-pack es (k .entries .formed))
 
--- what the check's answer tells
-pub record Checked (p : Bytes) (count total : ℕ) : Type 0 where
-  pub valid : policyValid p ≡ true
+-- what the check's answer tells, under any limit of bytes and of a policy record
+pub record CheckedWithin (bytes : ℕ) (p : Bytes) (count total : ℕ) : Type 0 where
+  pub valid : validWithin wellFormed maxEntries bytes p ≡ true
   pub counted : count ≡ length (entriesOf p)
   pub summed : total ≡ sizesSum p
 
-pub check-valid : (p : Bytes) (count total : ℕ) → policyCheck p ≡ Valid count total → Checked p count total
-unfolding policyCheck
-check-valid p count total e = go (policyValid p) refl e
+abbrev pub Checked : Bytes → ℕ → ℕ → Type 0
+Checked p count total = CheckedWithin policyBytes p count total
+
+pub within-valid : (bytes : ℕ) (p : Bytes) (count total : ℕ) → checkWithin bytes p ≡ Valid count total → CheckedWithin bytes p count total
+unfolding checkWithin
+within-valid bytes p count total e = go (validWithin wellFormed maxEntries bytes p) refl e
   where
-    go : (t : Bool) → policyValid p ≡ t → cond t (Valid (length (entriesOf p)) (sizesSum p)) Invalid ≡ Valid count total → Checked p count total
+    go : (t : Bool) → validWithin wellFormed maxEntries bytes p ≡ t → cond t (Valid (length (entriesOf p)) (sizesSum p)) Invalid ≡ Valid count total
+        → CheckedWithin bytes p count total
     go true q k =
         let a : length (entriesOf p) ≡ count = cc in
         let b : sizesSum p ≡ total = cc in
         record { valid = q; counted = sym a; summed = sym b }
     go false q k = absurd (let z : _≡_ {A = ℕ} 0 1 = cc in omega arith)
 
-pub check-invalid : (p : Bytes) → policyCheck p ≡ Invalid → policyValid p ≡ false
-unfolding policyCheck
-check-invalid p e = go (policyValid p) refl e
+pub within-invalid : (bytes : ℕ) (p : Bytes) → checkWithin bytes p ≡ Invalid → validWithin wellFormed maxEntries bytes p ≡ false
+unfolding checkWithin
+within-invalid bytes p e = go (validWithin wellFormed maxEntries bytes p) refl e
   where
-    go : (t : Bool) → policyValid p ≡ t → cond t (Valid (length (entriesOf p)) (sizesSum p)) Invalid ≡ Invalid → policyValid p ≡ false
+    go : (t : Bool) → validWithin wellFormed maxEntries bytes p ≡ t → cond t (Valid (length (entriesOf p)) (sizesSum p)) Invalid ≡ Invalid
+        → validWithin wellFormed maxEntries bytes p ≡ false
     go true q k = absurd (let z : _≡_ {A = ℕ} 0 1 = cc in omega arith)
     go false q k = q
+
+pub check-valid : (p : Bytes) (count total : ℕ) → policyCheck p ≡ Valid count total → Checked p count total
+check-valid = within-valid policyBytes
+
+pub check-invalid : (p : Bytes) → policyCheck p ≡ Invalid → policyValid p ≡ false
+check-invalid = within-invalid policyBytes
 
 -- ---- one entry more
 pub entries-append : (es : List Bytes) (e : Bytes) → Entries es → WellFormed e → contains (sameTarget e) es ≡ false → length es < maxEntries

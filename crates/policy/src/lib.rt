@@ -3,14 +3,15 @@ ghost use mathlib.Core.Path.{_≡_};
 ghost use mathlib.Core.List.{[], _∷_, _++_};
 ghost use mathlib.Core.Bool.{true, _||_, cond};
 ghost use Prim.Native.Nat.{_+_, _≤_, _<_};
-ghost use lib.ListN.{length, take};
+ghost use lib.ListN.{length, getD, take};
 ghost use Rattle.limits.specs.Limits.{noRank, maxEntries, policyBytes};
 ghost use Rattle.slices.specs.Bytes.{part, overwrite};
 ghost use Rattle.slices.specs.Chunks.{flat, contains};
 ghost use Rattle.names.specs.Name.{units, matches, variable};
 ghost use Rattle.names.specs.Tail.{wholeUnits, TailOf};
 ghost use Rattle.entry.specs.Entry.{wellFormed, nameIsEmpty, nameOf, targets, rank, sameTarget};
-ghost use Rattle.policy.specs.Policy.{entryLength, entriesOf, sizesSum, packPolicy, emptyPolicy, policyValid, policyCheck};
+ghost use Rattle.policy.specs.Policy.{entryLength, entriesOf, sizesSum, packPolicy, emptyPolicy, validWithin, policyValid, checkWithin, policyCheck};
+ghost use Rattle.policy.specs.Dump.{dumpValid, dumpCheck};
 ghost use Rattle.policy.specs.Filter.{slots, keyOf, Marks, marksWith};
 ghost use Rattle.policy.specs.Choice.{choiceOf};
 ghost use Rattle.policy.specs.Walk.{At, EntryEnds, Passed};
@@ -111,11 +112,12 @@ fn is_repeated(policy: &[u8], count: usize, e: &[u8], marks: &mut [u8; SLOTS]) -
     false
 }
 
-// The check of a record of the right length, with a filter that has no entry. Where each entry ends is noted.
+// The check of entries and then zeros, whatever the length, with a filter that has no entry. Where each entry ends is noted.
 fn scan(policy: &[u8], marks: &mut [u8; SLOTS], ends: &mut [u16; ENTRIES]) -> PolicyCheck
-    requires { ⌜ (length (now policy) ≡ policyBytes) × Marks (now marks) [] × (length (now ends) ≡ maxEntries) ⌝ }
-    ensures answer { λ r. ⌜ r ≡ policyCheck (now (policy .entry)) ⌝ }
-    ensures noted { λ _. ⌜ (policyValid (now (policy .entry)) ≡ true → EntryEnds (now (ends .exit)) (now (policy .entry))) ⌝ }
+    requires { ⌜ (length (now policy) ≤ policyBytes) × Marks (now marks) [] × (length (now ends) ≡ maxEntries) ⌝ }
+    ensures answer { λ r. ⌜ r ≡ checkWithin (length (now (policy .entry))) (now (policy .entry)) ⌝ }
+    ensures noted { λ _. ⌜ (validWithin wellFormed maxEntries (length (now (policy .entry))) (now (policy .entry)) ≡ true
+        → EntryEnds (now (ends .exit)) (now (policy .entry))) ⌝ }
 {
     let mut count = 0;
     let mut used = 0;
@@ -172,6 +174,41 @@ pub fn check(policy: &[u8]) -> PolicyCheck
 {
     let mut ends = no_ends();
     check_noting(policy, &mut ends)
+}
+
+// The check of a dump (RULES.md, 10.11), which notes where each entry ends: a record without a length of its own, and nothing behind the entries.
+pub fn check_dump(dump: &[u8], ends: &mut [u16; ENTRIES]) -> PolicyCheck
+    requires { ⌜ length (now ends) ≡ maxEntries ⌝ }
+    ensures answer { λ r. ⌜ r ≡ dumpCheck (now (dump .entry)) ⌝ }
+    ensures noted { λ _. ⌜ (dumpValid (now (dump .entry)) ≡ true → EntryEnds (now (ends .exit)) (now (dump .entry))) ⌝ }
+{
+    if limits::POLICY_BYTES < dump.len() {
+        return PolicyCheck::Invalid;
+    }
+    let mut marks = no_marks();
+    match scan(dump, &mut marks, ends) {
+        PolicyCheck::Invalid => PolicyCheck::Invalid,
+        PolicyCheck::Valid { count, used } => {
+            if used < dump.len() {
+                return PolicyCheck::Invalid;
+            }
+            PolicyCheck::Valid { count, used }
+        }
+    }
+}
+
+// The entry at index, of those whose ends were noted.
+pub fn entry_at<'a>(policy: &'a [u8], ends: &[u16; ENTRIES], index: usize) -> &'a [u8]
+    requires { ⌜ (index < length (entriesOf (now policy))) × EntryEnds (now ends) (now policy) ⌝ }
+    ensures is { λ r. ⌜ now r ≡ getD (entriesOf (now (policy .entry))) index [] ⌝ }
+    ensures formed { λ r. ⌜ wellFormed (now r) ≡ true ⌝ }
+{
+    let end = ends[index] as usize;
+    if index == 0 {
+        return &policy[..end];
+    }
+    let start = ends[index - 1] as usize;
+    &policy[start..end]
 }
 
 // Whether an entry of the record has the namespace and the name of e: what registration answers 20 to.

@@ -10,6 +10,8 @@ use Rattle.switches.specs.declared.Switches.{Switches}
 use Rattle.switches.specs.declared.SwitchAnswer.{SwitchAnswer}
 use Rattle.switches.specs.SwitchBytes.{bytesOf}
 use Rattle.switches.specs.SwitchBytesLaws.{bytes-read-back}
+use Rattle.quarrels.specs.declared.Verdict.{Verdict}
+use Rattle.quarrels.specs.Quarrel.{quarrelsOf, bufferAfter}
 use Rattle.rules.specs.Engine.{State, Answer, Call, stateOf, onlyStatus, handBack, withReport, step}
 use Rattle.engine.specs.declared.DumpAnswer.{DumpAnswer}
 use Rattle.engine.specs.declared.QueryAnswer.{QueryAnswer}
@@ -17,7 +19,8 @@ use Rattle.engine.specs.declared.SetAnswer.{SetAnswer}
 use Rattle.engine.specs.Answers.{dumpAnswer, queryAnswer}
 use Rattle.varpolicy.specs.declared.Started.{Started}
 use Rattle.varpolicy.specs.declared.Reported.{Reported}
-use Rattle.varpolicy.specs.Exports.{Numbered, numbered, statusAlone, startedAnswer, standing, dumpedAnswer, queriedAnswer, reportedOf, writtenAnswer}
+use Rattle.varpolicy.specs.declared.Quarrelled.{Quarrelled}
+use Rattle.varpolicy.specs.Exports.{Numbered, numbered, statusAlone, startedAnswer, standing, dumpedAnswer, queriedAnswer, reportedOf, writtenAnswer, quarrelledOf, quarrelled}
 
 module _ {x : Answer × State} {s : State} where
   pub status-numbered : {n : ℕ} (a : Status) → x ≡ (onlyStatus a, s) → n ≡ statusNumber a → numbered x ≡ (statusAlone n, s)
@@ -68,3 +71,8 @@ module _ (nv vol policy : Bytes) (w : Switches) (a : SwitchAnswer) where
       ap (λ b. numbered (step s (call b))) (sym same) ∙ ap numbered e
       ∙ ap₂ leaves (sym (zero-success (a .status))) (sym (bytes-read-back (a .switches)))
       ∙ ap (λ r. (startedAnswer r, stateOf nv vol policy (standing r w))) (sym k)
+
+-- ---- the check of a dump
+-- its verdict v, and b in the buffer, is what the record r says
+pub quarrelled-is : {v w : Verdict} {r : Quarrelled} {b : Bytes} (dump buffer : Bytes) → v ≡ quarrelsOf dump → b ≡ bufferAfter dump buffer → v ≡ w → r ≡ quarrelledOf w → quarrelled dump buffer ≡ (r, b)
+quarrelled-is dump buffer e k m h = ap₂ (λ (x : Quarrelled) (y : Bytes). (x, y)) (ap quarrelledOf (sym e ∙ m) ∙ sym h) (sym k)

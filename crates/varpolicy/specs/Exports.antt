@@ -3,13 +3,18 @@
 use Prim.Native.Nat.{ℕ, _+_, _-_, _≤_}
 use mathlib.Core.Path.{_≡_}
 use mathlib.Core.List.{[]}
-use mathlib.Core.Bool.{cond}
+use mathlib.Core.Bool.{true, false, cond}
 use mathlib.Core.Option.{Option, none, some}
 use lib.Dec.{eqb}
 use lib.ListN.{length}
 use Rattle.slices.specs.Bytes.{Bytes, part}
 use Rattle.names.specs.Name.{Variable}
+use Rattle.quarrels.specs.declared.Verdict.{Verdict}
+use Rattle.quarrels.specs.declared.Verdict.the-variants.{NoDump, NoQuarrel, Found}
+use Rattle.quarrels.specs.Quarrel.{quarrelsOf, bufferAfter}
 use Rattle.store.specs.Record.{hasNV}
+use Rattle.status.specs.declared.Status.{Status}
+use Rattle.status.specs.declared.Status.the-variants.{Success, InvalidParameter}
 use Rattle.status.specs.Status.{statusNumber}
 use Rattle.switches.specs.declared.Switches.{Switches}
 use Rattle.switches.specs.declared.SwitchBytes.{SwitchBytes}
@@ -25,6 +30,7 @@ use Rattle.varpolicy.specs.declared.Queried.{Queried}
 use Rattle.varpolicy.specs.declared.Read.{Read}
 use Rattle.varpolicy.specs.declared.Reported.{Reported}
 use Rattle.varpolicy.specs.declared.Written.{Written}
+use Rattle.varpolicy.specs.declared.Quarrelled.{Quarrelled}
 
 -- an answer with the number of its status, the switches in bytes, and the report in numbers
 pub record Numbered : Type 0 where
@@ -118,3 +124,16 @@ pub record NumberedRead (s : State) (v : Variable) (r : Read) : Type 0 where
   -- the non-volatile store is named for a variable that has NV, and all of the payload lies within the store named
   pub store : r .«non_volatile» ≡ hasNV (r .attributes)
   pub within : r .offset + r .length ≤ length (storeNamed r s)
+
+-- the check of a dump: 2 for what is none, and else 0; without a pair every number is 0
+abbrev pub noPair : Status → Quarrelled
+noPair s = record { status = statusNumber s; found = false; earlier = 0; later = 0; «name_length» = 0 }
+
+abbrev pub quarrelledOf : Verdict → Quarrelled
+quarrelledOf NoDump = noPair InvalidParameter
+quarrelledOf NoQuarrel = noPair Success
+quarrelledOf (Found i j n) = record { status = statusNumber Success; found = true; earlier = i; later = j; «name_length» = n }
+
+-- and the buffer afterwards
+abbrev pub quarrelled : Bytes → Bytes → Quarrelled × Bytes
+quarrelled dump buffer = (quarrelledOf (quarrelsOf dump), bufferAfter dump buffer)

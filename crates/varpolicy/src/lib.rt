@@ -15,7 +15,8 @@ ghost use Rattle.rules.specs.Engine.Call.{powerOn, restart, register, dump, loc
 ghost use Rattle.rules.specs.Set.{requestOf};
 ghost use Rattle.rules.specs.Report.{groundNumber};
 ghost use Rattle.engine.specs.Answers.{readingOf};
-ghost use Rattle.varpolicy.specs.Exports.{numbered, statusAlone, startedAnswer, standing, dumpedAnswer, queriedAnswer, readOf, NumberedRead, reportedOf, writtenAnswer};
+ghost use Rattle.varpolicy.specs.Exports.{numbered, statusAlone, startedAnswer, standing, dumpedAnswer, queriedAnswer, readOf, NumberedRead, reportedOf, writtenAnswer, noPair, quarrelled};
+use quarrels::Verdict;
 use rules::Ground;
 use rules::Report;
 use status::Status;
@@ -77,6 +78,16 @@ pub struct Reported {
 pub struct Written {
     pub status: u32,
     pub report: Reported,
+}
+
+// What the check of a dump answers (RULES.md, 10.11): whether two entries quarrel, their places counted from 0, and the bytes of the name.
+#[repr(C)]
+pub struct Quarrelled {
+    pub status: u32,
+    pub found: bool,
+    pub earlier: u32,
+    pub later: u32,
+    pub name_length: usize,
 }
 
 // A start's answer with the number of its status, and the switches in bytes.
@@ -292,5 +303,41 @@ pub extern "C" fn varpolicy_set_e1(
     Written {
         status: number(status),
         report: numbered_report(report),
+    }
+}
+
+// The answer without a pair.
+fn no_pair(status: Status) -> Quarrelled
+    ensures { λ r. ⌜ r ≡ noPair status ⌝ }
+{
+    Quarrelled {
+        status: number(status),
+        found: false,
+        earlier: 0,
+        later: 0,
+        name_length: 0,
+    }
+}
+
+// The quarrels of a dump: the first two of its entries that have equal ranks and target one variable, and the smallest name that both target at
+// the front of the buffer. Not a call on an engine: no part of a state is lent.
+#[no_mangle]
+pub extern "C" fn varpolicy_quarrels(dump: &[u8], name: &mut [u8; 128]) -> Quarrelled
+    ensures { λ r. ⌜ quarrelled (now (dump .entry)) (now (name .entry)) ≡ (r, now (name .exit)) ⌝ }
+{
+    match quarrels::quarrels(dump, name) {
+        Verdict::NoDump => no_pair(Status::InvalidParameter),
+        Verdict::NoQuarrel => no_pair(Status::Success),
+        Verdict::Found {
+            earlier,
+            later,
+            length,
+        } => Quarrelled {
+            status: number(Status::Success),
+            found: true,
+            earlier: earlier as u32,
+            later: later as u32,
+            name_length: length,
+        },
     }
 }

@@ -31,6 +31,8 @@ pub enum Call {
     },
     /// Dumps the entries.
     Dump,
+    /// Looks for two entries that quarrel, in the entries as a dump; the name goes to the front of the buffer.
+    Quarrels,
 }
 
 /// Who makes the call.
@@ -62,12 +64,16 @@ impl Call {
                 answer([status as usize])
             }
             Call::Dump => dump(who, lent),
+            Call::Quarrels => quarrels(who, lent),
         }
     }
 
     /// Whether an answer tells that what is lent is not sound or not valid.
-    pub fn is_refused(answer: &Answer) -> bool {
-        answer[0] == plain::VOLUME_CORRUPTED
+    pub fn is_refused(&self, answer: &Answer) -> bool {
+        match self {
+            Call::Quarrels => answer[0] == plain::INVALID_PARAMETER,
+            _ => answer[0] == plain::VOLUME_CORRUPTED,
+        }
     }
 }
 
@@ -117,6 +123,19 @@ fn dump(who: Who, lent: &mut Lent) -> Answer {
         Who::Standard | Who::Small => plain::dump(&lent.policy, &mut lent.buffer),
     };
     answer([status as usize, length])
+}
+
+fn quarrels(who: Who, lent: &mut Lent) -> Answer {
+    let Lent { policy, policy_end, buffer, .. } = lent;
+    let (dump, name) = (&policy[..*policy_end], buffer.first_chunk_mut().expect("room for a name"));
+    let plain::Quarrelled { status, found, earlier, later, name_length } = match who {
+        Who::Library => {
+            let calls::Quarrelled { status, found, earlier, later, name_length } = calls::quarrels(dump, name);
+            plain::Quarrelled { status: status.number(), found, earlier, later, name_length }
+        }
+        Who::Standard | Who::Small => plain::quarrels(dump, name),
+    };
+    answer([status as usize, found.into(), earlier, later, name_length])
 }
 
 fn plain_switches(switches: Switches) -> plain::Switches {

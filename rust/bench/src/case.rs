@@ -16,7 +16,7 @@ impl Work {
     /// Whether an answer tells that what is lent is not sound or not valid.
     pub fn is_refused(&self, answer: &Answer) -> bool {
         match self {
-            Work::Call(_) => Call::is_refused(answer),
+            Work::Call(call) => call.is_refused(answer),
             Work::Part(part) => part.is_refused(answer),
         }
     }

@@ -124,6 +124,19 @@ pub fn register() -> Group {
     Group { title, columns: &["library", "ordinary"], ratios: &["to ord."], cases, growth: Vec::new() }
 }
 
+/// Two entries of a dump that quarrel. The library is held to a bar where the dump is longest.
+pub fn quarrels() -> Group {
+    let case = |count: usize, (what, entries): (&str, Vec<Entry>)| {
+        let lent = inputs::with_entries(&entries);
+        let bar = (count == MAX_ENTRIES).then_some(Bar::AtMost(1.25));
+        Case { bar, ..Case::new(format!("quarrels, {count} entries, {what}"), Work::Call(Call::Quarrels), lent) }
+    };
+    let of_count = |count: usize| inputs::dumps(count).into_iter().map(move |dump| (count, dump));
+    let cases = COUNTS.into_iter().flat_map(of_count).map(|(count, dump)| case(count, dump)).collect();
+    let title = "quarrels of a dump";
+    Group { title, columns: &["library", "ordinary"], ratios: &["to ord."], cases, growth: Vec::new() }
+}
+
 /// The choice and what the chosen entry says: a set, less the same set with the engine disabled.
 pub fn choice_in_set() -> Group {
     let case = |count: usize, (what, entries, name): Policy| Case {

@@ -129,6 +129,74 @@ pub fn with_triggers(count: usize, units: usize) -> Vec<Entry> {
     numbered(count, 8).into_iter().map(|entry| Entry { lock, ..entry }).collect()
 }
 
+/// Dumps of `count` entries: what they are, and the entries. No two of these quarrel but where it is said.
+pub fn dumps(count: usize) -> Vec<(&'static str, Vec<Entry>)> {
+    let entry = |name: String| Entry::new(OURS, text(&name));
+    let at_one_place: Vec<Entry> = (0..count).map(|number| entry(format!("Boot#{number:03X}"))).collect();
+    let with = |place: usize, name: String| {
+        let mut entries = at_one_place.clone();
+        entries[place] = entry(name);
+        entries
+    };
+    // Numbers, and behind them four '#', or four units of which one in turn is '#': no two are told by the last four.
+    let before = |units: usize| {
+        let name = move |number: usize| entry(format!("{number:04X}{}####", "N".repeat(units - 8)));
+        (0..count).map(name).collect()
+    };
+    let wandering = |units: usize| {
+        let ends = ["#000", "0#00", "00#0", "000#"];
+        let name = move |number: usize| entry(format!("{number:03X}{}{}", "N".repeat(units - 7), ends[number % 4]));
+        (0..count).map(name).collect()
+    };
+    vec![
+        ("names of 8 units", numbered(count, 8)),
+        ("names of 41 units", numbered(count, 41)),
+        ("names by chance", by_chance(count)),
+        ("# at one place of 8", at_one_place.clone()),
+        ("# at the last four of 8", before(8)),
+        ("# at the last four of 41", before(41)),
+        ("# at one of the last four of 8", wandering(8)),
+        ("# at one of the last four of 41", wandering(41)),
+        ("the first two quarrel", with(1, "Boot0#00".into())),
+        ("the last two quarrel", with(count - 1, format!("Boot0#{:02X}", count - 2))),
+    ]
+}
+
+/// `count` entries by chance, of which no two target one variable: names of 4 to 20 units in three namespaces, a quarter
+/// of them with one to four '#'.
+fn by_chance(count: usize) -> Vec<Entry> {
+    let mut seed = 1_u64;
+    let mut below = |most: usize| {
+        seed = seed.wrapping_mul(6_364_136_223_846_793_005).wrapping_add(1);
+        (seed >> 33) as usize % most
+    };
+    let mut entries: Vec<Entry> = Vec::new();
+    while entries.len() < count {
+        let mut namespace = OURS;
+        namespace[0] ^= below(3) as u8;
+        let mut units: Vec<u16> =
+            (0..4 + below(17)).map(|_| b"0123456789ABCDEFabcdefghijklmnopqrst"[below(36)].into()).collect();
+        if entries.len() % 4 == 3 {
+            for _ in 0..1 + below(4) {
+                let place = below(units.len());
+                units[place] = b'#'.into();
+            }
+        }
+        let entry = Entry::new(namespace, Name::from_units(units).expect("at most 64 units"));
+        if entries.iter().all(|known| known.namespace != entry.namespace || !is_like(&known.name, &entry.name)) {
+            entries.push(entry);
+        }
+    }
+    entries
+}
+
+/// Whether two names have as many units, and where these differ a '#'.
+fn is_like(own: &[u8], other: &[u8]) -> bool {
+    let sign = [b'#', 0];
+    let fits = |(own, other): (&[u8; 2], &[u8; 2])| own == other || *own == sign || *other == sign;
+    own.len() == other.len() && own.as_chunks().0.iter().zip(other.as_chunks().0).all(fits)
+}
+
 /// What a policy is, its entries, and the name of a variable to set.
 pub type Policy = (&'static str, Vec<Entry>, Name);
 

@@ -46,7 +46,8 @@ over the same bytes. standard, small: with the standard library's hash table, or
 every key compared with all before it. whole, by unit: a walk over the records that compares a name at once, or its
 first unit first. Every call checks all it is lent: two stores of 32,768 bytes with records of 40 bytes or, where entries
 are named, one of 256 bytes. Names of one slot share a slot of the filter in the library's check. In rows of triggers
-all entries have the same one, and names of 8 units.
+all entries have the same one, and names of 8 units. In those of quarrels the entries are one dump; where '#' is named,
+all have it in one namespace, as often and in names of one length.
 A choice or a search trusts the check before it, so it is the difference of two calls of one function, with and without
 it: a set with the engine enabled and disabled, or a name and an empty one. Both run the same machine code, whatever the
 compiler inlined; the count of a function by its name would depend on that. The checks are calls that stop behind them.
@@ -56,9 +57,10 @@ pairwise. (memset and memmove are then told to use vector instructions: of `rep 
 ";
 
 /// The groups of cases. Each is made by itself, so that a run under valgrind makes only its own.
-const GROUPS: [fn(&[u32]) -> Group; 10] = [
+const GROUPS: [fn(&[u32]) -> Group; 11] = [
     |_| groups::whole(),
     |_| groups::register(),
+    |_| groups::quarrels(),
     |_| groups::choice_in_set(),
     |_| groups::choice(),
     |_| groups::comparison(),

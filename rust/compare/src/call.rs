@@ -101,7 +101,7 @@ pub fn by_library(state: &mut State, call: &Call) -> Answer {
     }
 }
 
-/// What decided a call: the reference's ground for a registration or a set, else the status alone.
+/// What decided a call: the reference's ground for a registration or a set, what was found, or the status alone.
 #[derive(Clone, Copy, PartialEq, Eq, PartialOrd, Ord, Debug)]
 #[allow(missing_docs)]
 pub enum Ground {
@@ -112,6 +112,8 @@ pub enum Ground {
     QueryEnabled,
     QueryDisabled,
     Set(SetGround),
+    Quarrel,
+    NoQuarrel,
 }
 
 /// Makes the call through the reference.
@@ -192,7 +194,8 @@ fn start(switches: &mut SwitchBytes, status: Status, handed: SwitchBytes) -> Ans
     Answer { status, values: Values::Started(handed) }
 }
 
-fn translate(status: reference::Status) -> Status {
+/// The reference's status, as the library gives it.
+pub fn translate(status: reference::Status) -> Status {
     Status::from_number(status as u32).expect("both have UEFI's numbers")
 }
 

@@ -11,7 +11,7 @@ use std::fmt;
 use varpolicy::Status;
 
 /// Every answer that can be hit: the call, the status, what decided it, and that in words.
-const ANSWERS: [(&str, Status, Ground, &str); 50] = [
+const ANSWERS: [(&str, Status, Ground, &str); 53] = [
     ("power-on", Status::VolumeCorrupted, Ground::Status, ""),
     ("power-on", Status::Success, Ground::Status, ""),
     ("restart", Status::VolumeCorrupted, Ground::Status, ""),
@@ -62,6 +62,9 @@ const ANSWERS: [(&str, Status, Ground, &str); 50] = [
     ("set", Status::Success, Ground::Set(S::AppendCreated), "step 10: append creates"),
     ("set", Status::Success, Ground::Set(S::AppendJoined), "step 10: append joins"),
     ("rebuild", Status::Success, Ground::Status, "every call of it"),
+    ("quarrels", Status::InvalidParameter, Ground::Status, "no dump"),
+    ("quarrels", Status::Success, Ground::Quarrel, "two entries quarrel"),
+    ("quarrels", Status::Success, Ground::NoQuarrel, "no two quarrel"),
 ];
 
 /// A group of inputs.
@@ -122,6 +125,17 @@ pub enum Input {
     Rebuild,
     AfterReorder,
     ReportReordered,
+    QuarrelPair,
+    QuarrelUnits,
+    QuarrelLock,
+    QuarrelTrigger,
+    QuarrelLimit,
+    NoQuarrel,
+    ApartUnits,
+    NoDump,
+    QuarrelRefused,
+    Dump,
+    QuarrelRebuilt,
 }
 
 /// Every group of inputs with its title and what is counted in it, in the order of [`Input`].
@@ -249,6 +263,21 @@ fn groups() -> Vec<Group> {
             "reports while the order differs, and the place of the entry",
             labels::report_reordered_labels(),
         ),
+        Group::new(QuarrelPair, "two entries that quarrel, and other pairs that do", labels::QUARREL_PAIR),
+        Group::new(QuarrelUnits, "quarrel: units of the earlier entry and the later", labels::quarrel_unit_labels()),
+        Group::new(QuarrelLock, "quarrel: locks of the earlier entry and the later", labels::quarrel_lock_labels()),
+        Group::new(QuarrelTrigger, "two entries with triggers, asked for a quarrel", labels::quarrel_trigger_labels()),
+        Group::new(QuarrelLimit, "dump at a limit, asked for a quarrel", labels::quarrel_limit_labels()),
+        Group::new(NoQuarrel, "no two entries quarrel", labels::NO_QUARREL),
+        Group::new(
+            ApartUnits,
+            "no quarrel for the units at one place alone, the earlier entry's and the later's",
+            labels::apart_unit_labels(),
+        ),
+        Group::new(NoDump, "no dump, for this alone", labels::NO_DUMP),
+        Group::new(QuarrelRefused, "no dump, for this alone, though two entries quarrel", labels::QUARREL_REFUSED),
+        Group::new(Dump, "damage to a dump", damage::DUMP),
+        Group::new(QuarrelRebuilt, "rebuild's dump, asked for a quarrel", ["none", "two entries quarrel"]),
     ]
 }
 

@@ -1,4 +1,4 @@
-//! Damage to entries, stores and policy records. What results may still be sound: both
+//! Damage to entries, stores, policy records and dumps. What results may still be sound: both
 //! implementations are asked.
 
 use crate::FORMER_POLICY_BYTES;
@@ -268,6 +268,49 @@ pub fn policy(random: &mut Random, pool: &Pool, record: &mut Vec<u8>) -> usize {
         }
     }
     kind
+}
+
+/// What can be done to a dump.
+pub const DUMP: [&str; 10] = [
+    "nothing",
+    "one bit",
+    "cut short",
+    "a byte behind",
+    "zeros behind",
+    "an entry repeated",
+    "a damaged entry",
+    "entries over the limit",
+    "sum over the limit",
+    "a policy record of it",
+];
+
+/// A dump of these entries with one thing done to it, which is told by its place in [`DUMP`].
+pub fn dump(random: &mut Random, pool: &Pool, mut entries: Vec<Vec<u8>>) -> (usize, Vec<u8>) {
+    let kind = if random.one_in(2) { 0 } else { random.below(DUMP.len()) };
+    let place = random.below(entries.len() + 1);
+    match kind {
+        5 if !entries.is_empty() => {
+            let repeat = entries[random.below(entries.len())].clone();
+            entries.insert(place, repeat);
+        }
+        6 => entries.insert(place, entry(random, pool).1),
+        7 => entries.extend(make::entries_of_size(44, MAX_ENTRIES + 1 - entries.len())),
+        8 => entries.extend(make::entries_of_size(make::LONGEST, POLICY_BYTES / make::LONGEST + 1)),
+        _ => {}
+    }
+    let mut bytes = entries.concat();
+    match kind {
+        1 if !bytes.is_empty() => {
+            let place = random.below(bytes.len());
+            bytes[place] ^= 1 << random.below(8);
+        }
+        2 => bytes.truncate(bytes.len().saturating_sub(random.pick(&[1, 2, 44]))),
+        3 => bytes.push(random.byte()),
+        4 => bytes.extend(vec![0; random.pick(&[1, 2, 44, 100])]),
+        9 => bytes.resize(POLICY_BYTES, 0),
+        _ => {}
+    }
+    (kind, bytes)
 }
 
 /// Puts '#' at some place of the trigger's name of an entry, or an entry with such a trigger behind the others.

@@ -3,13 +3,15 @@
 //! A history that began with a power-on is also run by the library a second time without its
 //! rebuilds: every answer and every byte of the stores and switches must be the same, and the policy
 //! record, granted dumps and the places in reports may differ only in the order of the entries, and only
-//! after a rebuild in another order (docs/RULES.md, 12.5).
+//! after a rebuild in another order (docs/RULES.md, 12.5). The dumps of rebuilds, and random ones beside
+//! each history, are asked for quarrels (10.11).
 
 use crate::call::{Answer, Call, Ground, Values, by_library};
 use crate::comparison::{Comparison, Sides, check};
 use crate::coverage::Input;
 use crate::inputs::reports::ground_place;
 use crate::make::{Pool, packed};
+use crate::quarrels::{OLD_NAME, share_a_target};
 use crate::random::Random;
 use crate::state::State;
 use crate::{FORMER_ENTRIES, damage, make};
@@ -19,12 +21,14 @@ use varpolicy::{MAX_STORE_BYTES, Report, Status, SwitchBytes};
 /// Adds at least `calls` calls to a comparison, or tells the first difference in words.
 pub fn run(comparison: &mut Comparison, calls: u64, seed: u64) -> Result<(), String> {
     let enough = comparison.calls + calls;
-    let mut run = Run { random: Random::new(seed), pool: Pool::default(), comparison };
+    let (random, dumps) = (Random::new(seed), Random::new(!seed));
+    let mut run = Run { random, dumps, pool: Pool::default(), comparison };
     let mut number = 0;
     while run.comparison.calls < enough {
         number += 1;
         run.pool = Pool::new(&mut run.random);
         let outcome = if run.random.one_in(5) { run.unrelated_calls() } else { run.history() };
+        let outcome = outcome.and_then(|()| run.random_dumps());
         outcome.map_err(|what| format!("seed {seed}, history {number}, {what}"))?;
     }
     Ok(())
@@ -32,6 +36,8 @@ pub fn run(comparison: &mut Comparison, calls: u64, seed: u64) -> Result<(), Str
 
 struct Run<'a> {
     random: Random,
+    /// For the dumps, so that they change no history.
+    dumps: Random,
     /// The names that the history at hand uses most.
     pool: Pool,
     comparison: &'a mut Comparison,
@@ -99,6 +105,19 @@ impl Run<'_> {
                 self.comparison.exchange(&mut sides, &call)?;
                 state = sides.library;
             }
+        }
+        Ok(())
+    }
+
+    /// Random dumps, damaged or not, asked for quarrels.
+    fn random_dumps(&mut self) -> Result<(), String> {
+        for _ in 0..8 {
+            let random = &mut self.dumps;
+            let entries = make::quarrelsome(random);
+            let (kind, dump) = damage::dump(random, &self.pool, entries);
+            let old = random.bytes(OLD_NAME.len()).try_into().expect("as many");
+            self.comparison.coverage.input(Input::Dump, kind);
+            self.comparison.quarrels(&dump, &old)?;
         }
         Ok(())
     }
@@ -254,7 +273,8 @@ impl Run<'_> {
             Some(entries) => entries,
             None => self.dump_for_rebuild(history)?,
         };
-        let reorder = entries.len() > 1 && self.random.one_in(2) && !quarrel(&entries)?;
+        let quarrel = self.asked_for_quarrel(&entries)?;
+        let reorder = entries.len() > 1 && self.random.one_in(2) && !quarrel;
         if reorder {
             self.random.shuffle(&mut entries);
         }
@@ -275,6 +295,14 @@ impl Run<'_> {
         history.order = entries;
         self.count_rebuild(&history.order, is_older, reorder);
         compare_states(history)
+    }
+
+    /// Whether two of the entries quarrel, as both sides say of a dump of them.
+    fn asked_for_quarrel(&mut self, entries: &[Vec<u8>]) -> Result<bool, String> {
+        let found = self.comparison.quarrels(&entries.concat(), &OLD_NAME)?.answer.found;
+        check(found == quarrel(entries)?, "entries are unambiguous, and their dump has a quarrel, or neither")?;
+        self.comparison.coverage.input(Input::QuarrelRebuilt, found.into());
+        Ok(found)
     }
 
     /// The entries of a dump that the rebuild takes itself, into a buffer that is long enough.
@@ -404,12 +432,4 @@ fn quarrel(entries: &[Vec<u8>]) -> Result<bool, String> {
     Ok(pairs.any(|(entry, other)| {
         entry.namespace == other.namespace && entry.rank() == other.rank() && share_a_target(&entry.name, &other.name)
     }))
-}
-
-/// Whether some name is matched by both patterns.
-fn share_a_target(pattern: &[u16], other: &[u16]) -> bool {
-    let number_sign = 0x23;
-    let digit = |unit: u16| char::from_u32(unit.into()).is_some_and(|unit| unit.is_ascii_hexdigit());
-    let meet = |a: u16, b: u16| a == b || (a == number_sign && digit(b)) || (b == number_sign && digit(a));
-    pattern.len() == other.len() && pattern.iter().zip(other).all(|(a, b)| meet(*a, *b))
 }

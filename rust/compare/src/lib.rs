@@ -9,6 +9,7 @@ pub mod damage;
 pub mod drive;
 pub mod inputs;
 pub mod make;
+pub mod quarrels;
 pub mod random;
 pub mod state;
 pub mod steps;

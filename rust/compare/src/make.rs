@@ -297,6 +297,28 @@ pub fn dump(random: &mut Random, needed: usize) -> Call {
     Call::Dump { buffer: vec![random.byte(); len] }
 }
 
+/// Distinct entries of few units, lengths and namespaces, so that many quarrel.
+pub fn quarrelsome(random: &mut Random) -> Vec<Vec<u8>> {
+    let (mut known, mut entries) = (BTreeSet::new(), Vec::new());
+    let (length, namespaces) = (random.pick(&[1, 2, 2, 3, 3, 4, 8, 64]), 1 + random.below(3));
+    let units = random.pick(&["#0", "#0A", "#09af", "#0GX", "#AaZ\u{123}", "##0123456789ABCDEFabcdefXY"]);
+    let units: Vec<u16> = units.encode_utf16().collect();
+    for _ in 0..random.pick(&[0, 1, 2, 2, 3, 4, 6, 10, MAX_ENTRIES]) {
+        let shorter = if random.one_in(8) { random.below(length + 1) } else { length };
+        let name: Vec<u16> = (0..shorter).map(|_| random.pick(&units)).collect();
+        let mut fields = EntryFields::new(numbered(random.below(namespaces)), &name);
+        if !known.insert((fields.namespace, name)) {
+            continue;
+        }
+        fields.lock_type = random.below(4) as u8;
+        if fields.lock_type == 3 {
+            fields = fields.with_trigger(G, &vec![random.pick(&[0x30, 0x41]); length.min(4)], random.byte());
+        }
+        entries.push(fields.pack());
+    }
+    entries
+}
+
 /// A few names and namespaces that one history uses most, so that its calls meet each other.
 #[derive(Clone, Debug, Default)]
 pub struct Pool {

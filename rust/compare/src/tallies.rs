@@ -1,5 +1,5 @@
 //! Inputs that are too many to be listed, and of which each must be hit: units of names, and places in names of every
-//! length; and what the numbers of reports can be.
+//! length; what the numbers of reports can be; and what quarrels can be.
 
 use reference::{MAX_ENTRIES, MAX_UNITS};
 use std::fmt;
@@ -39,6 +39,18 @@ pub enum Each {
     ReportKnown,
     ReportNearNamespace,
     ReportNearUnit,
+    QuarrelEarlier,
+    QuarrelLater,
+    QuarrelSigns,
+    QuarrelUnder,
+    QuarrelBothSigns,
+    QuarrelSignAndDigit,
+    QuarrelDigitAndSign,
+    QuarrelSame,
+    ApartNoDigit,
+    ApartOther,
+    ApartBit,
+    ApartNamespace,
 }
 
 const UNITS: usize = 1 << 16;
@@ -55,10 +67,12 @@ const PROHIBITED: [u32; 4] = [0, 1, 2, 6];
 const PAIRS: usize = 30 + 31 + 30 + 30;
 
 const FIRST_OF_REPORTS: usize = Each::ReportPlace as usize;
+const FIRST_OF_QUARRELS: usize = Each::QuarrelEarlier as usize;
 
 /// What is hit, in words, and how many there are of it; in the order of [`Each`]. No pattern and no trigger has the
-/// unit zero, and a name of one unit has no place between two.
-const TALLIES: [(Each, &str, usize); 31] = [
+/// unit zero, and a name of one unit has no place between two. Names that quarrel have two units at least, at one place
+/// '#' and a digit and at another a digit and '#'.
+const TALLIES: [(Each, &str, usize); 43] = [
     (Each::UnderSign, "units under '#', which is the whole pattern", UNITS),
     (Each::UnderSignOfFour, "units under '#', one of four units", UNITS),
     (Each::UnderSignOfEight, "units under '#', one of eight units", UNITS),
@@ -90,6 +104,18 @@ const TALLIES: [(Each, &str, usize); 31] = [
     (Each::ReportKnown, "known bits required, prohibited and given", 81 * 8),
     (Each::ReportNearNamespace, "bits of another entry's namespace, by ground", 3 * 128),
     (Each::ReportNearUnit, "bits of a unit of its name, by ground", 3 * 16),
+    (Each::QuarrelEarlier, "places of the earlier entry", MAX_ENTRIES - 1),
+    (Each::QuarrelLater, "places of the later entry", MAX_ENTRIES - 1),
+    (Each::QuarrelSigns, "numbers of units with numbers of '#'", PLACES - MAX_UNITS),
+    (Each::QuarrelUnder, "units of the later entry under '#'", UNITS - 1),
+    (Each::QuarrelBothSigns, "places of '#' and '#'", PLACES - 3),
+    (Each::QuarrelSignAndDigit, "places of '#' and a hex digit", PLACES - 1),
+    (Each::QuarrelDigitAndSign, "places of a hex digit and '#'", PLACES - 1),
+    (Each::QuarrelSame, "places of the same unit", PLACES - 3),
+    (Each::ApartNoDigit, "places of '#' and no hex digit: no quarrel", PLACES - 1),
+    (Each::ApartOther, "places of two units: no quarrel", PLACES),
+    (Each::ApartBit, "bits in which they differ: no quarrel", 16),
+    (Each::ApartNamespace, "bits in which namespaces differ: no quarrel", 128),
 ];
 
 /// The number of a place in a name of so many units.
@@ -153,6 +179,7 @@ impl fmt::Display for Tallies {
                     writeln!(out, "\nunits, and places in names of 1 to {MAX_UNITS} units, where nothing else decides")?
                 }
                 FIRST_OF_REPORTS => writeln!(out, "\nreports")?,
+                FIRST_OF_QUARRELS => writeln!(out, "\nquarrels, and what is one but for this alone")?,
                 _ => {}
             }
             writeln!(out, "  {title:<45}{hit:>8} of {count:>5}")?;

@@ -11,6 +11,7 @@ mod engine;
 mod entry;
 mod name;
 mod policy;
+mod quarrel;
 mod report;
 mod store;
 mod switches;
@@ -20,6 +21,7 @@ pub use engine::{
 };
 pub use entry::{Entry, LockRule, Trigger};
 pub use policy::Policy;
+pub use quarrel::{Quarrelled, quarrels};
 pub use report::{Ground, Report};
 pub use store::{Kind, Pair, Variable};
 pub use switches::{SwitchBytes, Switches, gives_leave};

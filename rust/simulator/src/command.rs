@@ -20,11 +20,19 @@ pub enum Command {
     Delete { namespace: Namespace, name: Vec<u8> },
     Read { namespace: Namespace, name: Vec<u8> },
     Dump { buffer: usize },
+    Quarrels(DumpOf),
     Lock,
     Disable,
     State,
     Rebuild(Order),
     Poke { part: Part, at: usize, bytes: Vec<u8> },
+}
+
+/// The bytes in which quarrels are looked for.
+#[derive(Clone, Debug)]
+pub enum DumpOf {
+    Engine,
+    Given(Vec<u8>),
 }
 
 /// The order of a rebuild.
@@ -80,8 +88,8 @@ impl<'a> Words<'a> {
     }
 }
 
-const COMMANDS: &str = "namespace, stores, power-on, restart, register, set, append, delete, read, dump, lock, \
-                        disable, state, rebuild, poke or note";
+const COMMANDS: &str = "namespace, stores, power-on, restart, register, set, append, delete, read, dump, quarrels, \
+                        lock, disable, state, rebuild, poke or note";
 const NAMESPACE: &str = "a namespace (an alias, a GUID or 32 hex digits)";
 const NAME: &str = "a name in quotes (or hex:DIGITS)";
 const ENTRY_NAME: &str = "a name of at most 64 units in quotes";
@@ -121,6 +129,7 @@ impl Parser {
                 Command::Read { namespace, name }
             }
             "dump" => Command::Dump { buffer: buffer_len(&mut words)? },
+            "quarrels" => Command::Quarrels(dump_of(&mut words)?),
             "lock" => Command::Lock,
             "disable" => Command::Disable,
             "state" => Command::State,
@@ -289,6 +298,14 @@ fn store_len(words: &mut Words) -> Result<usize, Expected> {
 
 fn buffer_len(words: &mut Words) -> Result<usize, Expected> {
     if words.words.len() == 0 { Ok(varpolicy::POLICY_BYTES) } else { store_len(words) }
+}
+
+fn dump_of(words: &mut Words) -> Result<DumpOf, Expected> {
+    match words.next() {
+        None => Ok(DumpOf::Engine),
+        Some("raw") => Ok(DumpOf::Given(payload(words)?)),
+        found => expected("raw or the end of the line", found),
+    }
 }
 
 fn allow_disable(words: &mut Words) -> Result<bool, Expected> {

@@ -1,4 +1,4 @@
-//! Values as text: payloads, variables, and the entries of a dump as `register` would take them.
+//! Values as text: payloads, variables, and the entries of a dump as `register` would take them, with their places.
 
 use crate::text;
 use std::collections::BTreeMap;
@@ -35,10 +35,14 @@ pub fn switches(bytes: SwitchBytes) -> String {
     format!("{enabled}, {locked}, disabling {allowed}")
 }
 
-/// The entries of a dump, one line each, with their places.
+/// The entries of a dump, one line each.
 pub fn entries(dump: &[u8], namespaces: &BTreeMap<String, Namespace>) -> String {
-    let lines = split(dump).into_iter().enumerate();
-    lines.map(|(place, bytes)| format!("\n    {place}: {}", entry(&fields(bytes), namespaces))).collect()
+    split(dump).into_iter().enumerate().map(|(place, bytes)| entry_line(place, bytes, namespaces)).collect()
+}
+
+/// A line for a well-formed packed entry, with its place in a dump.
+pub fn entry_line(place: usize, bytes: &[u8], namespaces: &BTreeMap<String, Namespace>) -> String {
+    format!("\n    {place}: {}", entry(&fields(bytes), namespaces))
 }
 
 /// The bytes of each entry of a dump.
@@ -110,7 +114,7 @@ fn entry(entry: &Entry, namespaces: &BTreeMap<String, Namespace>) -> String {
 }
 
 /// A variable, or what an entry targets: the namespace, and the name in quotes or `*` for none.
-pub fn variable(namespace: &Namespace, name: &[u8], namespaces: &BTreeMap<String, Namespace>) -> String {
+pub fn variable(namespace: &Namespace, name: &Name, namespaces: &BTreeMap<String, Namespace>) -> String {
     format!("{} {}", self::namespace(namespace, namespaces), self::name(name))
 }
 
@@ -122,19 +126,7 @@ fn namespace(bytes: &Namespace, namespaces: &BTreeMap<String, Namespace>) -> Str
     }
 }
 
-/// The bytes of a name's units as text in quotes, or `*` for none.
-fn name(bytes: &[u8]) -> String {
-    if bytes.is_empty() {
-        return "*".to_string();
-    }
-    let units = bytes.chunks_exact(2).map(|unit| u16::from_le_bytes([unit[0], unit[1]]));
-    let characters: String = char::decode_utf16(units)
-        .map(|character| match character {
-            Ok(plain @ ('"' | '\\')) => format!("\\{plain}"),
-            Ok(plain) if !plain.is_control() => plain.to_string(),
-            Ok(other) => format!("\\u{:04X}", other as u32),
-            Err(lone) => format!("\\u{:04X}", lone.unpaired_surrogate()),
-        })
-        .collect();
-    format!("\"{characters}\"")
+/// A name in quotes, or `*` for none.
+fn name(name: &Name) -> String {
+    if name.is_empty() { "*".to_string() } else { format!("\"{name}\"") }
 }

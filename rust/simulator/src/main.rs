@@ -4,21 +4,26 @@
 //!
 //! A line that is not understood gets a message with its number and what was expected; the rest still
 //! runs, and the program ends with status 1. `simulate --help` prints the language.
+//!
+//! `simulate --quarrels DUMP`: reads the bytes of a dump and prints whether two of its entries quarrel. It ends with
+//! status 0 if none do, 1 if two do, and 2 if the bytes are not a dump.
 
 mod command;
 mod describe;
+mod quarrel;
 mod reason;
 mod simulation;
 mod text;
-mod ties;
 
 use command::Parser;
 use simulation::Simulation;
+use std::collections::BTreeMap;
 use std::io::{self, BufWriter, Read, Write};
 use std::process::ExitCode;
 
 const HELP: &str = "\
 usage: simulate [FILE]
+       simulate --quarrels DUMP
 
 Reads a history from FILE or standard input, one call to a line:
 
@@ -34,6 +39,8 @@ Reads a history from FILE or standard input, one call to a line:
                                        (another order changes the entries' places in dumps and reports
                                        alone, unless two entries of equal rank target one variable and
                                        change places: the line says so)
+  quarrels [raw HEX]                   of the engine's entries, or of these bytes as a dump, the first two of
+                                       equal rank that target one variable, with the smallest such name
   poke nv|volatile|policy AT HEX       damages what is lent
   note TEXT                            prints the text
 
@@ -53,41 +60,76 @@ at step 4 names the entry, by its place in a dump and its name. A set without AP
 neither BS nor RT, is a deletion, and its line says so.
 
 ; and // begin a comment, but not in a note. Before the first power-on the engine is locked.
+
+With --quarrels, reads the file DUMP (- is standard input), the bytes that a dump wrote and nothing behind
+them, and prints what the line quarrels does. It ends with status 0 if no two entries quarrel, with 1 if two
+do, and with 2 if the bytes are not a dump: it then tells the place and the first byte of the entry at fault.
 ";
+
+const USAGE: &str = "usage: simulate [FILE] or simulate --quarrels DUMP";
 
 fn main() -> ExitCode {
     let arguments: Vec<String> = std::env::args().skip(1).collect();
-    let history = match arguments.as_slice() {
-        [] => read_standard_input(),
-        [help] if help == "--help" || help == "-h" => {
-            print!("{HELP}");
-            return ExitCode::SUCCESS;
-        }
-        [file] => std::fs::read(file).map_err(|error| format!("{file}: {error}")),
-        _ => Err("usage: simulate [FILE]".to_string()),
+    let arguments: Vec<&str> = arguments.iter().map(String::as_str).collect();
+    let ended = match arguments.as_slice() {
+        [] => history("-"),
+        ["--help" | "-h"] => print(HELP).map(|()| ExitCode::SUCCESS),
+        ["--quarrels", dump] => quarrels(dump),
+        [file] if !file.starts_with("--") => history(file),
+        _ => Err(USAGE.to_string()),
     };
-    let history = match history {
-        Ok(bytes) => String::from_utf8_lossy(&bytes).into_owned(),
-        Err(message) => {
-            eprintln!("{message}");
-            return ExitCode::from(2);
-        }
-    };
-    match run(&history, BufWriter::new(io::stdout().lock())) {
-        Ok(0) => ExitCode::SUCCESS,
-        Ok(_) => ExitCode::FAILURE,
-        Err(error) if error.kind() == io::ErrorKind::BrokenPipe => ExitCode::SUCCESS,
-        Err(error) => {
-            eprintln!("{error}");
-            ExitCode::from(2)
-        }
+    ended.unwrap_or_else(|message| {
+        eprintln!("{message}");
+        ExitCode::from(2)
+    })
+}
+
+/// Runs the history in a file.
+fn history(file: &str) -> Result<ExitCode, String> {
+    let history = read(file)?;
+    let bad_lines = run(&String::from_utf8_lossy(&history), BufWriter::new(io::stdout().lock()));
+    match unless_unread(bad_lines)? {
+        0 => Ok(ExitCode::SUCCESS),
+        _ => Ok(ExitCode::FAILURE),
     }
 }
 
-fn read_standard_input() -> Result<Vec<u8>, String> {
+/// Tells of a dump in a file whether two of its entries quarrel.
+fn quarrels(file: &str) -> Result<ExitCode, String> {
+    let dump = read(file)?;
+    let (told, ended) = match varpolicy::quarrels(&dump) {
+        Ok(None) => (quarrel::none(&dump), ExitCode::SUCCESS),
+        Ok(Some(pair)) => (quarrel::pair(&dump, &pair, &BTreeMap::new()), ExitCode::FAILURE),
+        Err(_) => return Err(format!("{}: {}", named(file), reason::no_dump(&dump))),
+    };
+    print(&format!("{told}\n"))?;
+    Ok(ended)
+}
+
+/// The bytes of a file, or of standard input for `-`.
+fn read(file: &str) -> Result<Vec<u8>, String> {
     let mut bytes = Vec::new();
-    io::stdin().lock().read_to_end(&mut bytes).map_err(|error| format!("standard input: {error}"))?;
-    Ok(bytes)
+    let read = match file {
+        "-" => io::stdin().lock().read_to_end(&mut bytes).map(|_| bytes),
+        _ => std::fs::read(file),
+    };
+    read.map_err(|error| format!("{}: {error}", named(file)))
+}
+
+fn named(file: &str) -> &str {
+    if file == "-" { "standard input" } else { file }
+}
+
+fn print(text: &str) -> Result<(), String> {
+    unless_unread(io::stdout().lock().write_all(text.as_bytes()))
+}
+
+/// What was written, even if nobody reads it any more, or the failure.
+fn unless_unread<T: Default>(written: io::Result<T>) -> Result<T, String> {
+    match written {
+        Err(error) if error.kind() == io::ErrorKind::BrokenPipe => Ok(T::default()),
+        written => written.map_err(|error| error.to_string()),
+    }
 }
 
 /// Runs a history and answers how many lines were not understood.

@@ -1,12 +1,12 @@
 //! The state that a history keeps, and what each command does to it.
 
-use crate::command::{Command, Expected, Order, Part};
+use crate::command::{Command, DumpOf, Expected, Order, Part};
 use crate::reason::{self, Refusal};
-use crate::{describe, ties};
+use crate::{describe, quarrel};
 use std::collections::BTreeMap;
 use std::fmt::Display;
 use varpolicy::calls::{self, Request, Started};
-use varpolicy::{Attributes, Namespace, POLICY_BYTES, Status, SwitchBytes, Switches};
+use varpolicy::{Attributes, Namespace, POLICY_BYTES, Quarrel, Status, SwitchBytes, Switches};
 
 /// The four parts of `docs/RULES.md`, 1.2.
 pub struct Simulation {
@@ -64,12 +64,20 @@ impl Simulation {
             }
             Command::Read { namespace, name } => self.read(&namespace, &name),
             Command::Dump { buffer } => self.dump(buffer, namespaces),
+            Command::Quarrels(DumpOf::Given(bytes)) => quarrels(&bytes, namespaces),
+            Command::Quarrels(DumpOf::Engine) => match self.complete_dump() {
+                Ok(dump) => quarrels(&dump, namespaces),
+                Err(refused) => refused,
+            },
             Command::Lock => answered(calls::lock(&mut self.switches), |_| reason::LOCKED_ALREADY),
             Command::Disable => {
                 answered(calls::disable(&mut self.switches), |status| reason::disable(status, self.switches))
             }
             Command::State => self.state(),
-            Command::Rebuild(order) => self.rebuild(order)?,
+            Command::Rebuild(order) => match self.complete_dump() {
+                Ok(dump) => self.rebuild(&dump, order, namespaces)?,
+                Err(refused) => refused,
+            },
             Command::Poke { part, at, bytes } => self.poke(part, at, &bytes)?,
         };
         Ok(Some(answer))
@@ -130,15 +138,26 @@ impl Simulation {
         format!("{status} {}", if enabled { "enabled" } else { "disabled" })
     }
 
-    /// A dump, a restart over the same stores with the old disable setting, each entry registered again,
-    /// then disable and lock, each only if the old engine was. Stops at the first refusal.
-    fn rebuild(&mut self, order: Order) -> Result<String, Expected> {
+    /// The bytes of a dump, or the refusal, told.
+    fn complete_dump(&self) -> Result<Vec<u8>, String> {
         let mut buffer = vec![0; POLICY_BYTES];
         let dumped = calls::dump(&self.policy, &mut buffer);
         if dumped.status != Status::Success {
-            return Ok(format!("dump {}", answered(dumped.status, |_| reason::BAD_RECORD)));
+            return Err(format!("dump {}", answered(dumped.status, |_| reason::BAD_RECORD)));
         }
-        let entries = describe::split(&buffer[..dumped.length]);
+        buffer.truncate(dumped.length);
+        Ok(buffer)
+    }
+
+    /// A restart over the same stores with the old disable setting, each entry of the dump registered again,
+    /// then disable and lock, each only if the old engine was. Stops at the first refusal.
+    fn rebuild(
+        &mut self,
+        dump: &[u8],
+        order: Order,
+        namespaces: &BTreeMap<String, Namespace>,
+    ) -> Result<String, Expected> {
+        let entries = describe::split(dump);
         let places = match order {
             Order::Kept => (0..entries.len()).collect(),
             Order::Reversed => (0..entries.len()).rev().collect(),
@@ -169,9 +188,10 @@ impl Simulation {
                 made += &format!(", {name}");
             }
         }
-        if let Some((one, other)) = ties::changed(&entries, &places) {
+        if let Some(Quarrel { earlier, later, name }) = quarrel::changed(dump, &places) {
+            let variable = describe::variable(&describe::fields(entries[later]).namespace, &name, namespaces);
             made += &format!(
-                "; entries {one} and {other} of equal rank target one variable and changed places: \
+                "; entries {earlier} and {later} of equal rank both target {variable} and changed places: \
                  later answers may differ"
             );
         }
@@ -192,6 +212,15 @@ impl Simulation {
             }
             None => Err(format!("expected bytes within the {len} that are lent")),
         }
+    }
+}
+
+/// Whether two entries of a dump quarrel.
+fn quarrels(dump: &[u8], namespaces: &BTreeMap<String, Namespace>) -> String {
+    match varpolicy::quarrels(dump) {
+        Ok(None) => format!("SUCCESS {}", quarrel::none(dump)),
+        Ok(Some(pair)) => format!("SUCCESS {}", quarrel::pair(dump, &pair, namespaces)),
+        Err(status) => format!("{status} {}", reason::no_dump(dump)),
     }
 }
 

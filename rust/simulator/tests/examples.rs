@@ -30,7 +30,7 @@ fn examples_print_what_is_expected() {
         assert!(output.status.success());
         run += 1;
     }
-    assert!(run >= 8);
+    assert!(run >= 9);
 }
 
 #[test]
@@ -38,12 +38,12 @@ fn a_bad_line_is_told_and_the_rest_runs() {
     let history = b"power-off\nset G \"A\" BS 01\nnamespace G 5C67D181F686DF48BD959A6E4F0925C3\npower-on now\npower-on\n\
         set G A BS 01\nset G \"A\" BS 0\nset G \"A\" XX 00\nregister G \"A\" lock=later\nregister G \"A\" lock=on-state\n\
         stores 1 many\nrebuild 0\npoke nv 4096 00\nset G \"A\" BS 1024*07\nread G \"A\"\nstate now\nset G \"\" BS 01\n\
-        set G hex:410042 BS 01\nset G \"A\\u0000\" BS 01\npoke volatile 0 00\nread G \"A\"\n";
+        set G hex:410042 BS 01\nset G \"A\\u0000\" BS 01\npoke volatile 0 00\nread G \"A\"\nquarrels now\nquarrels raw 0\n";
     let output = simulate(history);
     assert_eq!(output.status.code(), Some(1));
     let expected = "\
 1: power-off -> not understood: expected namespace, stores, power-on, restart, register, set, append, delete, read, \
-dump, lock, disable, state, rebuild, poke or note, found power-off
+dump, quarrels, lock, disable, state, rebuild, poke or note, found power-off
 2: set G \"A\" BS 01 -> not understood: expected a namespace (an alias, a GUID or 32 hex digits), found G
 4: power-on now -> not understood: expected allow-disable or the end of the line, found now
 5: power-on -> SUCCESS enabled, unlocked, disabling not allowed
@@ -65,6 +65,8 @@ the line
 19: set G \"A\\u0000\" BS 01 -> INVALID_PARAMETER step 1: the name has a zero unit
 20: poke volatile 0 00 -> written
 21: read G \"A\" -> VOLUME_CORRUPTED the volatile store is not sound
+22: quarrels now -> not understood: expected raw or the end of the line, found now
+23: quarrels raw 0 -> not understood: expected hex digits in pairs, ASCII text in quotes, or COUNT*HH, found 0
 ";
     assert_eq!(String::from_utf8_lossy(&output.stdout), expected);
 }
@@ -80,7 +82,7 @@ fn a_note_is_printed_whole() {
 }
 
 #[test]
-fn a_rebuild_tells_of_a_tie_whose_order_it_changed() {
+fn a_rebuild_tells_of_a_quarrel_whose_order_it_changed() {
     let history = b"namespace G 5C67D181F686DF48BD959A6E4F0925C3\npower-on\nregister G \"Boot00##\" max=1\n\
         register G \"Key\"\nregister G \"Boot##01\" max=2\nset G \"Boot0001\" BS 01 02\nrebuild\nrebuild 1 0 2\n\
         set G \"Boot0001\" BS 01 02\nrebuild reverse\nset G \"Boot0001\" BS 01 02\n";
@@ -97,8 +99,8 @@ payload has 2
 8: rebuild 1 0 2 -> SUCCESS restart, 3 registered
 9: set G \"Boot0001\" BS 01 02 -> INVALID_PARAMETER step 4: entry 1, G \"Boot00##\", allows 0 to 1 byte, and the \
 payload has 2
-10: rebuild reverse -> SUCCESS restart, 3 registered; entries 1 and 2 of equal rank target one variable and changed \
-places: later answers may differ
+10: rebuild reverse -> SUCCESS restart, 3 registered; entries 1 and 2 of equal rank both target G \"Boot0001\" and \
+changed places: later answers may differ
 11: set G \"Boot0001\" BS 01 02 -> SUCCESS
 ";
     assert_eq!(String::from_utf8_lossy(&output.stdout), expected);

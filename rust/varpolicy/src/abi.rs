@@ -2,7 +2,7 @@
 //! in Rust but for a test that needs raw pointers. Nothing checks these declarations against the archive
 //! but the tests and the comparison; include/varpolicy.h has the same ones for C.
 
-use crate::SwitchBytes;
+use crate::{MAX_NAME_UNITS, SwitchBytes};
 
 #[repr(C)]
 pub(crate) struct Started {
@@ -45,6 +45,15 @@ pub(crate) struct Report {
 pub(crate) struct Written {
     pub(crate) status: u32,
     pub(crate) report: Report,
+}
+
+#[repr(C)]
+pub(crate) struct Quarrel {
+    pub(crate) status: u32,
+    pub(crate) found: bool,
+    pub(crate) earlier: u32,
+    pub(crate) later: u32,
+    pub(crate) name_length: usize,
 }
 
 unsafe extern "C" {
@@ -110,6 +119,8 @@ unsafe extern "C" {
         payload: *const u8,
         payload_len: usize,
     ) -> Written;
+
+    pub(crate) fn varpolicy_quarrels(dump: *const u8, dump_len: usize, name: *mut [u8; 2 * MAX_NAME_UNITS]) -> Quarrel;
 }
 
 // The layout that the C declarations have.
@@ -121,4 +132,5 @@ const _: () = {
     assert!(size_of::<Found>() == 32);
     assert!(size_of::<Report>() == 24);
     assert!(size_of::<Written>() == 28);
+    assert!(size_of::<Quarrel>() == 24);
 };

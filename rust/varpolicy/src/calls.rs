@@ -4,9 +4,11 @@
 //!
 //! The switches are lent as [`SwitchBytes`], and [`Switches`](crate::Switches) serve where they are only
 //! read. Whether disabling is allowed is a byte too, or a bool: 1 and true allow it.
+//!
+//! [`quarrels`] is lent no part of an engine: it is given the bytes of a dump.
 
 use crate::abi;
-use crate::{Attributes, Namespace, Refused, Report, Status, SwitchBytes};
+use crate::{Attributes, MAX_NAME_UNITS, Namespace, Refused, Report, Status, SwitchBytes};
 
 /// What power-on and restart answer.
 #[derive(Clone, Copy, PartialEq, Eq, Debug)]
@@ -57,6 +59,21 @@ impl Written {
         let Written { status, report } = self;
         status.ok().map_err(|status| Refused { status, report })
     }
+}
+
+/// What a check for quarrels answers. Without a pair every number is 0.
+#[derive(Clone, Copy, PartialEq, Eq, Debug)]
+pub struct Quarrelled {
+    /// SUCCESS or INVALID_PARAMETER.
+    pub status: Status,
+    /// Whether two entries quarrel.
+    pub found: bool,
+    /// The place of the earlier one, counted from 0 in the order of the dump.
+    pub earlier: usize,
+    /// The place of the later one.
+    pub later: usize,
+    /// How many bytes of the buffer are the smallest name that both target.
+    pub name_length: usize,
 }
 
 /// Power-on. Fills `volatile` with 0xFF and `policy` with zeros; the engine is then enabled,
@@ -257,4 +274,29 @@ pub fn set(
         )
     };
     Written { status: Status::answered(answer.status), report: Report::answered(&answer.report) }
+}
+
+/// Tells whether two entries of a dump quarrel: they have the same rank, and some variable, stored or not, is targeted
+/// by both, so that which of them speaks for it depends on which was registered first. `dump` is the entries end to
+/// end, as [`dump`](dump()) writes them, and nothing behind them; no part of an engine is lent.
+///
+/// The pair is the first: of all that quarrel the one with the lowest earlier place, and of those the one with the
+/// lowest later place. The bytes of the smallest name that both entries target are written to the front of `name`,
+/// without a closing zero; later bytes stay, and without a pair all do.
+///
+/// * INVALID_PARAMETER: the bytes are not a dump, at most [`MAX_ENTRIES`](crate::MAX_ENTRIES) well-formed entries in
+///   at most [`POLICY_BYTES`](crate::POLICY_BYTES) bytes, no two for one namespace and name, and nothing behind them.
+///   Zeros are no entry, so that a policy record with free room is not a dump; no bytes at all are one.
+///
+/// [`quarrels`](crate::quarrels()) at the crate's root answers with the name itself.
+pub fn quarrels(dump: &[u8], name: &mut [u8; 2 * MAX_NAME_UNITS]) -> Quarrelled {
+    // SAFETY: each pointer is of one live slice or array, the mutable one apart from the other.
+    let answer = unsafe { abi::varpolicy_quarrels(dump.as_ptr(), dump.len(), name) };
+    Quarrelled {
+        status: Status::answered(answer.status),
+        found: answer.found,
+        earlier: answer.earlier as usize,
+        later: answer.later as usize,
+        name_length: answer.name_length,
+    }
 }

@@ -1,8 +1,9 @@
-use crate::calls::{self, Request, Started};
-use crate::{Attributes, Namespace, Refused, Status, SwitchBytes, Switches};
+use crate::calls::{self, Dumped, Request, Started};
+use crate::{Attributes, Namespace, Quarrel, Refused, Status, SwitchBytes, Switches, quarrels};
 
-/// An engine over three lent byte slices, with its switches. Every method but [`Engine::resume`] and
-/// [`Engine::switches`] is one call of [`calls`]; a refusal is an `Err` and leaves everything as it was.
+/// An engine over three lent byte slices, with its switches. Every method but [`Engine::resume`],
+/// [`Engine::switches`] and [`Engine::quarrels`] is one call of [`calls`]; a refusal is an `Err` and leaves everything
+/// as it was.
 ///
 /// A refused start does not end an engine that is running, which keeps its own switches:
 /// [`Engine::power_on_again`] and [`Engine::restart_again`] leave it as it was, and after a refused
@@ -124,6 +125,19 @@ impl<'a> Engine<'a> {
         match dumped.status {
             Status::Success => Ok(dumped.length),
             status => Err(NotDumped { status, needed: dumped.length }),
+        }
+    }
+
+    /// The first two entries that quarrel, if any do: see [`quarrels`](crate::quarrels()). If none do, the engine may
+    /// be rebuilt from its dump in every order.
+    ///
+    /// It needs no buffer: a dump into none tells the length, and the policy record begins with the entries.
+    ///
+    /// * VOLUME_CORRUPTED: the lent policy record is not one.
+    pub fn quarrels(&self) -> Result<Option<Quarrel>, Status> {
+        match calls::dump(self.policy, &mut []) {
+            Dumped { status: Status::Success | Status::BufferTooSmall, length } => quarrels(&self.policy[..length]),
+            refused => Err(refused.status),
         }
     }
 

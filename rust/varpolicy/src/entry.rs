@@ -1,4 +1,5 @@
 use crate::{Attributes, MAX_ENTRY_SIZE, MAX_NAME_UNITS, Namespace};
+use core::fmt::{self, Write};
 use core::ops::Deref;
 
 /// A name of at most 64 units, as the bytes of its units without a closing zero. `#` is an ordinary
@@ -34,6 +35,23 @@ impl Deref for Name {
 
     fn deref(&self) -> &[u8] {
         &self.bytes[..self.len]
+    }
+}
+
+/// Writes the units as text that can stand in quotes: a backslash before `"` and `\`, and as `\uXXXX` a control
+/// character and a surrogate that has no other half.
+impl fmt::Display for Name {
+    fn fmt(&self, out: &mut fmt::Formatter) -> fmt::Result {
+        let units = self.chunks_exact(2).map(|unit| u16::from_le_bytes([unit[0], unit[1]]));
+        for character in char::decode_utf16(units) {
+            match character {
+                Ok(plain @ ('"' | '\\')) => write!(out, "\\{plain}")?,
+                Ok(plain) if !plain.is_control() => out.write_char(plain)?,
+                Ok(other) => write!(out, "\\u{:04X}", other as u32)?,
+                Err(lone) => write!(out, "\\u{:04X}", lone.unpaired_surrogate())?,
+            }
+        }
+        Ok(())
     }
 }
 

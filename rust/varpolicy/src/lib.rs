@@ -8,7 +8,7 @@
 //!
 //! [`calls`] has one function for each call of the library. [`Engine`] keeps the lent slices and the
 //! switches together and answers with `Result`. [`Entry`] packs a policy entry. [`Report`] tells why an entry
-//! refused a set.
+//! refused a set. [`quarrels`] tells of a dump whether the order of its entries matters, and of which two.
 //!
 //! ```
 //! use varpolicy::{Attributes, Engine, Entry, Ground, Lock, Name, Status, POLICY_BYTES};
@@ -38,6 +38,7 @@ pub mod calls;
 mod engine;
 mod entry;
 mod limits;
+mod quarrel;
 mod report;
 mod status;
 mod switches;
@@ -48,6 +49,7 @@ pub use entry::{Entry, Lock, Name, PackedEntry};
 pub use limits::{
     MAX_ENTRIES, MAX_ENTRY_SIZE, MAX_NAME_UNITS, MAX_PAYLOAD_BYTES, MAX_STORE_BYTES, MIN_ENTRY_SIZE, POLICY_BYTES,
 };
+pub use quarrel::{Quarrel, quarrels};
 pub use report::{Ground, Refused, Report, WHOLE_NAMESPACE_RANK};
 pub use status::Status;
 pub use switches::{SwitchBytes, Switches};

@@ -44,6 +44,7 @@ fn header_and_crate_have_the_same_numbers() {
     expect("MAX_STORE_BYTES", varpolicy::MAX_STORE_BYTES);
     expect("MAX_PAYLOAD", varpolicy::MAX_PAYLOAD_BYTES);
     expect("MAX_NAME_UNITS", varpolicy::MAX_NAME_UNITS);
+    expect("MAX_NAME_BYTES", 2 * varpolicy::MAX_NAME_UNITS);
     expect("NAMESPACE_BYTES", size_of::<varpolicy::Namespace>());
     assert!(defined.is_empty(), "not checked: {defined:?}");
 }
@@ -90,6 +91,7 @@ fn header_and_crate_have_the_same_records() {
         ("found", "Found"),
         ("report", "Report"),
         ("written", "Written"),
+        ("quarrel", "Quarrel"),
     ];
     assert_eq!(HEADER.matches("typedef struct {").count(), records.len());
     for (c_name, name) in records {

@@ -5,7 +5,8 @@ use native.Mathlib.Omega.{arith}
 use native.Mathlib.Nat.{add-zero}
 use borrow.Author.Needs.{needs}
 use Rattle.slices.specs.Test.{_and_}
-use Rattle.names.specs.NameLaws.{matchesFrom, matches-more}
+use Rattle.names.specs.Name.{unitMatches}
+use Rattle.names.specs.NameLaws.{matchesFrom, pairs-more}
 use Rattle.names.proofs.eight_wild.Statement.{statement}
 use Rattle.names.proofs.eight_wild.Tie as tie
 
@@ -47,7 +48,7 @@ loop-again c =
     let a = l .before .before .before .args in (
       omega arith,
       omega arith,
-      matches-more (a .p .now) (a .v .now) (a .i) (l .loop .j) (omega arith) (omega arith) (u .before .unit .ensures) (u .unit2 .ensures) (l .loop .ok) (l .loop .inv .2) (c .unit-matches .ensures),
+      pairs-more (a .p .now) (a .v .now) (a .i) (l .loop .j) (omega arith) (omega arith) (u .before .unit .ensures) (u .unit2 .ensures) unitMatches (l .loop .ok) (l .loop .inv .2) (c .unit-matches .ensures),
     )
 
 returns : tie.Need-returns Inv-loop μ-loop

@@ -5,7 +5,8 @@ use native.Mathlib.Omega.{arith}
 use lib.ListN.{length}
 use borrow.Author.Tests.{not-true}
 use borrow.Author.Needs.{needs}
-use Rattle.names.specs.NameLaws.{matches-first, matches-last}
+use Rattle.names.specs.Name.{unitMatches}
+use Rattle.names.specs.NameLaws.{pairs-first, pairs-last}
 use Rattle.names.proofs.ends_near.Statement.{statement}
 use Rattle.names.proofs.ends_near.Tie as tie
 
@@ -34,8 +35,8 @@ returns-2 c m =
     let p = x .args .p .now in
     let v = x .args .v .now in
     c .unit-near .ensures
-    (matches-first p v (length v - 2) (omega (arith, x .pre .0, x .pre .2)) (omega (arith, x .pre .2)) (u .before .unit .ensures) (u .unit2 .ensures)
-    (matches-last p v (x .pre .1) m 2 (x .pre .2) refl))
+    (pairs-first unitMatches p v (length v - 2) (omega (arith, x .pre .0, x .pre .2)) (omega (arith, x .pre .2)) (u .before .unit .ensures) (u .unit2 .ensures)
+    (pairs-last unitMatches p v (x .pre .1) m 2 (x .pre .2) refl))
 
 pub ends-near-spec : {M : Type 1} → statement M
 ends-near-spec =

@@ -8,7 +8,7 @@ use borrow.Author.Tests.{not-true, not-false}
 use borrow.Author.Needs.{needs}
 use Rattle.slices.specs.Bytes.{pairwise}
 use Rattle.names.specs.Name.{units, unitMatches}
-use Rattle.names.specs.NameLaws.{matchesFrom, matches-hit, matches-miss, matches-end}
+use Rattle.names.specs.NameLaws.{matchesFrom, pairs-hit, pairs-miss, pairs-end}
 use Rattle.names.proofs.few_match.Statement.{statement}
 use Rattle.names.proofs.few_match.Tie as tie
 
@@ -40,7 +40,7 @@ returns c =
     let x = l .before .before .before in
     sym (
     l .loop .inv .1
-    ∙ matches-miss (x .args .p .now) (x .args .v .now) (l .loop .i) (omega (arith, x .pre)) (omega arith) (m .before .before .unit .ensures) (m .before .unit2 .ensures)
+    ∙ pairs-miss unitMatches (x .args .p .now) (x .args .v .now) (l .loop .i) (omega (arith, x .pre)) (omega arith) (m .before .before .unit .ensures) (m .before .unit2 .ensures)
     (sym (m .unit-matches .ensures) ∙ not-true (m .unit-matches .result) (c .if1 .taken))
     )
 
@@ -57,7 +57,7 @@ loop-again c =
     let x = l .before .before .before in (
       omega arith,
       l .loop .inv .1
-          ∙ matches-hit (x .args .p .now) (x .args .v .now) (l .loop .i) (omega (arith, x .pre)) (omega arith) (m .before .before .unit .ensures) (m .before .unit2 .ensures)
+          ∙ pairs-hit unitMatches (x .args .p .now) (x .args .v .now) (l .loop .i) (omega (arith, x .pre)) (omega arith) (m .before .before .unit .ensures) (m .before .unit2 .ensures)
           (sym (m .unit-matches .ensures) ∙ not-false (m .unit-matches .result) (c .if1 .left)),
     )
 
@@ -65,7 +65,7 @@ returns-2 : tie.Need-returns-2 Inv-loop μ-loop
 returns-2 c =
     let l = c .before in
     let x = l .before .before .before in
-    sym (l .loop .inv .1 ∙ matches-end (x .args .p .now) (x .args .v .now) (l .loop .i) (omega (arith, x .pre)) (omega arith))
+    sym (l .loop .inv .1 ∙ pairs-end unitMatches (x .args .p .now) (x .args .v .now) (l .loop .i) (omega (arith, x .pre)) (omega arith))
 
 pub few-match-spec : {M : Type 1} → statement M
 few-match-spec =

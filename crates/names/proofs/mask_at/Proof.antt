@@ -1,7 +1,5 @@
 -- `names::mask_at` meets its contract. Assumes nothing.
-use Prim.Native.Nat.{_<_}
 use mathlib.Core.Path.{ap, _∙_}
-use native.Mathlib.Omega.{arith}
 use borrow.Author.Needs.{needs}
 use Rattle.names.specs.Tail.{unitMask}
 use Rattle.names.specs.TailLaws.{word-same}
@@ -41,39 +39,18 @@ unit-requires-4 c κs = search needs
 unit-mask-requires-4 : tie.Need-unit-mask-requires-4
 unit-mask-requires-4 c κs = search needs
 
--- each mask has 16 bits
-bounds : (c : tie.After-unit-mask4)
-    → (c .before .before .before .before .before .before .unit-mask .result < 65536) × (c .before .before .before .before .unit-mask2 .result < 65536)
-    × (c .before .before .unit-mask3 .result < 65536) × (c .unit-mask4 .result < 65536)
-bounds c =
-    (c .before .before .before .before .before .before .unit-mask .ensures .1, c .before .before .before .before .unit-mask2 .ensures .1, c .before .before .unit-mask3 .ensures .1, c .unit-mask4 .ensures .1)
-
-mul-result : tie.Need-mul-result
-mul-result c = omega (arith, bounds c)
-
-add-result : tie.Need-add-result
-add-result c = omega (arith, bounds c)
-
-mul-result-2 : tie.Need-mul-result-2
-mul-result-2 c = omega (arith, bounds c)
-
-add-result-2 : tie.Need-add-result-2
-add-result-2 c = omega (arith, bounds c)
-
-mul-result-3 : tie.Need-mul-result-3
-mul-result-3 c = omega (arith, bounds c)
-
-add-result-3 : tie.Need-add-result-3
-add-result-3 c = omega (arith, bounds c)
+word-requires : tie.Need-word-requires
+word-requires c κs = search needs
 
 returns : tie.Need-returns
 returns c =
-    let u = c .before in
-    let u₃ = u .before .before in
-    let u₂ = u₃ .before .before in
-    let u₁ = u₂ .before .before in
-    word-same (u₂ .before .unit-mask .ensures .0 ∙ ap unitMask (u₁ .unit .ensures)) (u₃ .before .unit-mask2 .ensures .0 ∙ ap unitMask (u₂ .unit2 .ensures))
-    (u .before .unit-mask3 .ensures .0 ∙ ap unitMask (u₃ .unit3 .ensures)) (c .unit-mask4 .ensures .0 ∙ ap unitMask (u .unit4 .ensures))
+    let m₄ = c .before in
+    let m₃ = m₄ .before .before in
+    let m₂ = m₃ .before .before in
+    let m₁ = m₂ .before .before in
+    c .word .ensures
+    ∙ word-same (m₁ .unit-mask .ensures .0 ∙ ap unitMask (m₁ .before .unit .ensures)) (m₂ .unit-mask2 .ensures .0 ∙ ap unitMask (m₂ .before .unit2 .ensures))
+    (m₃ .unit-mask3 .ensures .0 ∙ ap unitMask (m₃ .before .unit3 .ensures)) (m₄ .unit-mask4 .ensures .0 ∙ ap unitMask (m₄ .before .unit4 .ensures))
 
 pub mask-at-spec : {M : Type 1} → statement M
 mask-at-spec =
@@ -90,10 +67,5 @@ mask-at-spec =
     add-unit-3
     unit-requires-4
     unit-mask-requires-4
-    mul-result
-    add-result
-    mul-result-2
-    add-result-2
-    mul-result-3
-    add-result-3
+    word-requires
     returns)

@@ -10,7 +10,7 @@ use Rattle.slices.specs.Bytes.{Bytes, pairwise}
 use Rattle.slices.specs.BytesLaws.{pairwise-lengths}
 use Rattle.slices.specs.TestLaws.{forced-off}
 use Rattle.names.specs.Name.{units, unitMatches}
-use Rattle.names.specs.NameLaws.{units-length, units-whole, matches-end}
+use Rattle.names.specs.NameLaws.{units-length, units-whole, pairs-end}
 use Rattle.names.proofs.matches.Statement.{statement}
 use Rattle.names.proofs.matches.Tie as tie
 
@@ -26,7 +26,7 @@ module _ (p v : Bytes) {k : ℕ} (ep : k ≡ length (units p)) (ev : k ≡ lengt
   whole = ap₂ (pairwise unitMatches) (units-whole k p ep) (units-whole k v ev)
 
   none : k ≡ 0 → pairwise unitMatches (units p) (units v) ≡ true
-  none z = matches-end p v 0 (omega (arith, units-length p)) (omega (arith, units-length v))
+  none z = pairs-end unitMatches p v 0 (omega (arith, units-length p)) (omega (arith, units-length v))
 
 unit-count-requires : tie.Need-unit-count-requires
 unit-count-requires c κs = search needs

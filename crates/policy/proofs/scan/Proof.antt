@@ -13,7 +13,7 @@ use Rattle.limits.specs.Limits.{maxEntries}
 use Rattle.slices.specs.Bytes.{Bytes, allAre}
 use Rattle.slices.specs.PartLaws.{part-of, part-rest}
 use Rattle.policy.specs.declared.PolicyCheck.the-variants.{Valid, Invalid}
-use Rattle.policy.specs.Policy.{entryLength, policyCheck}
+use Rattle.policy.specs.Policy.{entryLength, checkWithin}
 use Rattle.policy.proofs.Walk.{fits, formed, at-next}
 use Rattle.policy.proofs.Marked.{Checked, Noted, checked-start, too-many, met-before, checked-more, checked-end, noted-none, noted-more, noted-end, invalid-promise}
 use Rattle.policy.proofs.scan.Statement.{statement}
@@ -41,11 +41,11 @@ within c =
     fits (P (c .before)) (l .count) (l .used) (l .inv .0 .walk) (l .next) (l .inv .1) (c .loop-test .taken)
 
 answer : (c : tie.After-all-are Inv-loop μ-loop)
-    → policyCheck (P (c .before .before .before)) ≡ cond (c .all-are .result) (Valid (c .before .before .before .loop .count) (c .before .before .before .loop .used)) Invalid
+    → checkWithin (length (P (c .before .before .before))) (P (c .before .before .before)) ≡ cond (c .all-are .result) (Valid (c .before .before .before .loop .count) (c .before .before .before .loop .used)) Invalid
 answer c =
     let g = c .before .before .before in
     let l = g .loop in
-    checked-end (P g) (l .marks) (l .count) (l .used) (l .next) (l .inv .0) (l .inv .1) (omega arith) (g .before .before .before .pre .0)
+    checked-end (P g) (l .marks) (l .count) (l .used) (l .next) (l .inv .0) (l .inv .1) (omega arith)
     (c .all-are .ensures ∙ ap (allAre 0) (part-rest (l .used) (length (P g)) (P g) (le-refl (length (P g)))))
 
 entry-length-requires : tie.Need-entry-length-requires Inv-loop μ-loop
@@ -60,7 +60,7 @@ returns : tie.Need-returns Inv-loop μ-loop
 returns c =
     let l = c .before .before .loop in
     let a = too-many (P (c .before .before)) (l .marks) (l .count) (l .used) (l .next) (l .inv .0) (l .inv .1) (c .before .loop-test .taken) (c .if1 .taken) in
-    (a, invalid-promise (P (c .before .before)) a)
+    (a, invalid-promise _ (P (c .before .before)) a)
 
 add-end : tie.Need-add-end Inv-loop μ-loop
 add-end c = omega (arith, within (c .before))
@@ -86,7 +86,7 @@ returns-2 c =
     let g = Turn r in
     let l = g .loop in
     let a = met-before (P g) (l .marks) (l .count) (l .used) (l .next) (l .inv .0) (l .inv .1) (r .is-repeated .ensures .0) (r .before .before .before .before .loop-test .taken) (c .if2 .taken) in
-    (a, invalid-promise (P g) a)
+    (a, invalid-promise _ (P g) a)
 
 cast-ends : tie.Need-cast-ends Inv-loop μ-loop
 cast-ends c =
@@ -148,14 +148,14 @@ returns-3 c =
     let g = c .before .before .before .before in
     let l = g .loop in (
       sym (answer (c .before) ∙ rw (c .if3 .taken)),
-      λ v. noted-end (P g) (l .marks) (l .count) (l .used) (l .next) (l .inv .0) (l .inv .1) (omega arith) (g .before .before .before .pre .0) (l .inv .2),
+      λ v. noted-end (P g) (l .marks) (l .count) (l .used) (l .next) (l .inv .0) (l .inv .1) (omega arith) (l .inv .2),
     )
 
 returns-4 : tie.Need-returns-4 Inv-loop μ-loop
 returns-4 c =
     let p = P (c .before .before .before .before) in
-    let a : Invalid ≡ policyCheck p = sym (answer (c .before) ∙ rw (c .if3 .left)) in
-    (a, invalid-promise p a)
+    let a : Invalid ≡ checkWithin (length p) p = sym (answer (c .before) ∙ rw (c .if3 .left)) in
+    (a, invalid-promise (length p) p a)
 
 pub scan-spec : {M : Type 1} → statement M
 scan-spec =

@@ -2,8 +2,9 @@
 
 use super::index::{Index, Place, Small, Standard};
 use super::policy::{Chosen, Entries, is_entry};
+use super::quarrels::{Quarrel, first_quarrel};
 use super::stores::{Key, Stores, record_len};
-use super::{APPEND, BS, ENTRY_HEADER, HEADER, NV, RT, is_name, le16, le32};
+use super::{APPEND, BS, ENTRY_HEADER, HEADER, MAX_NAME, NV, RT, is_name, le16, le32};
 use varpolicy::{Ground, MAX_ENTRIES, MAX_PAYLOAD_BYTES, POLICY_BYTES, Report};
 
 pub const SUCCESS: u32 = 0;
@@ -54,6 +55,27 @@ pub fn dump(policy: &[u8], buffer: &mut [u8]) -> (u32, usize) {
     }
     buffer[..end].copy_from_slice(&policy[..end]);
     (SUCCESS, end)
+}
+
+/// What a look for quarrels answers: whether two entries quarrel, their places, and the length of the smallest name that
+/// both target.
+#[derive(Clone, Copy, PartialEq, Eq, Debug, Default)]
+pub struct Quarrelled {
+    pub status: u32,
+    pub found: bool,
+    pub earlier: usize,
+    pub later: usize,
+    pub name_length: usize,
+}
+
+pub fn quarrels(dump: &[u8], name: &mut [u8; MAX_NAME]) -> Quarrelled {
+    match first_quarrel(dump, name) {
+        None => Quarrelled { status: INVALID_PARAMETER, ..Quarrelled::default() },
+        Some(None) => Quarrelled::default(),
+        Some(Some(Quarrel { earlier, later, name_length })) => {
+            Quarrelled { status: SUCCESS, found: true, earlier, later, name_length }
+        }
+    }
 }
 
 /// What a read answers: where the payload stands, in the store that `non_volatile` tells.

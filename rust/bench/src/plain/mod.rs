@@ -11,6 +11,7 @@ pub mod index;
 pub mod parts;
 mod pattern;
 mod policy;
+mod quarrels;
 mod stores;
 
 use varpolicy::MAX_NAME_UNITS;

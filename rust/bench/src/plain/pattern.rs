@@ -41,6 +41,39 @@ pub fn signs(pattern: &[u8]) -> usize {
     pattern.as_chunks().0.iter().map(|unit| u16::from(*unit == [b'#', 0])).sum::<u16>().into()
 }
 
+/// Whether two patterns have equally many '#' and both match some name.
+pub fn overlap(own: &[u8], other: &[u8]) -> bool {
+    if own.len() != other.len() {
+        return false;
+    }
+    let units = |bytes| <[u8]>::as_chunks(bytes).0.iter().map(|unit| u16::from_le_bytes(*unit));
+    let mut more = 0_i32;
+    for (own, other) in units(own).zip(units(other)) {
+        if own != other {
+            if own == SIGN && wrong(SIGN, other) == 0 {
+                more += 1;
+            } else if other == SIGN && wrong(SIGN, own) == 0 {
+                more -= 1;
+            } else {
+                return false;
+            }
+        }
+    }
+    more == 0
+}
+
+/// Writes the smallest name that both of two such patterns match.
+pub fn smallest_match(own: &[u8], other: &[u8], name: &mut [u8]) {
+    const SIGN: [u8; 2] = [b'#', 0];
+    for ((own, other), unit) in own.as_chunks().0.iter().zip(other.as_chunks().0).zip(name.as_chunks_mut().0) {
+        *unit = match (*own, *other) {
+            (SIGN, SIGN) => [b'0', 0],
+            (SIGN, other) => other,
+            (own, _) => own,
+        };
+    }
+}
+
 /// Whether eight units match. Mostly they are equal and none is '#', which is the shorter test. Neither test has a branch
 /// for a unit, so both become vector instructions.
 #[inline(always)]
@@ -66,7 +99,7 @@ fn wrong(own: u16, unit: u16) -> u16 {
 }
 
 #[inline(always)]
-fn all_ones(condition: bool) -> u16 {
+pub fn all_ones(condition: bool) -> u16 {
     0_u16.wrapping_sub(condition.into())
 }
 

@@ -10,6 +10,12 @@ use varpolicy::{MAX_ENTRIES, POLICY_BYTES};
 /// Whether bytes are a well-formed entry. It is part of the walk's loop, where the compiler would not put it by itself.
 #[inline(always)]
 pub fn is_entry(bytes: &[u8]) -> bool {
+    is_entry_with(bytes, |offset| is_closed_name(&bytes[offset..]))
+}
+
+/// The same, with the test of a name, if there is one, that begins at a place.
+#[inline(always)]
+fn is_entry_with(bytes: &[u8], has_name: impl FnOnce(usize) -> bool) -> bool {
     if bytes.len() < ENTRY_HEADER {
         return false;
     }
@@ -27,40 +33,57 @@ pub fn is_entry(bytes: &[u8]) -> bool {
         3 => ends_in_trigger(&bytes[..offset]),
         _ => false,
     };
-    lock_is_sound && (offset == bytes.len() || is_closed_name(&bytes[offset..]))
+    lock_is_sound && (offset == bytes.len() || has_name(offset))
 }
 
 /// Where the name of a trigger begins.
 const TRIGGER_NAME: usize = 62;
 
-/// Whether bytes, an entry up to its name, end in the name of a trigger: 1 to 64 units, none zero or '#', and then a
-/// zero unit. Eight are tested at once, the last eight and those from the front on. If there are fewer, what stands
-/// before them is covered.
+/// Whether bytes, an entry up to its name, end in the name of a trigger.
 #[inline(always)]
 fn ends_in_trigger(bytes: &[u8]) -> bool {
+    closed_units(bytes, TRIGGER_NAME).is_some_and(|name| is_plain(bytes, name))
+}
+
+/// The units from a place to the end of an entry, or to its name: 1 to 64 and then a zero unit.
+#[inline(always)]
+fn closed_units(bytes: &[u8], at: usize) -> Option<&[u8]> {
     let len = bytes.len();
-    if len < TRIGGER_NAME + 2 || le16(bytes, len - 2) != 0 {
-        return false;
+    if len < at + 2 || le16(bytes, len - 2) != 0 {
+        return None;
     }
-    let name = &bytes[TRIGGER_NAME..len - 2];
+    let name = &bytes[at..len - 2];
     // One comparison for three: no bytes, too many and an odd number of them all become a large number.
-    if (name.len() as u32).wrapping_sub(2).rotate_right(1) >= MAX_NAME as u32 / 2 {
-        return false;
-    }
+    let has_length = (name.len() as u32).wrapping_sub(2).rotate_right(1) < MAX_NAME as u32 / 2;
+    has_length.then_some(name)
+}
+
+/// Whether no unit of a name is zero or '#', as in that of a trigger. Eight are tested at once, the last eight and those
+/// from the front on. If there are fewer, what stands before them in the entry is covered.
+#[inline(always)]
+fn is_plain(bytes: &[u8], name: &[u8]) -> bool {
+    let len = bytes.len();
     let Some(last) = bytes[..len - 2].last_chunk().map(eight) else { return false };
     let least = if name.len() < 16 {
         let Some(cover) = COVER.as_flattened()[name.len()..].first_chunk().map(eight) else { return false };
         from_fn(|k| allowed(last[k] | cover[k]))
     } else {
         // With so few blocks the loop is unrolled.
-        let blocks = name.as_chunks().0.iter().take(MAX_NAME / 16 - 1);
-        blocks.map(eight).fold(last.map(allowed), |least, units| from_fn(|k| least[k].min(allowed(units[k]))))
+        let mut least = last.map(allowed);
+        for at in (0..MAX_NAME - 16).step_by(16) {
+            if at + 16 >= name.len() {
+                break;
+            }
+            let Some(units) = name[at..].first_chunk().map(eight) else { break };
+            least = from_fn(|k| least[k].min(allowed(units[k])));
+        }
+        least
     };
     least.iter().all(|allowed| *allowed != 0)
 }
 
 /// What covers: for a name of N bytes the 16 from place N on, all ones before the name and zeros over it.
-static COVER: [[u8; 16]; 2] = [[0xFF; 16], [0; 16]];
+pub static COVER: [[u8; 16]; 2] = [[0xFF; 16], [0; 16]];
 
 /// Zero for a zero unit and for '#', and for no other: in 16 bits the factor makes '#' one, and no two units the same.
 /// It is never negative, and the least of signed numbers takes one vector instruction.
@@ -105,6 +128,24 @@ pub struct Chosen<'a> {
     pub rank: u32,
 }
 
+/// An entry whose name is not plain: where it begins and ends, and its place.
+#[derive(Clone, Copy, Default)]
+pub struct Signed {
+    start: u16,
+    end: u16,
+    place: u16,
+}
+
+impl Signed {
+    pub fn entry(self, dump: &[u8]) -> &[u8] {
+        &dump[self.start.into()..self.end.into()]
+    }
+
+    pub fn place(self) -> usize {
+        self.place.into()
+    }
+}
+
 /// The slots of the table. Of 256, 512 and 1,024 these cost fewest instructions at the most entries.
 const SLOTS: usize = 1024;
 
@@ -117,10 +158,51 @@ pub struct Entries<'a> {
 }
 
 impl<'a> Entries<'a> {
+    /// No entries yet.
+    #[inline(always)]
+    pub fn new(record: &'a [u8]) -> Self {
+        Entries { record, ends: [0; MAX_ENTRIES], count: 0, table: [0; SLOTS] }
+    }
+
     pub fn check(record: &'a [u8]) -> Option<Self> {
-        let mut entries = Entries { record, ends: [0; MAX_ENTRIES], count: 0, table: [0; SLOTS] };
+        let mut entries = Entries::new(record);
         walk(record, |entry, end| entries.insert(entry, end))?;
         Some(entries)
+    }
+
+    /// Walks a dump: every entry must be well formed and new, and nothing may stand behind them. Enters them, and in
+    /// `signed` those whose names have '#' or a zero unit, which is left to be found. Answers how many of these there are.
+    #[inline(always)]
+    pub fn enter(&mut self, signed: &mut [Signed; MAX_ENTRIES]) -> Option<usize> {
+        let dump = self.record;
+        if dump.len() > POLICY_BYTES {
+            return None;
+        }
+        let mut at = 0;
+        let mut found = 0;
+        while at < dump.len() {
+            let start = at;
+            let header = dump[start..].first_chunk::<ENTRY_HEADER>()?;
+            let entry = dump.get(start..start + usize::from(le16(header, 4)))?;
+            at += entry.len();
+            let mut has_plain_name = true;
+            let has_name = |name| {
+                let units = closed_units(entry, name);
+                has_plain_name = units.is_none_or(|units| is_plain(entry, units));
+                units.is_some()
+            };
+            if !is_entry_with(entry, has_name) {
+                return None;
+            }
+            if !has_plain_name {
+                *signed.get_mut(found)? = Signed { start: start as u16, end: at as u16, place: self.count as u16 };
+                found += 1;
+            }
+            if !self.insert(entry, at) {
+                return None;
+            }
+        }
+        Some(found)
     }
 
     /// Enters the next entry. False if there are too many, or its namespace and name are there already.

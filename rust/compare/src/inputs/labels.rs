@@ -419,3 +419,109 @@ pub fn report_both_labels() -> Vec<String> {
 pub fn report_reordered_labels() -> Vec<String> {
     crossed(&GROUNDS, &["the same place", "another place"])
 }
+
+/// Where two entries stand that quarrel, and which other pairs do.
+pub const QUARREL_PAIR: [&str; 16] = [
+    "only two entries",
+    "next to each other, others before",
+    "next to each other, others behind",
+    "others between them",
+    "the first and the last of 128",
+    "the last two of 128",
+    "another pair with the same earlier one",
+    "another pair with the same later one",
+    "another pair from the later one on",
+    "another pair behind both",
+    "another pair between them",
+    "another pair from between them on",
+    "another pair of another namespace",
+    "another pair with more or fewer units",
+    "another pair of lower rank",
+    "another pair of higher rank",
+];
+
+const DIGITS: [&str; 3] = ["0-9", "A-F", "a-f"];
+const NO_DIGITS: [&str; 5] = ["/ : @ G ` g", "0x..23", "0x23..", "0x100 and over", "another below 0x100"];
+
+/// What two entries that quarrel have at one place.
+pub fn quarrel_unit_labels() -> Vec<String> {
+    let both = vec!["'#' and '#'".to_string()];
+    let digits = [DIGITS.map(|digit| format!("'#' and {digit}")), DIGITS.map(|digit| format!("{digit} and '#'"))];
+    let same = ["digit"].iter().chain(&NO_DIGITS).map(|unit| format!("both {unit}"));
+    [both, digits.concat(), same.collect()].concat()
+}
+
+/// What two entries have at the one place where no unit is matched by both.
+pub fn apart_unit_labels() -> Vec<String> {
+    let signs = [NO_DIGITS.map(|unit| format!("'#' and {unit}")), NO_DIGITS.map(|unit| format!("{unit} and '#'"))];
+    let others = ["two digits", "a letter in two cases", "other high bytes", "other low bytes"].map(str::to_string);
+    [signs.concat(), others.to_vec()].concat()
+}
+
+/// The locks of two entries that quarrel.
+pub fn quarrel_lock_labels() -> Vec<String> {
+    crossed(&LOCK_TYPES, &LOCK_TYPES)
+}
+
+/// Two entries with triggers.
+pub fn quarrel_trigger_labels() -> Vec<String> {
+    crossed(&["a quarrel", "none"], &["one trigger's name", "two names"])
+}
+
+/// Dumps that are as long as they can be.
+pub fn quarrel_limit_labels() -> Vec<String> {
+    crossed(&["none", "a quarrel"], &["as many entries as the limit", "a sum at the limit", "both"])
+}
+
+/// Dumps of which no two entries quarrel, and two entries that nearly do.
+pub const NO_QUARREL: [&str; 10] = [
+    "no entries",
+    "one entry",
+    "whole namespaces alone",
+    "names without '#' alone",
+    "a whole namespace, then a name in it",
+    "a name, then its whole namespace",
+    "one name is the beginning of the other, ranks equal",
+    "but for their namespaces",
+    "but for their ranks",
+    "more than one place where no unit is shared",
+];
+
+/// What is no dump, and why.
+pub const NO_DUMP: [&str; 24] = [
+    "a name repeated by the next",
+    "a name repeated by a later one",
+    "a pattern repeated by the next",
+    "a pattern repeated by a later one",
+    "a whole namespace repeated by the next",
+    "a whole namespace repeated by a later one",
+    "one entry over the limit, the sum within",
+    "more entries over the limit, the sum within",
+    "sum two over the limit, the entries within",
+    "sum more over the limit, the entries within",
+    "over both limits",
+    "a policy record with entries and room",
+    "a policy record without entries",
+    "one zero behind",
+    "one other byte behind",
+    "2 to 43 zeros behind",
+    "44 zeros or more behind",
+    "the last entry cut by a byte",
+    "the last entry cut by more",
+    "the only entry malformed",
+    "the first malformed",
+    "the last malformed",
+    "one between others malformed",
+    "'#' in a trigger's name",
+];
+
+/// Why bytes with entries that quarrel are no dump.
+pub const QUARREL_REFUSED: [&str; 7] = [
+    "malformed behind them",
+    "malformed before or between them",
+    "a repeat",
+    "the last entry cut",
+    "bytes behind",
+    "entries over the limit",
+    "sum over the limit",
+];

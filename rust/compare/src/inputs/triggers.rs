@@ -42,7 +42,7 @@ fn signs(bytes: &[u8]) -> Vec<usize> {
 }
 
 /// The places of '#' in the trigger's name, and the entry with 0 at each of them.
-fn without_signs(entry: &[u8]) -> (Vec<usize>, Vec<u8>) {
+pub(super) fn without_signs(entry: &[u8]) -> (Vec<usize>, Vec<u8>) {
     let mut plain = entry.to_vec();
     let name = name_of_trigger(entry).unwrap_or(0..0);
     let places = signs(&entry[name.clone()]);

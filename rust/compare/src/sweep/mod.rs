@@ -2,10 +2,12 @@
 //! the rules, and each byte of the switches, tried one by one. It is the same in every run.
 
 mod choices;
+mod dumps;
 mod engine;
 mod entries;
 mod limits;
 mod names;
+mod quarrels;
 mod reports;
 mod sets;
 mod signs;
@@ -17,6 +19,7 @@ mod triggers;
 use crate::call::Call;
 use crate::comparison::{Comparison, Sides};
 use crate::make::{EntryFields, G, closed, packed, unit_bytes, units};
+use crate::quarrels::{Asked, OLD_NAME};
 use crate::state::State;
 use varpolicy::{Namespace, SwitchBytes};
 
@@ -30,7 +33,7 @@ type Outcome = Result<(), String>;
 
 type Part = (&'static str, fn(&mut Sweep) -> Outcome);
 
-const PARTS: [Part; 12] = [
+const PARTS: [Part; 14] = [
     ("entries", entries::run),
     ("engine", engine::run),
     ("choices", choices::run),
@@ -43,6 +46,8 @@ const PARTS: [Part; 12] = [
     ("signs", signs::run),
     ("triggers", triggers::run),
     ("reports", reports::run),
+    ("quarrels", quarrels::run),
+    ("dumps", dumps::run),
 ];
 
 struct Sweep<'a> {
@@ -56,6 +61,11 @@ impl Sweep<'_> {
             self.comparison.exchange(&mut Sides::new(state.clone()), &call)?;
         }
         Ok(())
+    }
+
+    /// Asks for a quarrel in a dump of these entries.
+    fn quarrels(&mut self, entries: &[Vec<u8>]) -> Result<Asked, String> {
+        self.comparison.quarrels(&entries.concat(), &OLD_NAME)
     }
 
     /// Makes the calls one after the other, from the state on.

@@ -9,7 +9,8 @@
 //! most); MaxSize asked of an append's own length too (the sum is no shorter); MinSize less the stored length, 0 at
 //! least, asked of it; a '#' in a trigger's name that a set takes for a pattern, or for no variable (no trigger has
 //! one); a report that never counts BS as missing, or tells 5 bits of the number of missing bits (every set that
-//! is asked for attributes has BS).
+//! is asked for attributes has BS); a quarrel that is not looked for among names of one unit, names of '#' alone
+//! or whole namespaces (none of them has any), and 16 bits of a dump's length (128 entries have fewer bytes).
 
 mod calls;
 mod entry;
@@ -17,6 +18,7 @@ mod former;
 mod limits;
 mod name;
 mod policy;
+mod quarrels;
 mod reports;
 mod set;
 mod signs;
@@ -52,7 +54,7 @@ impl Edit {
 }
 
 /// The edits of each file in `reference/src`.
-const FILES: [(&str, &[Edit]); 24] = [
+const FILES: [(&str, &[Edit]); 25] = [
     ("lib.rs", limits::EDITS),
     ("lib.rs", former::LIMIT_EDITS),
     ("cursor.rs", limits::CURSOR_EDITS),
@@ -77,6 +79,7 @@ const FILES: [(&str, &[Edit]); 24] = [
     ("engine.rs", reports::SET_EDITS),
     ("report.rs", reports::EDITS),
     ("switches.rs", switches::EDITS),
+    ("quarrel.rs", quarrels::EDITS),
 ];
 
 /// All edits, each with its file.

@@ -1,4 +1,5 @@
-//! What makes a packed entry malformed (docs/RULES.md, 3): its first defect, by the order of its fields.
+//! What makes a packed entry malformed (docs/RULES.md, 3): its first defect, by the order of its fields. Where an entry
+//! of a dump ends.
 
 use crate::describe;
 use varpolicy::{Attributes, MAX_NAME_UNITS, MIN_ENTRY_SIZE};
@@ -7,18 +8,32 @@ const VERSION: u32 = 0x0001_0000;
 /// Where the name of a trigger begins.
 const TRIGGER_NAME: usize = 62;
 
+/// The entry that these bytes begin with, as long as its Size says, or why there is none.
+pub fn first(bytes: &[u8]) -> Result<&[u8], String> {
+    let left = bytes.len();
+    if left < MIN_ENTRY_SIZE {
+        return Err(format!("{MIN_ENTRY_SIZE} bytes are the least, and the rest has {left}"));
+    }
+    if let Some(version) = version_defect(bytes) {
+        return Err(version);
+    }
+    match half(bytes, 4) {
+        size if size < MIN_ENTRY_SIZE => Err(format!("Size is {size}, and {MIN_ENTRY_SIZE} is the least")),
+        size => bytes.get(..size).ok_or_else(|| format!("Size is {size}, and the rest has {left} bytes")),
+    }
+}
+
 /// The first defect of a packed entry, if it has one.
 pub fn defect(entry: &[u8]) -> Option<String> {
     let length = entry.len();
     if length < MIN_ENTRY_SIZE {
         return Some(format!("{MIN_ENTRY_SIZE} bytes are the least, and the entry has {length}"));
     }
-    let number = |at: usize| u32::from_le_bytes([entry[at], entry[at + 1], entry[at + 2], entry[at + 3]]);
-    let half = |at: usize| usize::from(u16::from_le_bytes([entry[at], entry[at + 1]]));
-    let (version, size, offset_to_name, lock_type) = (number(0), half(4), half(6), entry[40]);
+    let number = |at: usize| number(entry, at);
+    let (size, offset_to_name, lock_type) = (half(entry, 4), half(entry, 6), entry[40]);
     let (min_size, max_size, both) = (number(24), number(28), Attributes(number(32) & number(36)));
-    if version != VERSION {
-        Some(format!("Version is {version:#010X}, not {VERSION:#010X}"))
+    if let Some(version) = version_defect(entry) {
+        Some(version)
     } else if size != length {
         Some(format!("Size is {size}, and the entry has {}", describe::count(length)))
     } else if min_size > max_size {
@@ -31,6 +46,19 @@ pub fn defect(entry: &[u8]) -> Option<String> {
             name => name_defect("name", name),
         })
     }
+}
+
+fn number(bytes: &[u8], at: usize) -> u32 {
+    u32::from_le_bytes([bytes[at], bytes[at + 1], bytes[at + 2], bytes[at + 3]])
+}
+
+fn half(bytes: &[u8], at: usize) -> usize {
+    usize::from(u16::from_le_bytes([bytes[at], bytes[at + 1]]))
+}
+
+fn version_defect(entry: &[u8]) -> Option<String> {
+    let version = number(entry, 0);
+    (version != VERSION).then(|| format!("Version is {version:#010X}, not {VERSION:#010X}"))
 }
 
 /// The first defect of the lock type, of OffsetToName, or of the trigger between the header and the name.
@@ -121,6 +149,21 @@ mod tests {
             (long, "the name has 65 units, and 64 are the most"),
         ] {
             assert_eq!(defect(&entry).as_deref(), Some(what));
+        }
+    }
+
+    #[test]
+    fn an_entry_ends_where_its_size_says() {
+        let two = [plain("A"), plain("BC")].concat();
+        assert_eq!(first(&two), Ok(&plain("A")[..]));
+        assert_eq!(first(&two[48..]), Ok(&plain("BC")[..]));
+        for (bytes, why) in [
+            (two[..43].to_vec(), "44 bytes are the least, and the rest has 43"),
+            (with(two.clone(), 2, &[2]), "Version is 0x00020000, not 0x00010000"),
+            (with(two.clone(), 4, &[43]), "Size is 43, and 44 is the least"),
+            (with(two.clone(), 4, &[99]), "Size is 99, and the rest has 98 bytes"),
+        ] {
+            assert_eq!(first(&bytes), Err(why.to_string()));
         }
     }
 

@@ -1,6 +1,7 @@
 //! Why a call was refused, as a sentence: what stands behind its status (docs/RULES.md, 9 and 10), found in what the call
 //! was lent and given, which it left as it was.
 
+mod dump;
 mod entry;
 mod set;
 
@@ -48,6 +49,11 @@ pub fn register(status: Status, policy: &[u8], entry: &[u8]) -> String {
         }
         _ => BAD_RECORD.to_string(),
     }
+}
+
+/// Of bytes in which quarrels are looked for.
+pub fn no_dump(bytes: &[u8]) -> String {
+    format!("not a dump: {}", dump::fault(bytes).unwrap_or_default())
 }
 
 /// Of a disable that was answered so.
@@ -177,6 +183,7 @@ mod tests {
         let bad = "VOLUME_CORRUPTED the policy record is not valid";
         assert_eq!(told(&["poke policy 0 01"], "dump"), bad);
         assert_eq!(told(&["poke policy 0 01"], "rebuild"), format!("dump {bad}"));
+        assert_eq!(told(&["poke policy 0 01"], "quarrels"), format!("dump {bad}"));
         assert_eq!(told(&["lock"], "lock"), "WRITE_PROTECTED the engine is locked already");
         assert_eq!(told(&["disable", "lock"], "disable"), "ALREADY_STARTED the engine is disabled already");
         assert_eq!(told(&["lock"], "disable"), "WRITE_PROTECTED the engine is locked");

@@ -1,0 +1,55 @@
+-- `policy::check_dump` meets its contract. Assumes nothing.
+use Prim.Native.Nat.{_≤_}
+use mathlib.Core.Path.{_≡_, sym, _∙_}
+use native.Mathlib.Omega.{arith}
+use borrow.Author.Needs.{needs}
+use lib.ListN.{length}
+use Rattle.limits.specs.Limits.{policyBytes}
+use Rattle.slices.specs.Bytes.{Bytes}
+use Rattle.policy.specs.PolicyLaws.{CheckedWithin, within-valid, within-invalid}
+use Rattle.policy.specs.DumpLaws.{dump-long, dump-behind, dump-invalid, dump-good, dump-refused, dump-granted}
+use Rattle.policy.proofs.Marked.{marks-none}
+use Rattle.policy.proofs.check_dump.Statement.{statement}
+use Rattle.policy.proofs.check_dump.Tie as tie
+
+returns : tie.Need-returns
+returns c = let d = c .before .before .args .dump .now in dump-refused d (dump-long d (c .if1 .taken))
+
+no-marks-requires : tie.Need-no-marks-requires
+no-marks-requires c κs = search needs
+
+scan-requires : tie.Need-scan-requires
+scan-requires c κs =
+    let i = c .before .before .before in
+    (omega (arith, i .if1 .left), marks-none (c .before .before .no-marks .result) (c .before .before .no-marks .ensures), i .before .before .pre)
+
+enum-told : tie.Need-enum-told
+enum-told c = search needs
+
+enum-known-count : tie.Need-enum-known-count
+enum-known-count c = search needs
+
+-- what the scan told of a dump
+checked : (c : tie.After-count) → CheckedWithin (length (c .before .before .before .before .before .before .before .before .args .dump .now)) (c .before .before .before .before .before .before .before .before .args .dump .now) (c .count .given .0 .0) (c .count .given .0 .1 .0)
+checked c = within-valid _ _ _ _ (sym (c .before .before .scan .ensures .0) ∙ c .count .given .1)
+
+returns-2 : tie.Need-returns-2
+returns-2 c =
+    let k = checked (c .before .before) in
+    let d = c .before .before .before .before .before .before .before .before .before .before .args .dump .now in
+    dump-refused d (dump-behind d (omega (arith, k .summed, c .if2 .taken)))
+
+returns-3 : tie.Need-returns-3
+returns-3 c =
+    let d = c .before .before .before .before .before .before .before .before .args .dump .now in
+    dump-refused d (dump-invalid d (within-invalid _ d (sym (c .before .before .scan .ensures .0) ∙ c .enum-told .given .1)))
+
+returns-4 : tie.Need-returns-4
+returns-4 c =
+    let k = checked (c .before .before) in
+    let s = c .before .before .before .before in
+    let d = s .before .before .before .before .before .before .args .dump .now in
+    dump-granted d k (dump-good d (omega (arith, s .before .before .before .before .if1 .left)) (k .valid) (omega (arith, k .summed, c .if2 .left))) (s .scan .ensures .1 (k .valid))
+
+pub check-dump-spec : {M : Type 1} → statement M
+check-dump-spec = tie.close (tie.spec returns no-marks-requires scan-requires enum-told enum-known-count returns-2 returns-3 returns-4)

@@ -1,0 +1,5 @@
+pub mod Tests
+pub mod Chains
+pub mod Linked
+pub mod Places
+pub mod Answers

@@ -1,0 +1,167 @@
+-- Places of a dump that quarrel: they are in one group, and what was noted of them agrees. And the search over pairs of places as it goes on: `Clear` is what is
+-- known where it has come to a pair, with one law for each way on. Assumes nothing.
+use Prim.Native.Nat.{ℕ, zero, suc, _+_, _-_, _≤_, _<_}
+use mathlib.Core.Path.{_≡_, refl, sym, ap, ap₂, subst⁻¹, _∙_}
+use mathlib.Core.List.{List, [], _∷_}
+use mathlib.Core.Bool.{Bool, true, false, false≢true}
+use mathlib.Core.Logic.{_⊎_, inl, inr}
+use native.Mathlib.Omega.{arith}
+use lib.ListN.{length, getD}
+use lib.Bits.{bitAnd}
+use Rattle.lists.specs.Lists.{All, nil, more}
+use Rattle.lists.specs.ListsLaws.{Less, less, all-left, all-right}
+use Rattle.slices.specs.TestLaws.{forced-off}
+use Rattle.slices.specs.Bytes.{Bytes, AreBytes}
+use Rattle.slices.specs.PartLaws.{bytes-part}
+use Rattle.slices.specs.Chunks.{flat}
+use Rattle.names.specs.TailLaws.{InBytes}
+use Rattle.names.specs.Literals.{literalMaskOf, literalsOf}
+use Rattle.entry.specs.Entry.{offsetToName, nameOf}
+use Rattle.policy.specs.Policy.{entriesOf}
+use Rattle.policy.specs.Dump.{dumpValid}
+use Rattle.policy.specs.DumpLaws.{dump-flat, dump-entries}
+use Rattle.quarrels.specs.declared.Pair.the-variants.{Places, NoPair}
+use Rattle.quarrels.specs.PairsLaws.{Before, none-exactly, first-found}
+use Rattle.quarrels.specs.Quarrel.{quarrel, quarrelAt, pairOf}
+use Rattle.quarrels.specs.QuarrelLaws.{at, all-at, formed-at, apart-at}
+use Rattle.quarrels.specs.Group.{groups, groupAt, InGroup, Next, Chains, Noted}
+use Rattle.quarrels.proofs.Tests.{grouped, one-group, shows-agree}
+
+-- ---- bytes
+are-bytes : (l : Bytes) → ((k : ℕ) → getD l k 0 < 256) → AreBytes l
+are-bytes [] h = nil
+are-bytes (b ∷ l) h = more (h 0) (are-bytes l (λ k. h (suc k)))
+
+in-bytes : (l : Bytes) → AreBytes l → InBytes l
+in-bytes [] a k h = absurd (omega arith)
+in-bytes (b ∷ l) (more p a) zero h = p
+in-bytes (b ∷ l) (more p a) (suc k) h = in-bytes l a k (omega arith)
+
+bytes-flat : (es : List Bytes) → AreBytes (flat es) → All AreBytes es
+unfolding flat
+bytes-flat [] a = nil
+bytes-flat (e ∷ es) a = more (all-left e (flat es) a) (bytes-flat es (all-right e (flat es) a))
+
+name-bytes : (e : Bytes) → AreBytes e → InBytes (nameOf e)
+unfolding nameOf
+name-bytes e a = in-bytes _ (bytes-part (offsetToName e) (length e - 2) e a)
+
+-- no pair before i, j quarrels
+abbrev pub Clear : List Bytes → ℕ → ℕ → Type 0
+Clear es i j = (x y : ℕ) → x < y → y < length es → Before x y i j → quarrelAt es x y ≡ false
+
+-- so it is where the search is at a place of the group of i, or has come to the end of its chain
+pub record Walks (es : List Bytes) (i j : ℕ) : Type 0 where
+  pub inside : j < length es → InGroup es i j
+  pub clear : Clear es i j
+
+module _ (d : Bytes) (v : dumpValid d ≡ true) (b : (k : ℕ) → getD d k 0 < 256) where
+  abbrev es : List Bytes
+  es = entriesOf d
+
+  abbrev n : ℕ
+  n = length es
+
+  bytes-at : (k : ℕ) → k < n → InBytes (nameOf (at es k))
+  bytes-at k h = name-bytes (at es k) (all-at es (bytes-flat es (subst⁻¹ AreBytes (dump-flat d v) (are-bytes d b))) k h)
+
+  -- two places that quarrel
+  module _ (i j : ℕ) (o : i < j) (w : j < n) (q : quarrelAt es i j ≡ true) where
+    in-a-group : groupAt es i < groups
+    in-a-group = grouped (at es i) (at es j) (formed-at es (dump-entries d v) i (omega arith)) (formed-at es (dump-entries d v) j w) (bytes-at i (omega arith)) (bytes-at j w) (apart-at es (dump-entries d v) i j o w) q
+
+    in-one-group : groupAt es j ≡ groupAt es i
+    in-one-group = one-group (at es i) (at es j) (formed-at es (dump-entries d v) i (omega arith)) (formed-at es (dump-entries d v) j w) (bytes-at i (omega arith)) (bytes-at j w) (apart-at es (dump-entries d v) i j o w) q
+
+    last-units : bitAnd (literalsOf (nameOf (at es i))) (literalMaskOf (nameOf (at es j))) ≡ bitAnd (literalsOf (nameOf (at es j))) (literalMaskOf (nameOf (at es i)))
+    last-units = shows-agree (at es i) (at es j) (formed-at es (dump-entries d v) i (omega arith)) (formed-at es (dump-entries d v) j w) (bytes-at i (omega arith)) (bytes-at j w) (apart-at es (dump-entries d v) i j o w) q
+
+  -- what was noted of two places of one group differs: they do not quarrel
+  pub shows-differ : (masks shown : List ℕ) (i j : ℕ) → Noted literalMaskOf es masks 0 → Noted literalsOf es shown 0 → InGroup es i j
+      → (bitAnd (getD shown i 0) (getD masks j 0) ≡ bitAnd (getD shown j 0) (getD masks i 0) → ⊥) → false ≡ quarrelAt es i j
+  shows-differ masks shown i j m s g h =
+      let x : groupAt es j < groups = omega (arith, g .grouped, g .one) in
+      let a = m .noted i (omega arith) (omega (arith, g .order, g .within)) (g .grouped) in
+      let b = m .noted j (omega arith) (g .within) x in
+      let c = s .noted i (omega arith) (omega (arith, g .order, g .within)) (g .grouped) in
+      let e = s .noted j (omega arith) (g .within) x in
+      sym (forced-off (quarrelAt es i j) (λ q. absurd (h (ap₂ bitAnd c b ∙ last-units i j (g .order) (g .within) q ∙ sym (ap₂ bitAnd e a)))))
+
+  -- ---- the search
+  pub clear-start : Clear es 0 0
+  clear-start x y o w (inl l) = absurd (omega arith)
+  clear-start x y o w (inr l) = let k = l .1 in absurd (omega arith)
+
+  -- all pairs of i were met
+  pub clear-row : (i j : ℕ) → n ≤ j → Clear es i j → Clear es (i + 1) 0
+  clear-row i j h c x y o w (inl l) = go (less x i)
+    where
+      go : Less x i → quarrelAt es x y ≡ false
+      go (inl k) = c x y o w (inl (k .0))
+      go (inr k) = let e : x ≡ i = omega (arith, k .0) in let z : y < j = omega arith in c x y o w (inr (e, z))
+  clear-row i j h c x y o w (inr l) = let k = l .1 in absurd (omega arith)
+
+  -- the pairs of i up to j follow those before it
+  clear-to : (i j : ℕ) → Clear es i 0 → ((y : ℕ) → i < y → y < n → y < j → quarrelAt es i y ≡ false) → Clear es i j
+  clear-to i j k f x y o w (inl l) = k x y o w (inl l)
+  clear-to i j k f x y o w (inr l) =
+      let e : x ≡ i = l .0 in
+      ap (λ m. quarrelAt es m y) e ∙ f y (omega arith) w (l .1)
+
+  -- a place that is not of the group of i does not quarrel with it
+  unlike : (i y : ℕ) → i < y → y < n → (groupAt es i < groups → groupAt es y ≡ groupAt es i → ⊥) → quarrelAt es i y ≡ false
+  unlike i y o w g = forced-off (quarrelAt es i y) (λ q. absurd (g (in-a-group i y o w q) (in-one-group i y o w q)))
+
+  module _ (next : List ℕ) (c : Chains (groupAt es) n next 0) (i : ℕ) where
+    pub walk-start : {t : ℕ} → t ≡ getD next i 0 → i < n → Clear es i 0 → Walks es i t
+    walk-start e h k = rw e (go (less (groupAt es i) groups))
+      where
+        go : Less (groupAt es i) groups → Walks es i (getD next i 0)
+        go (inl g) =
+            let t = c .linked i (omega arith) h (g .0) in
+            record {
+              inside = λ l. let a = t .alike l in record { order = a .0; within = l; grouped = g .0; one = a .1 };
+              clear = clear-to i _ k (λ y o w l. unlike i y o w (λ x e. t .alone y o w l e));
+            }
+        go (inr g) =
+            let t = c .single i (omega arith) h (g .0) in
+            record { inside = λ l. absurd (omega arith); clear = clear-to i _ k (λ y o w l. unlike i y o w (λ x e. let z = g .0 in omega arith)) }
+
+    module _ (j : ℕ) (l : j < n) (w : Walks es i j) where
+      own : InGroup es i j
+      own = w .inside l
+
+      after : Next (groupAt es) n j (getD next j 0)
+      after = c .linked j (omega arith) l (omega (arith, own .grouped, own .one))
+
+      -- the chain goes on behind j
+      pub walk-later : j < getD next j 0
+      walk-later = go (less (getD next j 0) n)
+        where
+          go : Less (getD next j 0) n → j < getD next j 0
+          go (inl k) = after .alike (k .0) .0
+          go (inr k) = let z = k .0 in omega arith
+
+      pub walk-step : {t : ℕ} → t ≡ getD next j 0 → quarrelAt es i j ≡ false → Walks es i t
+      walk-step e q =
+          rw e
+          (record {
+            inside = λ k. let a = after .alike k in record { order = omega (arith, own .order, a .0); within = k; grouped = own .grouped; one = a .1 ∙ own .one };
+            clear = clear-to i _ (λ x y o w′ p. w .clear x y o w′ (first p)) (λ y o w′ p. behind y o w′ p (less y j) (less j y));
+          })
+        where
+          first : {x y : ℕ} → Before x y i 0 → Before x y i j
+          first (inl p) = inl p
+          first (inr p) = let z = p .1 in absurd (omega arith)
+
+          behind : (y : ℕ) → i < y → y < n → y < getD next j 0 → Less y j → Less j y → quarrelAt es i y ≡ false
+          behind y o w′ p (inl a) _ = w .clear i y o w′ (inr (refl, a .0))
+          behind y o w′ p (inr a) (inr b) = let e : y ≡ j = omega (arith, a .0, b .0) in ap (quarrelAt es i) e ∙ q
+          behind y o w′ p (inr a) (inl b) = unlike i y o w′ (λ x e. after .alone y (b .0) w′ p (e ∙ sym (own .one)))
+
+  -- the pair found
+  pub found-here : (i j : ℕ) → j < n → Walks es i j → quarrelAt es i j ≡ true → Places i j ≡ pairOf es
+  found-here i j l w q = sym (first-found (quarrelAt es) n i j (w .inside l .order) l q (w .clear))
+
+  pub found-none : (i : ℕ) → n ≤ i → Clear es i 0 → NoPair ≡ pairOf es
+  found-none i h c = sym (none-exactly (quarrelAt es) n .1 (λ x y o w. c x y o w (inl (omega arith))))

@@ -1,0 +1,177 @@
+-- The tests by which the code decides whether two entries quarrel, one law for each way out. Assumes nothing.
+use Prim.Native.Nat.{ℕ, _≤_, _<_}
+use mathlib.Core.Path.{_≡_, refl, sym, ap, ap₂, _∙_}
+use mathlib.Core.List.{[]}
+use mathlib.Core.Bool.{Bool, true, false, not, cond, false≢true}
+use native.Mathlib.Omega.{arith}
+use lib.ListN.{length}
+use lib.Bits.{bitAnd}
+use lib.Dec.{eqb}
+use borrow.Author.Tests.{eq-eqb, ne-eqb}
+use Rattle.limits.specs.Limits.{maxNameBytes, namespaceBytes, namespaceAt, minSizeAt}
+use Rattle.slices.specs.Test.{_and_}
+use Rattle.slices.specs.TestLaws.{and-left, and-right, and-intro, forced-off}
+use Rattle.slices.specs.Bytes.{Bytes, le32, part, same}
+use Rattle.slices.specs.BytesLaws.{pairwise-length, same-eq, same-of}
+use Rattle.slices.specs.PartLaws.{length-part}
+use Rattle.names.specs.Name.{Variable, units, isName, named, unitMatches, matches, wildcards}
+use Rattle.names.specs.NameLaws.{named-name, isName-length, units-length, wildcards-le}
+use Rattle.names.specs.Common.{leastName, overlap}
+use Rattle.names.specs.CommonLaws.{overlap-matches, least-length, least-name, overlap-sign}
+use Rattle.names.specs.TailLaws.{InBytes}
+use Rattle.names.specs.Literals.{literalMaskOf, literalsOf}
+use Rattle.names.specs.LiteralsLaws.{literals-agree}
+use Rattle.entry.specs.Entry.{wellFormed, namespaceOf, nameIsEmpty, nameOf, targets, rank, sameTarget}
+use Rattle.entry.specs.EntryLaws.{Sized, sized, nameOf-empty, nameOf-none, nameOf-even, nameOf-most, namespace-start, target-namespace, target-name, rank-of-name, rank-of-namespace, sameTarget-of}
+use Rattle.quarrels.specs.Quarrel.{leastOf, leastVariable, quarrel}
+use Rattle.quarrels.specs.QuarrelLaws.{TargetLeast, target-least, name-targets, name-of}
+use Rattle.quarrels.specs.Group.{groups, groupBy, groupOf}
+
+pub namespace-length : (e : Bytes) → wellFormed e ≡ true → length (namespaceOf e) ≡ namespaceBytes
+namespace-length e w = length-part namespaceAt minSizeAt e (omega (arith, sized e w .least))
+
+forced : (b : Bool) → (b ≡ false → false ≡ true) → b ≡ true
+forced true k = refl
+forced false k = k refl
+
+module _ (e f : Bytes) (we : wellFormed e ≡ true) (wf : wellFormed f ≡ true) where
+  -- names that are not as long
+  module _ (q : TargetLeast e f) where
+    pub lengths-agree : length (nameOf e) ≡ length (nameOf f)
+    lengths-agree = go (nameIsEmpty e) (nameIsEmpty f) refl refl
+      where
+        go : (a b : Bool) → nameIsEmpty e ≡ a → nameIsEmpty f ≡ b → length (nameOf e) ≡ length (nameOf f)
+        go true true a b = ap length (nameOf-empty e a ∙ sym (nameOf-empty f b))
+        go true false a b = absurd (omega (arith, q .ranks, rank-of-namespace e a, rank-of-name f (leastVariable e f) (q .taken) (q .second) b))
+        go false true a b = absurd (omega (arith, q .ranks, rank-of-namespace f b, rank-of-name e (leastVariable e f) (q .taken) (q .first) a))
+        go false false a b =
+            let k = pairwise-length unitMatches _ _ (target-name e (leastVariable e f) a (q .first)) in
+            let l = pairwise-length unitMatches _ _ (target-name f (leastVariable e f) b (q .second)) in
+            omega (arith, k, l, units-length (nameOf e), units-length (nameOf f), nameOf-even e we, nameOf-even f wf)
+
+  unlike : (TargetLeast e f → ⊥) → false ≡ quarrel e f
+  unlike h = sym (forced-off (quarrel e f) (λ t. absurd (h (target-least e f t))))
+
+  pub other-length : (length (nameOf e) ≡ length (nameOf f) → ⊥) → false ≡ quarrel e f
+  other-length h = unlike (λ q. h (lengths-agree q))
+
+  -- no names
+  pub both-empty : length (nameOf e) ≡ 0 → length (nameOf e) ≡ length (nameOf f) → false ≡ quarrel e f
+  both-empty z s = unlike (λ q. omega (arith, z, least-length (nameOf e) (nameOf f) s (nameOf-even e we), isName-length (leastOf e f) (named-name (leastVariable e f) (q .taken))))
+
+  module _ (some : length (nameOf e) ≡ 0 → ⊥) (as-long : length (nameOf e) ≡ length (nameOf f)) where
+    first-named : nameIsEmpty e ≡ false
+    first-named = nameOf-none e we ∙ ne-eqb _ 0 some
+
+    second-named : nameIsEmpty f ≡ false
+    second-named = nameOf-none f wf ∙ ne-eqb _ 0 (λ z. some (as-long ∙ z))
+
+    -- that no name matches both of
+    pub no-overlap : overlap (nameOf e) (nameOf f) ≡ false → false ≡ quarrel e f
+    unfolding overlap
+    no-overlap n = unlike (λ q. false≢true (sym n ∙ and-intro _ _ (target-name e (leastVariable e f) first-named (q .first)) (target-name f (leastVariable e f) second-named (q .second))))
+
+    rank-first : rank e ≡ wildcards (units (nameOf e))
+    unfolding rank
+    rank-first = rw first-named
+
+    rank-second : rank f ≡ wildcards (units (nameOf f))
+    unfolding rank
+    rank-second = rw second-named
+
+    -- of another rank
+    pub other-rank : (wildcards (units (nameOf e)) ≡ wildcards (units (nameOf f)) → ⊥) → false ≡ quarrel e f
+    other-rank n = unlike (λ q. n (sym rank-first ∙ q .ranks ∙ rank-second))
+
+    agree : overlap (nameOf e) (nameOf f) ≡ true → wildcards (units (nameOf e)) ≡ wildcards (units (nameOf f)) → namespaceOf e ≡ namespaceOf f → quarrel e f ≡ true
+    unfolding quarrel named
+    agree o w n =
+        let m = overlap-matches (nameOf e) (nameOf f) o in
+        and-intro _ _ (eq-eqb _ _ (rank-first ∙ w ∙ sym rank-second))
+        (and-intro _ _ (and-intro _ _ (eq-eqb _ _ (namespace-length e we)) (least-name (nameOf e) (nameOf f) (name-of e we first-named) (name-of f wf second-named) as-long))
+        (and-intro _ _ (name-targets e (leastVariable e f) refl (m .0)) (name-targets f (leastVariable e f) (sym n) (m .1))))
+
+    -- then the namespaces decide
+    pub namespaces-decide : {r : Bool} → overlap (nameOf e) (nameOf f) ≡ true → wildcards (units (nameOf e)) ≡ wildcards (units (nameOf f))
+        → r ≡ same (namespaceOf e) (namespaceOf f) → r ≡ quarrel e f
+    namespaces-decide {r} o w h = go (same (namespaceOf e) (namespaceOf f)) refl
+      where
+        go : (b : Bool) → same (namespaceOf e) (namespaceOf f) ≡ b → r ≡ quarrel e f
+        go true k = h ∙ k ∙ sym (agree o w (same-eq (namespaceOf e) (namespaceOf f) k))
+        go false k = h ∙ k ∙ unlike (λ q. false≢true (sym k ∙ same-of (namespaceOf e) (namespaceOf f) (sym (target-namespace f (leastVariable e f) (q .second)))))
+
+-- ---- the same as the code asks: m and n are the names
+module _ {m n : Bytes} (e f : Bytes) (we : wellFormed e ≡ true) (wf : wellFormed f ≡ true) (a : m ≡ nameOf e) (b : n ≡ nameOf f) where
+  pub by-length : (length m ≡ length n → ⊥) → false ≡ quarrel e f
+  by-length = rw (a, b) (other-length e f we wf)
+
+  module _ (s : length m ≡ length n) where
+    pub by-none : length m ≡ 0 → false ≡ quarrel e f
+    by-none z = both-empty e f we wf (ap length (sym a) ∙ z) (ap length (sym a) ∙ s ∙ ap length b)
+
+    module _ (some : length m ≡ 0 → ⊥) where
+      pub by-overlap : overlap m n ≡ false → false ≡ quarrel e f
+      by-overlap h = no-overlap e f we wf (λ z. some (ap length a ∙ z)) (ap length (sym a) ∙ s ∙ ap length b) (ap₂ overlap (sym a) (sym b) ∙ h)
+
+      pub by-rank : (wildcards (units m) ≡ wildcards (units n) → ⊥) → false ≡ quarrel e f
+      by-rank h = other-rank e f we wf (λ z. some (ap length a ∙ z)) (ap length (sym a) ∙ s ∙ ap length b) (λ k. h (ap (λ l. wildcards (units l)) a ∙ k ∙ ap (λ l. wildcards (units l)) (sym b)))
+
+      pub by-namespace : {r : Bool} → overlap m n ≡ true → wildcards (units m) ≡ wildcards (units n) → r ≡ same (namespaceOf e) (namespaceOf f) → r ≡ quarrel e f
+      by-namespace o w =
+          namespaces-decide e f we wf (λ z. some (ap length a ∙ z)) (ap length (sym a) ∙ s ∙ ap length b) (ap₂ overlap (sym a) (sym b) ∙ o)
+          (ap (λ l. wildcards (units l)) (sym a) ∙ w ∙ ap (λ l. wildcards (units l)) b)
+
+-- ---- the group of an entry, from its name, the number of '#' in it and the first bytes of the namespace
+module _ {m : Bytes} {signs : ℕ} (e : Bytes) (a : m ≡ nameOf e) (w : signs ≡ wildcards (units m)) where
+  pub no-group : signs ≡ 0 → groups ≡ groupOf e
+  unfolding groupOf
+  no-group z =
+      let k : wildcards (units (nameOf e)) ≡ 0 = ap (λ l. wildcards (units l)) (sym a) ∙ sym w ∙ z in
+      rw (eq-eqb _ 0 k)
+
+  pub a-group : {start : ℕ} → (signs ≡ 0 → ⊥) → start ≡ le32 e namespaceAt → groupBy start (length m) signs ≡ groupOf e
+  unfolding groupOf
+  a-group z h =
+      let k : wildcards (units (nameOf e)) ≡ signs = ap (λ l. wildcards (units l)) (sym a) ∙ sym w in
+      rw (k, ne-eqb signs 0 z, h, namespace-start e, a)
+
+  pub signs-most : wellFormed e ≡ true → (length m ≤ maxNameBytes) × (signs ≤ length m)
+  signs-most f = (omega (arith, ap length a, nameOf-most e f), omega (arith, w, wildcards-le (units m), units-length m))
+
+-- ---- entries that quarrel: they are in one group, and agree in the last units that both spell out
+module _ (e f : Bytes) (we : wellFormed e ≡ true) (wf : wellFormed f ≡ true) (be : InBytes (nameOf e)) (bf : InBytes (nameOf f)) (apart : sameTarget e f ≡ false)
+    (h : quarrel e f ≡ true) where
+  least : TargetLeast e f
+  least = target-least e f h
+
+  one-namespace : namespaceOf e ≡ namespaceOf f
+  one-namespace = sym (target-namespace f (leastVariable e f) (least .second))
+
+  both-long : length (nameOf e) ≡ length (nameOf f)
+  both-long = lengths-agree e f we wf least
+
+  not-empty : length (nameOf e) ≡ 0 → ⊥
+  not-empty z = false≢true (both-empty e f we wf z both-long ∙ h)
+
+  overlaps : overlap (nameOf e) (nameOf f) ≡ true
+  overlaps = forced (overlap (nameOf e) (nameOf f)) (λ n. no-overlap e f we wf not-empty both-long n ∙ h)
+
+  one-rank : wildcards (units (nameOf e)) ≡ wildcards (units (nameOf f))
+  one-rank = sym (rank-first e f we wf not-empty both-long) ∙ least .ranks ∙ rank-second e f we wf not-empty both-long
+
+  -- two names without '#' would be the same
+  signs : wildcards (units (nameOf e)) ≡ 0 → ⊥
+  signs z =
+      let n = overlap-sign (nameOf e) (nameOf f) be bf both-long (nameOf-even e we) z (sym one-rank ∙ z) overlaps in
+      false≢true (sym apart ∙ sameTarget-of e f (record { namespace = one-namespace; name = n }))
+
+  pub grouped : groupOf e < groups
+  unfolding groupOf
+  grouped = rw (ne-eqb (wildcards (units (nameOf e))) 0 signs) (omega arith)
+
+  pub one-group : groupOf f ≡ groupOf e
+  unfolding groupOf
+  one-group = rw (← one-rank, ← one-namespace, ← both-long)
+
+  pub shows-agree : bitAnd (literalsOf (nameOf e)) (literalMaskOf (nameOf f)) ≡ bitAnd (literalsOf (nameOf f)) (literalMaskOf (nameOf e))
+  shows-agree = literals-agree (nameOf e) (nameOf f) be bf both-long (nameOf-even e we) overlaps

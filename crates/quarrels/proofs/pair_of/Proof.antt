@@ -1,0 +1,26 @@
+-- `quarrels::pair_of` meets its contract. Assumes nothing.
+use mathlib.Core.Path.{refl}
+use borrow.Author.Needs.{needs}
+use Rattle.policy.specs.Policy.{entriesOf}
+use Rattle.quarrels.specs.Group.{groupAt}
+use Rattle.quarrels.proofs.Chains.{no-chains}
+use Rattle.quarrels.proofs.pair_of.Statement.{statement}
+use Rattle.quarrels.proofs.pair_of.Tie as tie
+
+no-links-requires : tie.Need-no-links-requires
+no-links-requires c κs = search needs
+
+link-requires : tie.Need-link-requires
+link-requires c κs =
+    let l = c .before .before .before in
+    let x = l .before .before in
+    (x .pre .0, x .pre .1, no-chains (groupAt (entriesOf (x .args .dump .now))) _ (l .no-links .ensures) (x .pre .1 .few), refl, refl)
+
+first-pair-requires : tie.Need-first-pair-requires
+first-pair-requires c κs = search needs
+
+returns : tie.Need-returns
+returns c = search needs
+
+pub pair-of-spec : {M : Type 1} → statement M
+pair-of-spec = tie.close (tie.spec no-links-requires link-requires first-pair-requires returns)

@@ -1,0 +1,60 @@
+-- The group of an entry, a number that entries which quarrel have in common, so that a walk over pairs need look at no others.
+-- Assumes nothing: these are definitions.
+use Prim.Native.Nat.{ℕ, _+_, _*_, _/_, _%_, _≤_, _<_}
+use mathlib.Core.Path.{_≡_}
+use mathlib.Core.List.{List, []}
+use mathlib.Core.Bool.{cond}
+use lib.ListN.{length, getD}
+use lib.Dec.{eqb}
+use Rattle.limits.specs.Limits.{maxEntries}
+use Rattle.slices.specs.Bytes.{Bytes, le32}
+use Rattle.names.specs.Name.{units, wildcards}
+use Rattle.entry.specs.Entry.{namespaceOf, nameOf}
+
+-- how many groups there are; no entry without '#' is in one of them
+abbrev pub groups : ℕ
+groups = 256
+
+-- by the first bytes of the namespace, the length of the name and the number of '#'
+abbrev pub groupBy : ℕ → ℕ → ℕ → ℕ
+groupBy start size signs = (start + 4099 * size + 262147 * signs) % 4294967296 * 2654435761 / 16777216 % groups
+
+unfoldable pub groupOf : Bytes → ℕ
+groupOf e =
+    cond (eqb (wildcards (units (nameOf e))) 0) groups
+    (groupBy (le32 (namespaceOf e) 0) (length (nameOf e)) (wildcards (units (nameOf e))))
+
+abbrev pub groupAt : List Bytes → ℕ → ℕ
+groupAt es i = groupOf (getD es i [])
+
+-- two places of one group
+pub record InGroup (es : List Bytes) (i j : ℕ) : Type 0 where
+  pub order : i < j
+  pub within : j < length es
+  pub grouped : groupAt es i < groups
+  pub one : groupAt es j ≡ groupAt es i
+
+-- ---- chains: from each place to the next one of its group, given the group of each of n places
+module _ (group : ℕ → ℕ) (n : ℕ) where
+  -- the next place behind i of its group is t; none if t is n or more
+  pub record Next (i t : ℕ) : Type 0 where
+    pub alone : (k : ℕ) → i < k → k < n → k < t → group k ≡ group i → ⊥
+    pub alike : t < n → (i < t) × (group t ≡ group i)
+
+  -- of the places from i on: where each group begins
+  pub record Heads (heads : List ℕ) (i : ℕ) : Type 0 where
+    pub room : length heads ≡ groups
+    pub alone : (g k : ℕ) → g < groups → i ≤ k → k < n → k < getD heads g 0 → group k ≡ g → ⊥
+    pub alike : (g : ℕ) → g < groups → getD heads g 0 < n → (i ≤ getD heads g 0) × (group (getD heads g 0) ≡ g)
+
+  -- of the places from i on: where the next one of its group is; places before i, and those in no group, are at the end of a chain
+  pub record Chains (next : List ℕ) (i : ℕ) : Type 0 where
+    pub room : length next ≡ maxEntries
+    pub linked : (k : ℕ) → i ≤ k → k < n → group k < groups → Next k (getD next k 0)
+    pub single : (k : ℕ) → i ≤ k → k < n → groups ≤ group k → n ≤ getD next k 0
+    pub before : (k : ℕ) → k < i → n ≤ getD next k 0
+
+-- ---- a number noted for each entry from place i on that is in a group, by its name
+pub record Noted (of : Bytes → ℕ) (es : List Bytes) (l : List ℕ) (i : ℕ) : Type 0 where
+  pub room : length l ≡ maxEntries
+  pub noted : (k : ℕ) → i ≤ k → k < length es → groupAt es k < groups → getD l k 0 ≡ of (nameOf (getD es k []))

@@ -1,0 +1,5 @@
+pub mod Pairs
+pub mod PairsLaws
+pub mod Quarrel
+pub mod QuarrelLaws
+pub mod Group
