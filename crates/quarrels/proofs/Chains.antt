@@ -41,7 +41,7 @@ module _ (group : ℕ → ℕ) (n : ℕ) where
       abbrev t : ℕ
       t = getD heads g 0
 
-      own-next : Next group n i t
+      pub own-next : Next group n i t
       own-next = record { alone = λ k l m o e. hs .alone g k here (omega arith) m o e; alike = λ m. let a = hs .alike g here m in (omega (arith, a .0), a .1) }
 
       other-next : (k : ℕ) → i ≤ k → k < n → group k < groups → (b : Bool) → eqb k i ≡ b → Next group n k (getD (set next i t) k 0)

@@ -8,12 +8,16 @@ use mathlib.Core.Logic.{_⊎_, inl, inr}
 use native.Mathlib.Omega.{arith}
 use lib.ListN.{length, getD}
 use lib.Bits.{bitAnd}
+use lib.Dec.{eqb}
+use borrow.Author.Tests.{eqb-false}
+use Rattle.limits.specs.Limits.{maxEntries}
 use Rattle.lists.specs.Lists.{All, nil, more}
 use Rattle.lists.specs.ListsLaws.{Less, less, all-left, all-right}
 use Rattle.slices.specs.TestLaws.{forced-off}
 use Rattle.slices.specs.Bytes.{Bytes, AreBytes}
 use Rattle.slices.specs.PartLaws.{bytes-part}
 use Rattle.slices.specs.Chunks.{flat}
+use Rattle.names.specs.Common.{sameSigns}
 use Rattle.names.specs.TailLaws.{InBytes}
 use Rattle.names.specs.Literals.{literalMaskOf, literalsOf}
 use Rattle.entry.specs.Entry.{offsetToName, nameOf}
@@ -24,8 +28,8 @@ use Rattle.quarrels.specs.declared.Pair.the-variants.{Places, NoPair}
 use Rattle.quarrels.specs.PairsLaws.{Before, none-exactly, first-found}
 use Rattle.quarrels.specs.Quarrel.{quarrel, quarrelAt, pairOf}
 use Rattle.quarrels.specs.QuarrelLaws.{at, all-at, formed-at, apart-at}
-use Rattle.quarrels.specs.Group.{groups, groupAt, InGroup, Next, Chains, Noted}
-use Rattle.quarrels.proofs.Tests.{grouped, one-group, shows-agree}
+use Rattle.quarrels.specs.Group.{groups, groupAt, InGroup, Next, Chains, Others, front, Noted}
+use Rattle.quarrels.proofs.Tests.{grouped, one-group, tails-agree, fronts-agree, signs-differ}
 
 -- ---- bytes
 are-bytes : (l : Bytes) → ((k : ℕ) → getD l k 0 < 256) → AreBytes l
@@ -74,18 +78,34 @@ module _ (d : Bytes) (v : dumpValid d ≡ true) (b : (k : ℕ) → getD d k 0 < 
     in-one-group = one-group (at es i) (at es j) (formed-at es (dump-entries d v) i (omega arith)) (formed-at es (dump-entries d v) j w) (bytes-at i (omega arith)) (bytes-at j w) (apart-at es (dump-entries d v) i j o w) q
 
     last-units : bitAnd (literalsOf (nameOf (at es i))) (literalMaskOf (nameOf (at es j))) ≡ bitAnd (literalsOf (nameOf (at es j))) (literalMaskOf (nameOf (at es i)))
-    last-units = shows-agree (at es i) (at es j) (formed-at es (dump-entries d v) i (omega arith)) (formed-at es (dump-entries d v) j w) (bytes-at i (omega arith)) (bytes-at j w) (apart-at es (dump-entries d v) i j o w) q
+    last-units = tails-agree (at es i) (at es j) (formed-at es (dump-entries d v) i (omega arith)) (formed-at es (dump-entries d v) j w) (bytes-at i (omega arith)) (bytes-at j w) (apart-at es (dump-entries d v) i j o w) q
+
+    first-units : bitAnd (literalsOf (front (nameOf (at es i)))) (literalMaskOf (front (nameOf (at es j)))) ≡ bitAnd (literalsOf (front (nameOf (at es j)))) (literalMaskOf (front (nameOf (at es i))))
+    first-units = fronts-agree (at es i) (at es j) (formed-at es (dump-entries d v) i (omega arith)) (formed-at es (dump-entries d v) j w) (bytes-at i (omega arith)) (bytes-at j w) (apart-at es (dump-entries d v) i j o w) q
+
+    other-signs : sameSigns (nameOf (at es i)) (nameOf (at es j)) ≡ true → ⊥
+    other-signs = signs-differ (at es i) (at es j) (formed-at es (dump-entries d v) i (omega arith)) (formed-at es (dump-entries d v) j w) (bytes-at i (omega arith)) (bytes-at j w) (apart-at es (dump-entries d v) i j o w) q
 
   -- what was noted of two places of one group differs: they do not quarrel
-  pub shows-differ : (masks shown : List ℕ) (i j : ℕ) → Noted literalMaskOf es masks 0 → Noted literalsOf es shown 0 → InGroup es i j
-      → (bitAnd (getD shown i 0) (getD masks j 0) ≡ bitAnd (getD shown j 0) (getD masks i 0) → ⊥) → false ≡ quarrelAt es i j
-  shows-differ masks shown i j m s g h =
-      let x : groupAt es j < groups = omega (arith, g .grouped, g .one) in
-      let a = m .noted i (omega arith) (omega (arith, g .order, g .within)) (g .grouped) in
-      let b = m .noted j (omega arith) (g .within) x in
-      let c = s .noted i (omega arith) (omega (arith, g .order, g .within)) (g .grouped) in
-      let e = s .noted j (omega arith) (g .within) x in
-      sym (forced-off (quarrelAt es i j) (λ q. absurd (h (ap₂ bitAnd c b ∙ last-units i j (g .order) (g .within) q ∙ sym (ap₂ bitAnd e a)))))
+  module _ (masks shown : List ℕ) (i j : ℕ) (m : Noted literalMaskOf es masks 0) (s : Noted literalsOf es shown 0) (g : InGroup es i j) where
+    before : i < n
+    before = omega (arith, g .order, g .within)
+
+    grouped-too : groupAt es j < groups
+    grouped-too = omega (arith, g .grouped, g .one)
+
+    pub fronts-differ : eqb (bitAnd (getD shown i 0) (getD masks j 0)) (bitAnd (getD shown j 0) (getD masks i 0)) ≡ false → false ≡ quarrelAt es i j
+    fronts-differ h =
+        sym (forced-off (quarrelAt es i j) (λ q. absurd (eqb-false _ _ h
+        (ap₂ bitAnd (s .fronts i (omega arith) before (g .grouped)) (m .fronts j (omega arith) (g .within) grouped-too) ∙ first-units i j (g .order) (g .within) q
+        ∙ sym (ap₂ bitAnd (s .fronts j (omega arith) (g .within) grouped-too) (m .fronts i (omega arith) before (g .grouped)))))))
+
+    pub tails-differ : eqb (bitAnd (getD shown (maxEntries + i) 0) (getD masks (maxEntries + j) 0)) (bitAnd (getD shown (maxEntries + j) 0) (getD masks (maxEntries + i) 0)) ≡ false
+        → false ≡ quarrelAt es i j
+    tails-differ h =
+        sym (forced-off (quarrelAt es i j) (λ q. absurd (eqb-false _ _ h
+        (ap₂ bitAnd (s .tails i (omega arith) before (g .grouped)) (m .tails j (omega arith) (g .within) grouped-too) ∙ last-units i j (g .order) (g .within) q
+        ∙ sym (ap₂ bitAnd (s .tails j (omega arith) (g .within) grouped-too) (m .tails i (omega arith) before (g .grouped)))))))
 
   -- ---- the search
   pub clear-start : Clear es 0 0
@@ -112,21 +132,21 @@ module _ (d : Bytes) (v : dumpValid d ≡ true) (b : (k : ℕ) → getD d k 0 < 
   unlike : (i y : ℕ) → i < y → y < n → (groupAt es i < groups → groupAt es y ≡ groupAt es i → ⊥) → quarrelAt es i y ≡ false
   unlike i y o w g = forced-off (quarrelAt es i y) (λ q. absurd (g (in-a-group i y o w q) (in-one-group i y o w q)))
 
-  module _ (next : List ℕ) (c : Chains (groupAt es) n next 0) (i : ℕ) where
-    pub walk-start : {t : ℕ} → t ≡ getD next i 0 → i < n → Clear es i 0 → Walks es i t
-    walk-start e h k = rw e (go (less (groupAt es i) groups))
-      where
-        go : Less (groupAt es i) groups → Walks es i (getD next i 0)
-        go (inl g) =
-            let t = c .linked i (omega arith) h (g .0) in
-            record {
-              inside = λ l. let a = t .alike l in record { order = a .0; within = l; grouped = g .0; one = a .1 };
-              clear = clear-to i _ k (λ y o w l. unlike i y o w (λ x e. t .alone y o w l e));
-            }
-        go (inr g) =
-            let t = c .single i (omega arith) h (g .0) in
-            record { inside = λ l. absurd (omega arith); clear = clear-to i _ k (λ y o w l. unlike i y o w (λ x e. let z = g .0 in omega arith)) }
+  -- from a place to the first of its group with '#' elsewhere none quarrels with it
+  pub walk-start : (first : List ℕ) (i : ℕ) {t : ℕ} → Others es first 0 → t ≡ getD first i 0 → i < n → Clear es i 0 → Walks es i t
+  walk-start first i c e h k = rw e (go (less (groupAt es i) groups))
+    where
+      go : Less (groupAt es i) groups → Walks es i (getD first i 0)
+      go (inl g) =
+          record {
+            inside = λ l. let a = c .there i (omega arith) h (g .0) l in record { order = a .0; within = l; grouped = g .0; one = a .1 };
+            clear = clear-to i _ k (λ y o w l. forced-off (quarrelAt es i y) (λ q. absurd (other-signs i y o w q (c .alike i y (omega arith) o w l (g .0) (in-one-group i y o w q)))));
+          }
+      go (inr g) =
+          let t = c .single i (omega arith) h (g .0) in
+          record { inside = λ l. absurd (omega arith); clear = clear-to i _ k (λ y o w l. unlike i y o w (λ x e. let z = g .0 in omega arith)) }
 
+  module _ (next : List ℕ) (c : Chains (groupAt es) n next 0) (i : ℕ) where
     module _ (j : ℕ) (l : j < n) (w : Walks es i j) where
       own : InGroup es i j
       own = w .inside l

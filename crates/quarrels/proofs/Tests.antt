@@ -1,23 +1,26 @@
 -- The tests by which the code decides whether two entries quarrel, one law for each way out. Assumes nothing.
-use Prim.Native.Nat.{ℕ, _≤_, _<_}
-use mathlib.Core.Path.{_≡_, refl, sym, ap, ap₂, _∙_}
-use mathlib.Core.List.{[]}
+use Prim.Native.Nat.{ℕ, zero, suc, _+_, _*_, _%_, _≤_, _<_, min}
+use mathlib.Core.Path.{_≡_, refl, sym, ap, ap₂, subst⁻¹, _∙_}
+use mathlib.Core.List.{[], _∷_}
+use mathlib.Core.Logic.{inl, inr}
+use Rattle.lists.specs.ListsLaws.{Less, less}
 use mathlib.Core.Bool.{Bool, true, false, not, cond, false≢true}
 use native.Mathlib.Omega.{arith}
-use lib.ListN.{length}
+use lib.ListN.{length, getD, take, length-take}
+use lib.Seq.{take-nil, take-all, length-take-le, getD-take}
 use lib.Bits.{bitAnd}
 use lib.Dec.{eqb}
 use borrow.Author.Tests.{eq-eqb, ne-eqb}
 use Rattle.limits.specs.Limits.{maxNameBytes, namespaceBytes, namespaceAt, minSizeAt}
 use Rattle.slices.specs.Test.{_and_}
 use Rattle.slices.specs.TestLaws.{and-left, and-right, and-intro, forced-off}
-use Rattle.slices.specs.Bytes.{Bytes, le32, part, same}
+use Rattle.slices.specs.Bytes.{Bytes, le32, part, pairwise, same}
 use Rattle.slices.specs.BytesLaws.{pairwise-length, same-eq, same-of}
 use Rattle.slices.specs.PartLaws.{length-part}
 use Rattle.names.specs.Name.{Variable, units, isName, named, unitMatches, matches, wildcards}
 use Rattle.names.specs.NameLaws.{named-name, isName-length, units-length, wildcards-le}
-use Rattle.names.specs.Common.{leastName, overlap}
-use Rattle.names.specs.CommonLaws.{overlap-matches, least-length, least-name, overlap-sign}
+use Rattle.names.specs.Common.{leastName, overlap, unitsOverlap, sameSigns}
+use Rattle.names.specs.CommonLaws.{overlap-pairs, overlap-matches, least-length, least-name, overlap-sign, same-signs-apart}
 use Rattle.names.specs.TailLaws.{InBytes}
 use Rattle.names.specs.Literals.{literalMaskOf, literalsOf}
 use Rattle.names.specs.LiteralsLaws.{literals-agree}
@@ -25,7 +28,7 @@ use Rattle.entry.specs.Entry.{wellFormed, namespaceOf, nameIsEmpty, nameOf, tar
 use Rattle.entry.specs.EntryLaws.{Sized, sized, nameOf-empty, nameOf-none, nameOf-even, nameOf-most, namespace-start, target-namespace, target-name, rank-of-name, rank-of-namespace, sameTarget-of}
 use Rattle.quarrels.specs.Quarrel.{leastOf, leastVariable, quarrel}
 use Rattle.quarrels.specs.QuarrelLaws.{TargetLeast, target-least, name-targets, name-of}
-use Rattle.quarrels.specs.Group.{groups, groupBy, groupOf}
+use Rattle.quarrels.specs.Group.{groups, groupBy, groupOf, front}
 
 pub namespace-length : (e : Bytes) → wellFormed e ≡ true → length (namespaceOf e) ≡ namespaceBytes
 namespace-length e w = length-part namespaceAt minSizeAt e (omega (arith, sized e w .least))
@@ -138,6 +141,52 @@ module _ {m : Bytes} {signs : ℕ} (e : Bytes) (a : m ≡ nameOf e) (w : signs �
   pub signs-most : wellFormed e ≡ true → (length m ≤ maxNameBytes) × (signs ≤ length m)
   signs-most f = (omega (arith, ap length a, nameOf-most e f), omega (arith, w, wildcards-le (units m), units-length m))
 
+-- ---- the first four units
+units-front : (k : ℕ) (s : Bytes) → units (take (2 * k) s) ≡ take k (units s)
+unfolding units
+units-front zero s = refl
+units-front (suc k) [] = ap units (take-nil (2 * suc k)) ∙ sym (take-nil (suc k))
+units-front (suc k) (a ∷ []) =
+    let e : 2 * suc k ≡ suc (suc (2 * k)) = omega arith in
+    ap (λ (m : ℕ). units (take m (a ∷ []))) e
+units-front (suc k) (a ∷ b ∷ s) =
+    let e : 2 * suc k ≡ suc (suc (2 * k)) = omega arith in
+    ap (λ (m : ℕ). units (take m (a ∷ b ∷ s))) e ∙ ap (λ l. (a + 256 * b) ∷ l) (units-front k s)
+
+pairwise-front : (f : ℕ → ℕ → Bool) (k : ℕ) (xs ys : Bytes) → pairwise f xs ys ≡ true → pairwise f (take k xs) (take k ys) ≡ true
+unfolding pairwise
+pairwise-front f zero xs ys h = refl
+pairwise-front f (suc k) [] [] h = refl
+pairwise-front f (suc k) [] (y ∷ ys) h = absurd (false≢true h)
+pairwise-front f (suc k) (x ∷ xs) [] h = absurd (false≢true h)
+pairwise-front f (suc k) (x ∷ xs) (y ∷ ys) h = and-intro _ _ (and-left _ _ h) (pairwise-front f k xs ys (and-right _ _ h))
+
+front-overlap : (p q : Bytes) → overlap p q ≡ true → overlap (front p) (front q) ≡ true
+front-overlap p q o =
+    overlap-pairs (front p) (front q) ∙ ap₂ (pairwise unitsOverlap) (units-front 4 p) (units-front 4 q)
+    ∙ pairwise-front unitsOverlap 4 (units p) (units q) (sym (overlap-pairs p q) ∙ o)
+
+front-bytes : (p : Bytes) → InBytes p → InBytes (front p)
+front-bytes p h k l = go (less (length p) 8)
+  where
+    go : Less (length p) 8 → getD (front p) k 0 < 256
+    go (inl x) =
+        let e = take-all 8 p (let z = x .0 in omega arith) in
+        subst⁻¹ (λ (q : Bytes). getD q k 0 < 256) e (h k (omega (arith, ap length e)))
+    go (inr x) =
+        let n = length-take-le 8 p (x .0) in
+        subst⁻¹ (λ (m : ℕ). m < 256) (getD-take 8 p k 0 (omega arith)) (h k (let z = x .0 in omega arith))
+
+front-long : (p q : Bytes) → length p ≡ length q → length (front p) ≡ length (front q)
+front-long p q e = length-take 8 p ∙ ap (min 8) e ∙ sym (length-take 8 q)
+
+front-even : (p : Bytes) → length p % 2 ≡ 0 → length (front p) % 2 ≡ 0
+front-even p e = go (less (length p) 8)
+  where
+    go : Less (length p) 8 → length (front p) % 2 ≡ 0
+    go (inl h) = ap (λ (l : Bytes). length l % 2) (take-all 8 p (let z = h .0 in omega arith)) ∙ e
+    go (inr h) = ap (λ (n : ℕ). n % 2) (length-take-le 8 p (h .0))
+
 -- ---- entries that quarrel: they are in one group, and agree in the last units that both spell out
 module _ (e f : Bytes) (we : wellFormed e ≡ true) (wf : wellFormed f ≡ true) (be : InBytes (nameOf e)) (bf : InBytes (nameOf f)) (apart : sameTarget e f ≡ false)
     (h : quarrel e f ≡ true) where
@@ -173,5 +222,17 @@ module _ (e f : Bytes) (we : wellFormed e ≡ true) (wf : wellFormed f ≡ true)
   unfolding groupOf
   one-group = rw (← one-rank, ← one-namespace, ← both-long)
 
-  pub shows-agree : bitAnd (literalsOf (nameOf e)) (literalMaskOf (nameOf f)) ≡ bitAnd (literalsOf (nameOf f)) (literalMaskOf (nameOf e))
-  shows-agree = literals-agree (nameOf e) (nameOf f) be bf both-long (nameOf-even e we) overlaps
+  -- in the first units and in the last
+  pub tails-agree : bitAnd (literalsOf (nameOf e)) (literalMaskOf (nameOf f)) ≡ bitAnd (literalsOf (nameOf f)) (literalMaskOf (nameOf e))
+  tails-agree = literals-agree (nameOf e) (nameOf f) be bf both-long (nameOf-even e we) overlaps
+
+  pub fronts-agree : bitAnd (literalsOf (front (nameOf e))) (literalMaskOf (front (nameOf f))) ≡ bitAnd (literalsOf (front (nameOf f))) (literalMaskOf (front (nameOf e)))
+  fronts-agree =
+      literals-agree (front (nameOf e)) (front (nameOf f)) (front-bytes (nameOf e) be) (front-bytes (nameOf f) bf) (front-long (nameOf e) (nameOf f) both-long)
+      (front-even (nameOf e) (nameOf-even e we)) (front-overlap (nameOf e) (nameOf f) overlaps)
+
+  -- and do not have '#' at the same places, or the names would be the same
+  pub signs-differ : sameSigns (nameOf e) (nameOf f) ≡ true → ⊥
+  signs-differ s =
+      let n = same-signs-apart (nameOf e) (nameOf f) be bf both-long (nameOf-even e we) s overlaps in
+      false≢true (sym apart ∙ sameTarget-of e f (record { namespace = one-namespace; name = n }))

@@ -3,12 +3,13 @@
 use Prim.Native.Nat.{ℕ, _+_, _*_, _/_, _%_, _≤_, _<_}
 use mathlib.Core.Path.{_≡_}
 use mathlib.Core.List.{List, []}
-use mathlib.Core.Bool.{cond}
-use lib.ListN.{length, getD}
+use mathlib.Core.Bool.{true, cond}
+use lib.ListN.{length, getD, take, set}
 use lib.Dec.{eqb}
 use Rattle.limits.specs.Limits.{maxEntries}
 use Rattle.slices.specs.Bytes.{Bytes, le32}
 use Rattle.names.specs.Name.{units, wildcards}
+use Rattle.names.specs.Common.{sameSigns}
 use Rattle.entry.specs.Entry.{namespaceOf, nameOf}
 
 -- how many groups there are; no entry without '#' is in one of them
@@ -54,7 +55,25 @@ module _ (group : ℕ → ℕ) (n : ℕ) where
     pub single : (k : ℕ) → i ≤ k → k < n → groups ≤ group k → n ≤ getD next k 0
     pub before : (k : ℕ) → k < i → n ≤ getD next k 0
 
--- ---- a number noted for each entry from place i on that is in a group, by its name
+-- of the entries from place i on: the first one behind each, of its group, that has '#' at other places; places before i, and those in no group, are at
+-- the end of a chain
+pub record Others (es : List Bytes) (first : List ℕ) (i : ℕ) : Type 0 where
+  pub room : length first ≡ maxEntries
+  pub alike : (k y : ℕ) → i ≤ k → k < y → y < length es → y < getD first k 0 → groupAt es k < groups → groupAt es y ≡ groupAt es k
+      → sameSigns (nameOf (getD es k [])) (nameOf (getD es y [])) ≡ true
+  pub there : (k : ℕ) → i ≤ k → k < length es → groupAt es k < groups → getD first k 0 < length es → (k < getD first k 0) × (groupAt es (getD first k 0) ≡ groupAt es k)
+  pub single : (k : ℕ) → i ≤ k → k < length es → groups ≤ groupAt es k → length es ≤ getD first k 0
+  pub before : (k : ℕ) → k < i → length es ≤ getD first k 0
+
+-- ---- numbers noted for each entry from place i on that is in a group: one of its name's first four units, and behind those of all entries one of its last four
+abbrev pub front : Bytes → Bytes
+front p = take 8 p
+
+-- a list with these numbers of a name noted for place k
+abbrev pub notedFor : (Bytes → ℕ) → List ℕ → ℕ → Bytes → List ℕ
+notedFor of l k name = set (set l k (of (front name))) (maxEntries + k) (of name)
+
 pub record Noted (of : Bytes → ℕ) (es : List Bytes) (l : List ℕ) (i : ℕ) : Type 0 where
-  pub room : length l ≡ maxEntries
-  pub noted : (k : ℕ) → i ≤ k → k < length es → groupAt es k < groups → getD l k 0 ≡ of (nameOf (getD es k []))
+  pub room : length l ≡ 2 * maxEntries
+  pub fronts : (k : ℕ) → i ≤ k → k < length es → groupAt es k < groups → getD l k 0 ≡ of (front (nameOf (getD es k [])))
+  pub tails : (k : ℕ) → i ≤ k → k < length es → groupAt es k < groups → getD l (maxEntries + k) 0 ≡ of (nameOf (getD es k []))

@@ -1,20 +1,29 @@
 // Entries of a dump that quarrel (RULES.md, 10.11): two of equal rank that target one variable.
 ghost use mathlib.Core.Path.{_≡_};
 ghost use mathlib.Core.Bool.{true};
-ghost use lib.ListN.{length, replicate};
+ghost use Prim.Native.Nat.{_*_, _<_};
+ghost use lib.ListN.{length, getD, replicate};
+ghost use lib.Dec.{eqb, ltb};
+ghost use lib.Bits.{bitAnd};
+ghost use mathlib.Core.List.{[]};
+ghost use Rattle.slices.specs.Test.{_and_};
+ghost use Rattle.names.specs.Common.{sameSigns};
 ghost use Rattle.limits.specs.Limits.{maxEntries};
 ghost use Rattle.names.specs.Literals.{literalMaskOf, literalsOf};
-ghost use Rattle.entry.specs.Entry.{wellFormed};
+ghost use Rattle.entry.specs.Entry.{wellFormed, nameOf};
 ghost use Rattle.policy.specs.Policy.{entriesOf};
 ghost use Rattle.policy.specs.Walk.{EntryEnds};
 ghost use Rattle.policy.specs.Dump.{dumpValid};
 ghost use Rattle.quarrels.specs.Quarrel.{quarrel, quarrelAt, pairOf, quarrelsOf, bufferAfter};
-ghost use Rattle.quarrels.specs.Group.{groups, groupOf, groupAt, InGroup, Chains, Noted};
+ghost use Rattle.quarrels.specs.Group.{groups, groupOf, groupAt, InGroup, Chains, Others, front, notedFor, Noted};
 use policy::ENTRIES;
 use policy::PolicyCheck;
 
 // The groups of entries that may quarrel; `specs/Group.antt` has the same for the proofs.
 const GROUPS: usize = 256;
+
+// Two numbers for each entry that a dump may have.
+const NOTES: usize = 256;
 
 // The end of a chain: behind the last entry that a dump may have.
 const END: u8 = 128;
@@ -97,20 +106,59 @@ fn no_links() -> [u8; ENTRIES]
     [END; ENTRIES]
 }
 
-// Notes for each entry with '#' in its name the next one of its group, and its last units. From the last entry to the first, so that `heads` has
-// the first of each group among those that were met.
+// Whether there is an entry at that place, and it has '#' just where the name has it.
+fn alike(dump: &[u8], count: usize, ends: &[u16; ENTRIES], name: &[u8], place: usize) -> bool
+    requires { ⌜ (count ≡ length (entriesOf (now dump))) × EntryEnds (now ends) (now dump) ⌝ }
+    ensures { λ r. ⌜ r ≡ (ltb place count and sameSigns (now (name .entry)) (nameOf (getD (entriesOf (now (dump .entry))) place []))) ⌝ }
+{
+    if count <= place {
+        return false;
+    }
+    let e = policy::entry_at(dump, ends, place);
+    names::same_signs(name, entry::name_bytes(e))
+}
+
+// The first four units of a name; of a shorter one all.
+fn front(name: &[u8]) -> &[u8]
+    ensures { λ r. ⌜ now r ≡ front (now (name .entry)) ⌝ }
+{
+    if name.len() < 8 {
+        return name;
+    }
+    &name[..8]
+}
+
+// Notes the first and the last units of the entry at that place.
+fn note(name: &[u8], place: usize, masks: &mut [usize; NOTES], shown: &mut [usize; NOTES])
+    requires { ⌜ (place < maxEntries) × (length (now masks) ≡ 2 * maxEntries) × (length (now shown) ≡ 2 * maxEntries) ⌝ }
+    ensures masked { λ _. ⌜ now (masks .exit) ≡ notedFor literalMaskOf (now (masks .entry)) place (now (name .entry)) ⌝ }
+    ensures shown { λ _. ⌜ now (shown .exit) ≡ notedFor literalsOf (now (shown .entry)) place (now (name .entry)) ⌝ }
+{
+    let head = names::literals(front(name));
+    let tail = names::literals(name);
+    masks[place] = head.mask;
+    shown[place] = head.shown;
+    masks[ENTRIES + place] = tail.mask;
+    shown[ENTRIES + place] = tail.shown;
+}
+
+// Links each entry with '#' in its name to the next one of its group, and to the first that has '#' at other places; its first and last units are
+// noted. From the last entry to the first, so that `heads` has the first of each group among those that were met.
 fn link(
     dump: &[u8],
     count: usize,
     ends: &[u16; ENTRIES],
     next: &mut [u8; ENTRIES],
-    masks: &mut [usize; ENTRIES],
-    shown: &mut [usize; ENTRIES],
+    first: &mut [u8; ENTRIES],
+    masks: &mut [usize; NOTES],
+    shown: &mut [usize; NOTES],
 )
     requires { ⌜ (count ≡ length (entriesOf (now dump))) × EntryEnds (now ends) (now dump)
         × Chains (groupAt (entriesOf (now dump))) (length (entriesOf (now dump))) (now next) (length (entriesOf (now dump)))
-        × (length (now masks) ≡ maxEntries) × (length (now shown) ≡ maxEntries) ⌝ }
+        × Others (entriesOf (now dump)) (now first) (length (entriesOf (now dump)))
+        × (length (now masks) ≡ 2 * maxEntries) × (length (now shown) ≡ 2 * maxEntries) ⌝ }
     ensures chained { λ _. ⌜ Chains (groupAt (entriesOf (now (dump .entry)))) (length (entriesOf (now (dump .entry)))) (now (next .exit)) 0 ⌝ }
+    ensures others { λ _. ⌜ Others (entriesOf (now (dump .entry))) (now (first .exit)) 0 ⌝ }
     ensures noted { λ _. ⌜ Noted literalMaskOf (entriesOf (now (dump .entry))) (now (masks .exit)) 0 × Noted literalsOf (entriesOf (now (dump .entry))) (now (shown .exit)) 0 ⌝ }
 {
     let mut heads = no_heads();
@@ -120,21 +168,34 @@ fn link(
         let e = policy::entry_at(dump, ends, i);
         let group = group_of(e);
         if group < GROUPS {
-            let tail = names::literals(entry::name_bytes(e));
-            next[i] = heads[group];
+            let name = entry::name_bytes(e);
+            let behind = heads[group];
             heads[group] = i as u8;
-            masks[i] = tail.mask;
-            shown[i] = tail.shown;
+            next[i] = behind;
+            first[i] = behind;
+            note(name, i, masks, shown);
+            let other = place(behind);
+            if alike(dump, count, ends, name, other) {
+                first[i] = first[other];
+            }
         }
     }
 }
 
-// Whether the entries at two places of one group quarrel. Their names are looked at where the last units that both spell out agree.
+// Whether what was noted agrees, at these two indices, in the units that both entries spell out.
+fn agree(masks: &[usize; NOTES], shown: &[usize; NOTES], i: usize, j: usize) -> bool
+    requires { ⌜ (i < 2 * maxEntries) × (j < 2 * maxEntries) ⌝ }
+    ensures { λ r. ⌜ r ≡ eqb (bitAnd (getD (now (shown .entry)) i 0) (getD (now (masks .entry)) j 0)) (bitAnd (getD (now (shown .entry)) j 0) (getD (now (masks .entry)) i 0)) ⌝ }
+{
+    shown[i] & masks[j] == shown[j] & masks[i]
+}
+
+// Whether the entries at two places of one group quarrel. Their names are looked at where the first and the last units agree.
 fn quarrel_at(
     dump: &[u8],
     ends: &[u16; ENTRIES],
-    masks: &[usize; ENTRIES],
-    shown: &[usize; ENTRIES],
+    masks: &[usize; NOTES],
+    shown: &[usize; NOTES],
     earlier: usize,
     later: usize,
 ) -> bool
@@ -143,7 +204,10 @@ fn quarrel_at(
         × InGroup (entriesOf (now dump)) earlier later ⌝ }
     ensures { λ r. ⌜ r ≡ quarrelAt (entriesOf (now (dump .entry))) earlier later ⌝ }
 {
-    if shown[earlier] & masks[later] != shown[later] & masks[earlier] {
+    if !agree(masks, shown, earlier, later) {
+        return false;
+    }
+    if !agree(masks, shown, ENTRIES + earlier, ENTRIES + later) {
         return false;
     }
     let e = policy::entry_at(dump, ends, earlier);
@@ -151,24 +215,25 @@ fn quarrel_at(
     quarrel(e, f)
 }
 
-// The first two entries that quarrel: of each entry those behind it in its group are looked at.
+// The first two entries that quarrel: of each entry those behind it in its group are looked at, from the first on that has '#' at other places.
 fn first_pair(
     dump: &[u8],
     count: usize,
     ends: &[u16; ENTRIES],
     next: &[u8; ENTRIES],
-    masks: &[usize; ENTRIES],
-    shown: &[usize; ENTRIES],
+    first: &[u8; ENTRIES],
+    masks: &[usize; NOTES],
+    shown: &[usize; NOTES],
 ) -> Pair
     requires { ⌜ (count ≡ length (entriesOf (now dump))) × (dumpValid (now dump) ≡ true) × EntryEnds (now ends) (now dump)
         × Noted literalMaskOf (entriesOf (now dump)) (now masks) 0 × Noted literalsOf (entriesOf (now dump)) (now shown) 0
-        × Chains (groupAt (entriesOf (now dump))) (length (entriesOf (now dump))) (now next) 0 ⌝ }
+        × Chains (groupAt (entriesOf (now dump))) (length (entriesOf (now dump))) (now next) 0 × Others (entriesOf (now dump)) (now first) 0 ⌝ }
     ensures { λ r. ⌜ r ≡ pairOf (entriesOf (now (dump .entry))) ⌝ }
 {
     let mut found = Pair::NoPair;
     let mut i = 0;
     'pairs: while i < count {
-        let mut j = place(next[i]);
+        let mut j = place(first[i]);
         while j < count {
             if quarrel_at(dump, ends, masks, shown, i, j) {
                 found = Pair::Places {
@@ -190,10 +255,19 @@ fn pair_of(dump: &[u8], count: usize, ends: &[u16; ENTRIES]) -> Pair
     ensures { λ r. ⌜ r ≡ pairOf (entriesOf (now (dump .entry))) ⌝ }
 {
     let mut next = no_links();
-    let mut masks = [0usize; ENTRIES];
-    let mut shown = [0usize; ENTRIES];
-    link(dump, count, ends, &mut next, &mut masks, &mut shown);
-    first_pair(dump, count, ends, &next, &masks, &shown)
+    let mut first = no_links();
+    let mut masks = [0usize; NOTES];
+    let mut shown = [0usize; NOTES];
+    link(
+        dump,
+        count,
+        ends,
+        &mut next,
+        &mut first,
+        &mut masks,
+        &mut shown,
+    );
+    first_pair(dump, count, ends, &next, &first, &masks, &shown)
 }
 
 // The quarrels of a dump: whether the bytes are one, and if so the first two entries that quarrel, with the least name that both target at the

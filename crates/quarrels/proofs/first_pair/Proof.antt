@@ -14,16 +14,16 @@ use Rattle.quarrels.proofs.first_pair.Statement.{statement}
 use Rattle.quarrels.proofs.first_pair.Tie as tie
 
 abbrev Inv-loop : tie.InvT-loop
-Inv-loop dump count ends next masks shown found₀ i j₀ found j = (found ≡ NoPair) × Walks (entriesOf dump) i j
+Inv-loop dump count ends next first masks shown found₀ i j₀ found j = (found ≡ NoPair) × Walks (entriesOf dump) i j
 
 abbrev μ-loop : tie.MeasureT-loop
-μ-loop dump count ends next masks shown found₀ i j₀ found j = count - j
+μ-loop dump count ends next first masks shown found₀ i j₀ found j = count - j
 
 abbrev Inv-pairs : tie.InvT-pairs
-Inv-pairs dump count ends next masks shown found₀ i₀ found i = (found ≡ NoPair) × Clear (entriesOf dump) i 0
+Inv-pairs dump count ends next first masks shown found₀ i₀ found i = (found ≡ NoPair) × Clear (entriesOf dump) i 0
 
 abbrev μ-pairs : tie.MeasureT-pairs
-μ-pairs dump count ends next masks shown found₀ i₀ found i = count - i
+μ-pairs dump count ends next first masks shown found₀ i₀ found i = count - i
 
 -- the start, from the outer loop; the dump, and that it holds bytes
 abbrev Start : tie.At-pairs Inv-loop μ-loop Inv-pairs μ-pairs → tie.Start Inv-loop μ-loop Inv-pairs μ-pairs
@@ -62,7 +62,7 @@ loop-holds : tie.Need-loop-holds Inv-loop μ-loop Inv-pairs μ-pairs
 loop-holds c =
     let o = c .before .before .before in
     let x = Start o in
-    (o .pairs .inv .0, walk-start (D o) (x .pre .1) (bytes o) (x .args .next .now) (x .pre .5) (o .pairs .i) (c .place .ensures) (omega (arith, c .before .before .pairs-test .taken, x .pre .0)) (o .pairs .inv .1))
+    (o .pairs .inv .0, walk-start (D o) (x .pre .1) (bytes o) (x .args .first .now) (o .pairs .i) (x .pre .6) (c .place .ensures) (omega (arith, c .before .before .pairs-test .taken, x .pre .0)) (o .pairs .inv .1))
 
 quarrel-at-requires : tie.Need-quarrel-at-requires Inv-loop μ-loop Inv-pairs μ-pairs
 quarrel-at-requires c κs =

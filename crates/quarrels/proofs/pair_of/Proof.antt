@@ -4,17 +4,23 @@ use borrow.Author.Needs.{needs}
 use Rattle.policy.specs.Policy.{entriesOf}
 use Rattle.quarrels.specs.Group.{groupAt}
 use Rattle.quarrels.proofs.Chains.{no-chains}
+use Rattle.quarrels.proofs.Linked.{no-others}
 use Rattle.quarrels.proofs.pair_of.Statement.{statement}
 use Rattle.quarrels.proofs.pair_of.Tie as tie
 
 no-links-requires : tie.Need-no-links-requires
 no-links-requires c κs = search needs
 
+no-links-requires-2 : tie.Need-no-links-requires-2
+no-links-requires-2 c κs = search needs
+
 link-requires : tie.Need-link-requires
 link-requires c κs =
-    let l = c .before .before .before in
+    let k = c .before .before .before .before in
+    let l = k .before in
     let x = l .before .before in
-    (x .pre .0, x .pre .1, no-chains (groupAt (entriesOf (x .args .dump .now))) _ (l .no-links .ensures) (x .pre .1 .few), refl, refl)
+    let es = entriesOf (x .args .dump .now) in
+    (x .pre .0, x .pre .1, no-chains (groupAt es) _ (l .no-links .ensures) (x .pre .1 .few), no-others es (x .pre .1 .few) (k .no-links2 .ensures), refl, refl)
 
 first-pair-requires : tie.Need-first-pair-requires
 first-pair-requires c κs = search needs
@@ -23,4 +29,4 @@ returns : tie.Need-returns
 returns c = search needs
 
 pub pair-of-spec : {M : Type 1} → statement M
-pair-of-spec = tie.close (tie.spec no-links-requires link-requires first-pair-requires returns)
+pair-of-spec = tie.close (tie.spec no-links-requires no-links-requires-2 link-requires first-pair-requires returns)
