@@ -7,3 +7,4 @@ pub mod StoredSizes
 pub mod OldEntries
 pub mod OldEntriesLaws
 pub mod OldDumps
+pub mod AnyOrder

@@ -291,7 +291,7 @@ dump-granted s buffer w h =
     let k : length (flat (entriesOf (s .policy))) ≤ length buffer = omega (arith, sizesSum-flat (s .policy)) in
     outcome-status s (dump buffer) ∙ rw (w .policy, le-leb (length (flat (entriesOf (s .policy)))) (length buffer) k)
 
-dump-holds : (s : State) (c : Call) → kindOf c ≡ dumps → outcomeOf machine s c ≡ granted
+pub dump-holds : (s : State) (c : Call) → kindOf c ≡ dumps → outcomeOf machine s c ≡ granted
     → flat (entriesOf (s .policy)) ≡ take (step s c .0 .number) (step s c .0 .bytes)
 unfolding step
 dump-holds s c k h = go (isSuccess (status s c)) refl (sym (outcome-status s c) ∙ h)

@@ -1,22 +1,27 @@
 -- A history with rebuilds, computed by the rules: what each of its calls answers, that it is one of the lists that the claim
 -- is about, and what the claim then says of it.
 use Prim.Native.Nat.{ℕ, zero, suc}
-use mathlib.Core.Path.{_≡_, refl, sym, ap, _∙_}
-use mathlib.Core.List.{List, [], _∷_, _++_, map, List·Permᴰ·swap}
+use mathlib.Core.Path.{_≡_, refl, ap, _∙_}
+use mathlib.Core.List.{List, [], _∷_, _++_, map, List·Permᴰ, List·Permᴰ·swap}
 use mathlib.Core.Bool.{Bool, true, false}
 use mathlib.Core.Option.{Option, none, some}
 use mathlib.Core.Logic.{inl, inr}
 use native.Mathlib.Omega.{arith}
-use lib.ListN.{take, replicate, getD}
+use lib.ListN.{take, replicate}
 use Rattle.limits.specs.Limits.{policyBytes}
-use Rattle.lists.specs.Lists.{All, nil, more, RanksDiffer}
+use Rattle.lists.specs.Lists.{All, nil, more}
 use Rattle.slices.specs.Test.{_and_}
 use Rattle.slices.specs.TestLaws.{and-left, and-right}
 use Rattle.slices.specs.Bytes.{Bytes, same}
 use Rattle.slices.specs.BytesLaws.{same-eq}
 use Rattle.slices.specs.Chunks.{flat}
 use Rattle.names.specs.Name.{Variable, units}
-use Rattle.entry.specs.Entry.{wellFormed, namespaceOf, targets, rank}
+use Rattle.names.specs.Common.{leastName}
+use Rattle.entry.specs.Entry.{wellFormed, targets, rank}
+use Rattle.policy.specs.Dump.{dumpValid}
+use Rattle.quarrels.specs.Pairs.{rowFrom, pairFrom}
+use Rattle.quarrels.specs.Quarrel.{quarrel, quarrelsOf, bufferAfter}
+use Rattle.quarrels.specs.declared.Verdict.the-variants.{NoQuarrel, Found}
 use Rattle.status.specs.Status.{isSuccess, statusNumber}
 use Rattle.switches.specs.Switches.{freshSwitches}
 use Rattle.rules.specs.declared.Ground.the-variants.{LockGround}
@@ -32,6 +37,12 @@ use Rattle.history.specs.History.Kind.{dumps}
 use Rattle.history.specs.History.ItemOf.{call, ownDump, rebuild}
 use Rattle.demand3.specs.Machine.{outcomeBy, kindOf, machine}
 use Rattle.demand3.specs.Demand3.{poweredOn, demand-3, ProperFrom, append-calls, insert-dump, append-rebuild}
+use Rattle.demand3.specs.AnyOrder.{any-order, quarrel-no-order}
+
+-- to compute by the checker of a dump as well
+unfoldable checkerOpened : Bool
+unfolding rulesOpened leastName dumpValid rowFrom pairFrom quarrel quarrelsOf bufferAfter
+checkerOpened = true
 
 -- two namespaces; the names "A#", "#A", "A1" and "AA"
 abbrev G : Bytes
@@ -305,16 +316,29 @@ complete-last : Complete machine d₃ (past items₆)
 unfolding rulesOpened
 complete-last = complete-here d₃ (past items₆) (refl, refl, refl)
 
--- entries of different namespaces never target one variable
-apart : (e f : Bytes) → (namespaceOf e ≡ namespaceOf f → ⊥) → (v : Variable) → RanksDiffer rank (λ x. targets x v) e f
-unfolding targets
-apart e f h v p q r = h (same-eq (namespaceOf e) (v .namespace) (and-left _ _ p) ∙ sym (same-eq (namespaceOf f) (v .namespace) (and-left _ _ q)))
+-- WHAT THE CHECKER OF A DUMP ANSWERS (RULES.md, 10.11), computed. No quarrel in the first dump, and so it can be rebuilt in every order
+no-quarrel : quarrelsOf (flat d₁₂) ≡ NoQuarrel
+unfolding checkerOpened
+no-quarrel = refl
 
-other-namespace : namespaceOf e₁ ≡ namespaceOf e₂ → ⊥
-other-namespace h = let z : _≡_ {A = ℕ} 0x5C 7 = ap (λ (l : Bytes). getD l 0 0) h in omega arith
+other-order : List·Permᴰ d₁₂ d₂₁
+other-order = List·Permᴰ·swap refl refl
 
-other-order : Permitted machine d₁₂ (some d₂₁)
-other-order = (List·Permᴰ·swap refl refl, λ v n. (more (apart e₁ e₂ other-namespace v) nil, (nil, tt)))
+-- with the third entry behind it a pair, at the places 1 and 2, with the name "AA", and so no other order is permitted
+one-quarrel : quarrelsOf (flat d₂₁₃) ≡ Found 1 2 4
+unfolding checkerOpened
+one-quarrel = refl
+
+least-name : bufferAfter (flat d₂₁₃) (9 ∷ 9 ∷ 9 ∷ 9 ∷ 9 ∷ []) ≡ name 0x41 0x41 ++ (9 ∷ [])
+unfolding checkerOpened
+least-name = refl
+
+all-three-formed : allFormed d₂₁₃ ≡ true
+unfolding rulesOpened
+all-three-formed = refl
+
+pub no-other-order : (o : List Bytes) → Permitted machine d₂₁₃ (some o) → ⊥
+no-other-order = quarrel-no-order d₂₁₃ (all-formed d₂₁₃ all-three-formed) 1 2 4 one-quarrel
 
 -- and entries that target one variable at different ranks may stand in any order: "A#" and "A1" of one namespace, both of which
 -- target "A1"
@@ -347,13 +371,13 @@ proper₁ =
 
 proper₂ : ProperHere items₂
 proper₂ =
-    then-proper dumped₁ d₁₂ (some d₂₁) calls₂
-    (insert-dump board true (answered .powered) items₁ [] (replicate 100 5) proper₁) complete-own other-order
+    any-order board true (answered .powered) dumped₁ d₁₂ (insert-dump board true (answered .powered) items₁ [] (replicate 100 5) proper₁)
+    complete-own no-quarrel d₂₁ other-order .properOn calls₂
 
 proper₄ : ProperHere items₄
 proper₄ =
-    then-proper items₃ d₁₂ (some d₂₁) calls₄ (then-proper items₂ d₁₂ none calls₃ proper₂ complete-own₂ tt) complete-own₃
-    other-order
+    any-order board true (answered .powered) items₃ d₁₂ (then-proper items₂ d₁₂ none calls₃ proper₂ complete-own₂ tt)
+    complete-own₃ no-quarrel d₂₁ other-order .properOn calls₄
 
 proper₆ : ProperHere items₆
 proper₆ =
