@@ -8,7 +8,7 @@ use mathlib.Core.Option.{none, some}
 use mathlib.Core.Logic.{_↔_}
 use lib.ListN.{length, take}
 use Rattle.lists.specs.Lists.{All}
-use Rattle.slices.specs.Bytes.{Bytes}
+use Rattle.slices.specs.Bytes.{Bytes, AreBytes}
 use Rattle.slices.specs.Chunks.{flat}
 use Rattle.policy.specs.Policy.{entriesOf, sizesSum, policyValid}
 use Rattle.policy.specs.PolicyLaws.{WellFormed, Entries, policy-entries}
@@ -29,6 +29,7 @@ use Rattle.history.specs.History.ItemOf.{call, ownDump, rebuild}
 use Rattle.history.specs.AnyMoment as moment
 use Rattle.demand3.specs.Machine.{outcomeBy, machine}
 use Rattle.demand3.specs.MachineLaws.{Reached, laws, never-cut, dump-holds}
+use Rattle.demand3.specs.UnambiguousLaws.{UnambiguousInBytes, unambiguous}
 use Rattle.demand3.specs.Demand3 as list
 use Rattle.demand3.specs.Demand3.{poweredOn, demand-3, ProperFrom, entriesAt, pastAt}
 
@@ -37,6 +38,12 @@ use Rattle.demand3.specs.Demand3.{poweredOn, demand-3, ProperFrom, entri
 -- none, of a dump, exactly if the condition on another order holds of its entries
 pub no-quarrel-unambiguous : (d : Bytes) → dumpValid d ≡ true → quarrelsOf d ≡ NoQuarrel ↔ Unambiguous machine (entriesOf d)
 no-quarrel-unambiguous d v = (λ h. none-exactly d .0 h .1, λ u. none-exactly d .1 (v, u))
+
+-- and of bytes the variables that are bytes are enough, which are all that a caller can name
+pub no-quarrel-in-bytes : (d : Bytes) → dumpValid d ≡ true → All AreBytes (entriesOf d) → quarrelsOf d ≡ NoQuarrel ↔ UnambiguousInBytes (entriesOf d)
+no-quarrel-in-bytes d v b =
+    let k = no-quarrel-unambiguous d v in
+    ((λ h w n. k .0 h w (n .taken)), λ u. k .1 (unambiguous (entriesOf d) b u))
 
 -- what it says of the bytes d, which hold the entries ds: that they are a dump, and none exactly under that condition on ds
 pub record Checks (d : Bytes) (ds : List Bytes) : Type 0 where

@@ -20,6 +20,7 @@ use Rattle.slices.specs.BytesLaws.{pairwise-length, same-eq, same-sym, same-of}
 use Rattle.slices.specs.PartLaws.{length-part, part-none}
 use Rattle.names.specs.Name.{isName, isTerminated, isPlainTerminated, units, Variable, named, numberSign, unitMatches, matches, wildcards}
 use Rattle.names.specs.NameLaws.{isName-length, isName-even, named-name, isTerminated-length, isTerminated-name, plain-terminated, plain-wildcards, units-length, wildcards-le, sign-in-name}
+use Rattle.names.specs.SignLaws.{wildcards-part}
 use Rattle.entry.specs.Entry.{headerOk, lockOk, nameOk, wellFormed, sizeField, offsetToName, lockPolicyType, nameIsEmpty, nameOf, namespaceOf, targets, rank, sameTarget}
 
 -- ---- lengths and places
@@ -203,6 +204,32 @@ module _ (e : Bytes) (w : wellFormed e ≡ true) (q : leb (lockPolicyType e) 2 �
   -- its name has no '#'
   pub trigger-wildcards : wildcards (units (part triggerNameAt (offsetToName e - 2) e)) ≡ 0
   trigger-wildcards = rw trigger-part at (plain-wildcards (part triggerNameAt (offsetToName e) e) trigger-plain)
+
+-- ---- whole units: an entry and its name's place are even
+offset-even : (e : Bytes) → wellFormed e ≡ true → (t : Bool) → leb (lockPolicyType e) 2 ≡ t → offsetToName e % 2 ≡ 0
+unfolding wellFormed lockOk
+offset-even e w true q =
+    let h : eqb (offsetToName e) entryHeader ≡ true = rw q at (and-left _ _ (and-right _ _ w)) in
+    omega (arith, eqb-true (offsetToName e) entryHeader h)
+offset-even e w false q =
+    let n = isName-even (part triggerNameAt (offsetToName e - 2) e) (trigger-name e w q) in
+    let l = length-part triggerNameAt (offsetToName e - 2) e (omega (arith, sized e w .offset-most)) in
+    omega (arith, n, l, trigger-length e w q, isTerminated-length _ (trigger-terminated e w q))
+
+pub entry-even : (e : Bytes) → wellFormed e ≡ true → (length e % 2 ≡ 0) × (offsetToName e % 2 ≡ 0)
+entry-even e w = (go (nameIsEmpty e) refl, at)
+  where
+    at : offsetToName e % 2 ≡ 0
+    at = offset-even e w (leb (lockPolicyType e) 2) refl
+
+    go : (t : Bool) → nameIsEmpty e ≡ t → length e % 2 ≡ 0
+    go true q = omega (arith, at, eqb-true (offsetToName e) (length e) q)
+    go false q = omega (arith, at, nameOf-even e w, nameOf-closed e w q, sized e w .offset-most)
+
+-- no '#' in the bytes of an entry, none in its name
+pub entry-plain : (e : Bytes) → wellFormed e ≡ true → wildcards (units e) ≡ 0 → wildcards (units (nameOf e)) ≡ 0
+unfolding nameOf
+entry-plain e w z = omega (arith, wildcards-part (offsetToName e) (length e - 2) e (entry-even e w .1))
 
 -- ---- the same namespace and name
 -- the namespace's first bytes in the entry

@@ -92,7 +92,7 @@ unfolding each
 each-end test s i h = rw (units-end s i h)
 
 module _ (s : Bytes) (i : ℕ) (h : i + 2 ≤ length s) where
-  wildcards-step : wildcards (units (drop i s)) ≡ oneIf (eqb (le16 s i) numberSign) + wildcards (units (drop (i + 2) s))
+  pub wildcards-step : wildcards (units (drop i s)) ≡ oneIf (eqb (le16 s i) numberSign) + wildcards (units (drop (i + 2) s))
   unfolding wildcards
   wildcards-step = rw (units-step s i h)
 
@@ -462,7 +462,7 @@ module _ (p v : Bytes) (i j : ℕ) (h : i + j + 2 ≤ length p) (g : i + j + 2 �
       let m : (unitMatches a b and matchesFrom p v (i + j + 2)) ≡ true = sym (pairs-step unitMatches p v (i + j) h g ea eb) ∙ f t .1 in
       (and-eager ok r ∙ and-intro ok r (f t .0) (q (and-left _ _ m)), rw behind (and-right _ _ m))
 
-units-later : (k : ℕ) (s : Bytes) → units (drop (2 * k) s) ≡ drop k (units s)
+pub units-later : (k : ℕ) (s : Bytes) → units (drop (2 * k) s) ≡ drop k (units s)
 unfolding units
 units-later zero s = refl
 units-later (suc k) [] = let n : 2 * suc k ≡ suc (suc (2 * k)) = omega arith in rw n

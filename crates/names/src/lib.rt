@@ -1,13 +1,13 @@
 // Names of variables, entries and triggers: bytes of 16-bit little-endian units.
 ghost use mathlib.Core.Path.{_≡_};
-ghost use mathlib.Core.Bool.{true};
+ghost use mathlib.Core.Bool.{true, _||_};
 ghost use Prim.Native.Nat.{_+_, _-_, _/_, _%_, _≤_, _<_};
 ghost use lib.ListN.{length, take, drop};
 ghost use Rattle.limits.specs.Limits.{namespaceBytes};
 ghost use Rattle.slices.specs.Test.{_and_};
 ghost use Rattle.slices.specs.Bytes.{le16, same, overwrite};
 ghost use Rattle.names.specs.Tail.{unitMask, word, maskAt, TailOf};
-ghost use Rattle.names.specs.Name.{units, each, noZero, isName, isTerminated, isHexDigit, unitMatches, matches, wildcards, isPlainTerminated, nameLength, closed, signsIn, plainUnit};
+ghost use Rattle.names.specs.Name.{units, each, noZero, isName, isTerminated, isHexDigit, unitMatches, matches, wildcards, hasSign, EitherSign, isPlainTerminated, nameLength, closed, signsIn, plainUnit};
 ghost use Rattle.names.specs.Common.{leastName, overlap, leastOf, unitsOverlap, signAlike, sameSigns};
 ghost use Rattle.names.specs.Literals.{literalMask, literalMaskAt, literalMaskOf, literalsOf};
 
@@ -537,6 +537,80 @@ pub fn wildcards(s: &[u8]) -> usize
         i += 16;
     }
     h + few_wildcards(&s[i..])
+}
+
+// Whether one of the sixteen units from byte i on is '#'. No exit before the end: it is compiled to two wide compares.
+fn sixteen_signs(s: &[u8], i: usize) -> bool
+    requires { ⌜ i + 32 ≤ length (now s) ⌝ }
+    ensures { λ r. ⌜ hasSign (drop i (now (s .entry))) ≡ (r || hasSign (drop (i + 32) (now (s .entry)))) ⌝ }
+{
+    let mut found = false;
+    let mut j = 0;
+    while j < 32 {
+        found = found | (unit(s, i + j) == 0x23);
+        j += 2;
+    }
+    found
+}
+
+// Whether one of the eight units from byte i on, or of those from byte k on, is '#'. As above.
+fn eight_signs(s: &[u8], i: usize, k: usize) -> bool
+    requires { ⌜ (i + 16 ≤ length (now s)) × (k + 16 ≤ length (now s)) ⌝ }
+    ensures { λ r. ⌜ EitherSign (now (s .entry)) i k 16 r ⌝ }
+{
+    let mut found = false;
+    let mut j = 0;
+    while j < 16 {
+        found = found | ((unit(s, i + j) == 0x23) | (unit(s, k + j) == 0x23));
+        j += 2;
+    }
+    found
+}
+
+// Whether a unit is '#', unit by unit: for a few units.
+fn few_signs(s: &[u8]) -> bool
+    ensures { λ r. ⌜ r ≡ hasSign (now (s .entry)) ⌝ }
+{
+    let mut i = 0;
+    while 2 <= s.len() - i {
+        if unit(s, i) == 0x23 {
+            return true;
+        }
+        i += 2;
+    }
+    false
+}
+
+// The same of eight units or more, where none of those before byte i is '#' and fewer than sixteen are behind: the eight from there on, as far as there are so
+// many, and the last eight, which may have been seen.
+fn last_signs(s: &[u8], i: usize) -> bool
+    requires { ⌜ (16 ≤ length (now s)) × (length (now s) < i + 32) × (i % 2 ≡ 0) × (hasSign (now s) ≡ hasSign (drop i (now s))) ⌝ }
+    ensures { λ r. ⌜ r ≡ hasSign (now (s .entry)) ⌝ }
+{
+    let last = 2 * unit_count(s) - 16;
+    let mut from = last;
+    if i < last {
+        from = i;
+    }
+    eight_signs(s, from, last)
+}
+
+// Whether a unit is '#', of a name or of a whole dump.
+pub fn has_sign(s: &[u8]) -> bool
+    ensures { λ r. ⌜ r ≡ hasSign (now (s .entry)) ⌝ }
+{
+    if s.len() < 16 {
+        return few_signs(s);
+    }
+    let blocks = s.len() - s.len() % 32;
+    let mut i = 0;
+    while i < blocks {
+        if sixteen_signs(s, i) {
+            return true;
+        }
+        i += 32;
+    }
+    last_signs(s, i)
 }
 
 // Whether some unit matches two units of patterns: they are equal, or one matches the other.

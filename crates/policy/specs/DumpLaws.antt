@@ -1,11 +1,13 @@
--- The bytes of a dump and its list of entries determine each other: `dump-entries`, `entries-dump`. A dump is a record of just its own length.
+-- The bytes of a dump and its list of entries determine each other: `dump-flat`, `entriesOf-flat`; which lists these are: `dump-exactly`. A dump is a record of
+-- just its own length.
 -- Assumes nothing.
-use Prim.Native.Nat.{ℕ, _≤_, _<_}
-use mathlib.Core.Path.{_≡_, refl, sym, ap, _∙_}
-use mathlib.Core.List.{List, [], append-nil}
+use Prim.Native.Nat.{ℕ, zero, suc, _+_, _≤_, _<_}
+use mathlib.Core.Path.{_≡_, refl, sym, ap, subst, _∙_}
+use mathlib.Core.Logic.{_↔_}
+use mathlib.Core.List.{List, [], _∷_, append-nil}
 use mathlib.Core.Bool.{Bool, true, false, cond, false≢true}
 use native.Mathlib.Omega.{arith}
-use lib.ListN.{length, take, drop}
+use lib.ListN.{length, getD, take, drop}
 use lib.Dec.{eqb, leb}
 use lib.Seq.{take-all, drop-length}
 use borrow.Author.Tests.{eq-eqb, ne-eqb, le-leb, lt-leb, eqb-true, leb-true}
@@ -14,9 +16,11 @@ use Rattle.slices.specs.Test.{_and_}
 use Rattle.slices.specs.TestLaws.{and-left, and-right, and-intro, and-no, forced-off}
 use Rattle.slices.specs.Bytes.{Bytes, allAre}
 use Rattle.slices.specs.Chunks.{flat, distinct}
-use Rattle.slices.specs.ChunksLaws.{All, flat-chunks, chunks-flat}
-use Rattle.entry.specs.Entry.{wellFormed, sameTarget}
-use Rattle.entry.specs.EntryLaws.{well-formed-header}
+use Rattle.slices.specs.ChunksLaws.{All, nil, more, flat-chunks, chunks-flat}
+use Rattle.names.specs.Name.{units, wildcards, hasSign}
+use Rattle.names.specs.SignLaws.{units-append, wildcards-append, sign-none}
+use Rattle.entry.specs.Entry.{wellFormed, sameTarget, nameOf}
+use Rattle.entry.specs.EntryLaws.{well-formed-header, entry-even, entry-plain}
 use Rattle.policy.specs.declared.PolicyCheck.the-variants.{Valid, Invalid}
 use Rattle.policy.specs.Policy.{entryLength, entriesOf, sizesSum, validWithin}
 use Rattle.policy.specs.PolicyLaws.{WellFormed, Entries, CheckedWithin, lengthBy-within, entryLength-within, entryLength-short, items-by, entriesOf-formed, sizesSum-flat, sizesSum-within}
@@ -63,6 +67,10 @@ entries-dump es a =
     (and-intro _ _ (rw e (le-leb _ _ (a .few)))
     (and-intro _ _ (eq-eqb _ _ (sizesSum-flat (flat es) ∙ ap (λ (l : List Bytes). length (flat l)) e)) (rw e (a .apart))))
 
+-- WHAT A DUMP IS: the bytes of its entries, which a valid record could hold
+pub dump-exactly : (d : Bytes) → dumpValid d ≡ true ↔ ((flat (entriesOf d) ≡ d) × Entries (entriesOf d))
+dump-exactly d = ((λ v. (dump-flat d v, dump-entries d v)), λ h. subst (λ (b : Bytes). dumpValid b ≡ true) (h .0) (entries-dump (entriesOf d) (h .1)))
+
 -- ---- the check of a dump: what decides where the bytes are too many, where something stands behind the entries, and where nothing does
 pub dump-long : (d : Bytes) → policyBytes < length d → dumpValid d ≡ false
 unfolding dumpValid _and_
@@ -98,18 +106,34 @@ pub record DumpChecked (d : Bytes) (count : ℕ) : Type 0 where
   pub valid : dumpValid d ≡ true
   pub counted : count ≡ length (entriesOf d)
 
-pub dump-checked : (d : Bytes) (count total : ℕ) → dumpCheck d ≡ Valid count total → DumpChecked d count
+pub dump-check-valid : (d : Bytes) (count total : ℕ) → dumpCheck d ≡ Valid count total → DumpChecked d count
 unfolding dumpCheck
-dump-checked d count total e = go (dumpValid d) refl e
+dump-check-valid d count total e = go (dumpValid d) refl e
   where
     go : (t : Bool) → dumpValid d ≡ t → cond t (Valid (length (entriesOf d)) (sizesSum d)) Invalid ≡ Valid count total → DumpChecked d count
     go true q k = let a : length (entriesOf d) ≡ count = cc in record { valid = q; counted = sym a }
     go false q k = absurd (let z : _≡_ {A = ℕ} 0 1 = cc in omega arith)
 
-pub dump-unchecked : (d : Bytes) → dumpCheck d ≡ Invalid → dumpValid d ≡ false
+pub dump-check-invalid : (d : Bytes) → dumpCheck d ≡ Invalid → dumpValid d ≡ false
 unfolding dumpCheck
-dump-unchecked d e = go (dumpValid d) refl e
+dump-check-invalid d e = go (dumpValid d) refl e
   where
     go : (t : Bool) → dumpValid d ≡ t → cond t (Valid (length (entriesOf d)) (sizesSum d)) Invalid ≡ Invalid → dumpValid d ≡ false
     go true q k = absurd (let z : _≡_ {A = ℕ} 0 1 = cc in omega arith)
     go false q k = q
+
+-- ---- '#' in the names of a dump
+-- of entries end to end, each of whole units
+flat-wildcards : (e : Bytes) (es : List Bytes) → WellFormed e → wildcards (units (flat (e ∷ es))) ≡ wildcards (units e) + wildcards (units (flat es))
+unfolding flat
+flat-wildcards e es w = ap wildcards (units-append e (flat es) (entry-even e w .0)) ∙ wildcards-append (units e) (units (flat es))
+
+flat-plain : (es : List Bytes) → All WellFormed es → wildcards (units (flat es)) ≡ 0 → (k : ℕ) → k < length es → wildcards (units (nameOf (getD es k []))) ≡ 0
+flat-plain [] nil z k h = absurd (omega arith)
+flat-plain (e ∷ es) (more w a) z zero h = entry-plain e w (omega (arith, z, flat-wildcards e es w))
+flat-plain (e ∷ es) (more w a) z (suc k) h = flat-plain es a (omega (arith, z, flat-wildcards e es w)) k (omega arith)
+
+-- WHERE NO UNIT OF A DUMP IS '#', none of a name of its entries is
+pub dump-plain : (d : Bytes) → dumpValid d ≡ true → hasSign d ≡ false → (k : ℕ) → k < length (entriesOf d) → wildcards (units (nameOf (getD (entriesOf d) k []))) ≡ 0
+dump-plain d v s =
+    flat-plain (entriesOf d) (dump-entries d v .formed) (ap (λ (b : Bytes). wildcards (units b)) (dump-flat d v) ∙ sign-none d s)

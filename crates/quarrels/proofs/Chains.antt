@@ -10,7 +10,14 @@ use lib.Seq.{getD-set-same, getD-set-other}
 use lib.Dec.{eqb}
 use borrow.Author.Tests.{eqb-true, eqb-false}
 use Rattle.limits.specs.Limits.{maxEntries}
-use Rattle.quarrels.specs.Group.{groups, Next, Heads, Chains}
+use Rattle.quarrels.specs.Group.{groups, Next, Chains}
+
+module _ (group : ℕ → ℕ) (n : ℕ) where
+  -- of the places from i on: where each group begins
+  pub record Heads (heads : List ℕ) (i : ℕ) : Type 0 where
+    pub room : length heads ≡ groups
+    pub alone : (g k : ℕ) → g < groups → i ≤ k → k < n → k < getD heads g 0 → group k ≡ g → ⊥
+    pub alike : (g : ℕ) → g < groups → getD heads g 0 < n → (i ≤ getD heads g 0) × (group (getD heads g 0) ≡ g)
 
 module _ (group : ℕ → ℕ) (n : ℕ) where
   -- before the last place: no head, and no link

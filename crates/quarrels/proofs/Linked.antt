@@ -18,8 +18,8 @@ use Rattle.names.specs.Common.{sameSigns}
 use Rattle.names.specs.CommonLaws.{same-signs-trans}
 use Rattle.names.specs.Literals.{literalMaskOf, literalsOf}
 use Rattle.entry.specs.Entry.{nameOf}
-use Rattle.quarrels.specs.Group.{groups, groupOf, groupAt, front, notedFor, Next, Heads, Chains, Others, Noted}
-use Rattle.quarrels.proofs.Chains.{no-heads, own-next, chains-grouped, heads-grouped, chains-single, heads-single}
+use Rattle.quarrels.specs.Group.{groups, groupOf, groupAt, front, notedFor, Next, Chains, Others, Noted}
+use Rattle.quarrels.proofs.Chains.{Heads, no-heads, own-next, chains-grouped, heads-grouped, chains-single, heads-single}
 
 -- numbers noted for an entry in a group, and none for one in no group
 module _ (of : Bytes → ℕ) (es : List Bytes) (l : List ℕ) (i : ℕ) (h : Noted of es l (i + 1)) (within : i < maxEntries) (few : length es ≤ maxEntries) where

@@ -9,7 +9,7 @@ use native.Mathlib.Omega.{arith}
 use lib.ListN.{length, getD}
 use lib.Bits.{bitAnd}
 use lib.Dec.{eqb}
-use borrow.Author.Tests.{eqb-false}
+use borrow.Author.Tests.{eq-eqb, eqb-false}
 use Rattle.limits.specs.Limits.{maxEntries}
 use Rattle.lists.specs.Lists.{All, nil, more}
 use Rattle.lists.specs.ListsLaws.{Less, less, all-left, all-right}
@@ -17,19 +17,20 @@ use Rattle.slices.specs.TestLaws.{forced-off}
 use Rattle.slices.specs.Bytes.{Bytes, AreBytes}
 use Rattle.slices.specs.PartLaws.{bytes-part}
 use Rattle.slices.specs.Chunks.{flat}
+use Rattle.names.specs.Name.{hasSign}
 use Rattle.names.specs.Common.{sameSigns}
 use Rattle.names.specs.TailLaws.{InBytes}
 use Rattle.names.specs.Literals.{literalMaskOf, literalsOf}
 use Rattle.entry.specs.Entry.{offsetToName, nameOf}
 use Rattle.policy.specs.Policy.{entriesOf}
 use Rattle.policy.specs.Dump.{dumpValid}
-use Rattle.policy.specs.DumpLaws.{dump-flat, dump-entries}
+use Rattle.policy.specs.DumpLaws.{dump-flat, dump-entries, dump-plain}
 use Rattle.quarrels.specs.declared.Pair.the-variants.{Places, NoPair}
-use Rattle.quarrels.specs.PairsLaws.{Before, none-exactly, first-found}
+use Rattle.quarrels.specs.PairsLaws.{Before, no-pair-exactly, first-found}
 use Rattle.quarrels.specs.Quarrel.{quarrel, quarrelAt, pairOf}
 use Rattle.quarrels.specs.QuarrelLaws.{at, all-at, formed-at, apart-at}
-use Rattle.quarrels.specs.Group.{groups, groupAt, InGroup, Next, Chains, Others, front, Noted}
-use Rattle.quarrels.proofs.Tests.{grouped, one-group, tails-agree, fronts-agree, signs-differ}
+use Rattle.quarrels.specs.Group.{groups, groupOf, groupAt, InGroup, Next, Chains, Others, front, Noted}
+use Rattle.quarrels.proofs.Tests.{Distinct, grouped, one-group, tails-agree, fronts-agree, signs-differ}
 
 -- ---- bytes
 are-bytes : (l : Bytes) → ((k : ℕ) → getD l k 0 < 256) → AreBytes l
@@ -71,20 +72,38 @@ module _ (d : Bytes) (v : dumpValid d ≡ true) (b : (k : ℕ) → getD d k 0 < 
 
   -- two places that quarrel
   module _ (i j : ℕ) (o : i < j) (w : j < n) (q : quarrelAt es i j ≡ true) where
+    both : Distinct (at es i) (at es j)
+    both =
+        record {
+          first = formed-at es (dump-entries d v) i (omega arith);
+          second = formed-at es (dump-entries d v) j w;
+          firstBytes = bytes-at i (omega arith);
+          secondBytes = bytes-at j w;
+          apart = apart-at es (dump-entries d v) i j o w;
+        }
+
     in-a-group : groupAt es i < groups
-    in-a-group = grouped (at es i) (at es j) (formed-at es (dump-entries d v) i (omega arith)) (formed-at es (dump-entries d v) j w) (bytes-at i (omega arith)) (bytes-at j w) (apart-at es (dump-entries d v) i j o w) q
+    in-a-group = grouped (at es i) (at es j) both q
 
     in-one-group : groupAt es j ≡ groupAt es i
-    in-one-group = one-group (at es i) (at es j) (formed-at es (dump-entries d v) i (omega arith)) (formed-at es (dump-entries d v) j w) (bytes-at i (omega arith)) (bytes-at j w) (apart-at es (dump-entries d v) i j o w) q
+    in-one-group = one-group (at es i) (at es j) both q
 
     last-units : bitAnd (literalsOf (nameOf (at es i))) (literalMaskOf (nameOf (at es j))) ≡ bitAnd (literalsOf (nameOf (at es j))) (literalMaskOf (nameOf (at es i)))
-    last-units = tails-agree (at es i) (at es j) (formed-at es (dump-entries d v) i (omega arith)) (formed-at es (dump-entries d v) j w) (bytes-at i (omega arith)) (bytes-at j w) (apart-at es (dump-entries d v) i j o w) q
+    last-units = tails-agree (at es i) (at es j) both q
 
     first-units : bitAnd (literalsOf (front (nameOf (at es i)))) (literalMaskOf (front (nameOf (at es j)))) ≡ bitAnd (literalsOf (front (nameOf (at es j)))) (literalMaskOf (front (nameOf (at es i))))
-    first-units = fronts-agree (at es i) (at es j) (formed-at es (dump-entries d v) i (omega arith)) (formed-at es (dump-entries d v) j w) (bytes-at i (omega arith)) (bytes-at j w) (apart-at es (dump-entries d v) i j o w) q
+    first-units = fronts-agree (at es i) (at es j) both q
 
     other-signs : sameSigns (nameOf (at es i)) (nameOf (at es j)) ≡ true → ⊥
-    other-signs = signs-differ (at es i) (at es j) (formed-at es (dump-entries d v) i (omega arith)) (formed-at es (dump-entries d v) j w) (bytes-at i (omega arith)) (bytes-at j w) (apart-at es (dump-entries d v) i j o w) q
+    other-signs = signs-differ (at es i) (at es j) both q
+
+  -- where no unit of the dump is '#' no two do
+  pub none-signed : hasSign d ≡ false → NoPair ≡ pairOf es
+  unfolding groupOf
+  none-signed z =
+      sym (no-pair-exactly (quarrelAt es) n .1 (λ i j o w. forced-off (quarrelAt es i j) (λ q.
+      let g = in-a-group i j o w q in
+      let e = rw (eq-eqb _ 0 (dump-plain d v z i (omega arith))) at g in absurd (omega arith))))
 
   -- what was noted of two places of one group differs: they do not quarrel
   module _ (masks shown : List ℕ) (i j : ℕ) (m : Noted literalMaskOf es masks 0) (s : Noted literalsOf es shown 0) (g : InGroup es i j) where
@@ -184,4 +203,4 @@ module _ (d : Bytes) (v : dumpValid d ≡ true) (b : (k : ℕ) → getD d k 0 < 
   found-here i j l w q = sym (first-found (quarrelAt es) n i j (w .inside l .order) l q (w .clear))
 
   pub found-none : (i : ℕ) → n ≤ i → Clear es i 0 → NoPair ≡ pairOf es
-  found-none i h c = sym (none-exactly (quarrelAt es) n .1 (λ x y o w. c x y o w (inl (omega arith))))
+  found-none i h c = sym (no-pair-exactly (quarrelAt es) n .1 (λ x y o w. c x y o w (inl (omega arith))))

@@ -17,8 +17,9 @@ use Rattle.slices.specs.TestLaws.{and-left, and-right, and-intro, forced-off}
 use Rattle.slices.specs.Bytes.{Bytes, le32, part, pairwise, same}
 use Rattle.slices.specs.BytesLaws.{pairwise-length, same-eq, same-of}
 use Rattle.slices.specs.PartLaws.{length-part}
-use Rattle.names.specs.Name.{Variable, units, isName, named, unitMatches, matches, wildcards}
+use Rattle.names.specs.Name.{Variable, units, isName, named, unitMatches, matches, wildcards, hasSign}
 use Rattle.names.specs.NameLaws.{named-name, isName-length, units-length, wildcards-le}
+use Rattle.names.specs.SignLaws.{sign-none}
 use Rattle.names.specs.Common.{leastName, overlap, unitsOverlap, sameSigns}
 use Rattle.names.specs.CommonLaws.{overlap-pairs, overlap-matches, least-length, least-name, overlap-sign, same-signs-apart}
 use Rattle.names.specs.TailLaws.{InBytes}
@@ -26,7 +27,7 @@ use Rattle.names.specs.Literals.{literalMaskOf, literalsOf}
 use Rattle.names.specs.LiteralsLaws.{literals-agree}
 use Rattle.entry.specs.Entry.{wellFormed, namespaceOf, nameIsEmpty, nameOf, targets, rank, sameTarget}
 use Rattle.entry.specs.EntryLaws.{Sized, sized, nameOf-empty, nameOf-none, nameOf-even, nameOf-most, namespace-start, target-namespace, target-name, rank-of-name, rank-of-namespace, sameTarget-of}
-use Rattle.quarrels.specs.Quarrel.{leastOf, leastVariable, quarrel}
+use Rattle.quarrels.specs.Quarrel.{leastCommon, leastVariable, quarrel}
 use Rattle.quarrels.specs.QuarrelLaws.{TargetLeast, target-least, name-targets, name-of}
 use Rattle.quarrels.specs.Group.{groups, groupBy, groupOf, front}
 
@@ -60,7 +61,7 @@ module _ (e f : Bytes) (we : wellFormed e ≡ true) (wf : wellFormed f ≡ true)
 
   -- no names
   pub both-empty : length (nameOf e) ≡ 0 → length (nameOf e) ≡ length (nameOf f) → false ≡ quarrel e f
-  both-empty z s = unlike (λ q. omega (arith, z, least-length (nameOf e) (nameOf f) s (nameOf-even e we), isName-length (leastOf e f) (named-name (leastVariable e f) (q .taken))))
+  both-empty z s = unlike (λ q. omega (arith, z, least-length (nameOf e) (nameOf f) s (nameOf-even e we), isName-length (leastCommon e f) (named-name (leastVariable e f) (q .taken))))
 
   module _ (some : length (nameOf e) ≡ 0 → ⊥) (as-long : length (nameOf e) ≡ length (nameOf f)) where
     first-named : nameIsEmpty e ≡ false
@@ -125,21 +126,21 @@ module _ {m n : Bytes} (e f : Bytes) (we : wellFormed e ≡ true) (wf : wellForm
           (ap (λ l. wildcards (units l)) (sym a) ∙ w ∙ ap (λ l. wildcards (units l)) b)
 
 -- ---- the group of an entry, from its name, the number of '#' in it and the first bytes of the namespace
-module _ {m : Bytes} {signs : ℕ} (e : Bytes) (a : m ≡ nameOf e) (w : signs ≡ wildcards (units m)) where
-  pub no-group : signs ≡ 0 → groups ≡ groupOf e
+module _ {m : Bytes} (e : Bytes) (a : m ≡ nameOf e) where
+  pub no-group : hasSign m ≡ false → groups ≡ groupOf e
   unfolding groupOf
   no-group z =
-      let k : wildcards (units (nameOf e)) ≡ 0 = ap (λ l. wildcards (units l)) (sym a) ∙ sym w ∙ z in
+      let k : wildcards (units (nameOf e)) ≡ 0 = ap (λ l. wildcards (units l)) (sym a) ∙ sign-none m z in
       rw (eq-eqb _ 0 k)
 
-  pub a-group : {start : ℕ} → (signs ≡ 0 → ⊥) → start ≡ le32 e namespaceAt → groupBy start (length m) signs ≡ groupOf e
+  pub a-group : {start : ℕ} → hasSign m ≡ true → start ≡ le32 e namespaceAt → groupBy start (length m) ≡ groupOf e
   unfolding groupOf
   a-group z h =
-      let k : wildcards (units (nameOf e)) ≡ signs = ap (λ l. wildcards (units l)) (sym a) ∙ sym w in
-      rw (k, ne-eqb signs 0 z, h, namespace-start e, a)
+      let n : wildcards (units (nameOf e)) ≡ 0 → ⊥ = λ y. false≢true (sym (ap not (eq-eqb _ 0 (ap (λ l. wildcards (units l)) a ∙ y))) ∙ z) in
+      rw (ne-eqb _ 0 n, h, namespace-start e, a)
 
-  pub signs-most : wellFormed e ≡ true → (length m ≤ maxNameBytes) × (signs ≤ length m)
-  signs-most f = (omega (arith, ap length a, nameOf-most e f), omega (arith, w, wildcards-le (units m), units-length m))
+  pub name-most : wellFormed e ≡ true → length m ≤ maxNameBytes
+  name-most f = omega (arith, ap length a, nameOf-most e f)
 
 -- ---- the first four units
 units-front : (k : ℕ) (s : Bytes) → units (take (2 * k) s) ≡ take k (units s)
@@ -187,9 +188,15 @@ front-even p e = go (less (length p) 8)
     go (inl h) = ap (λ (l : Bytes). length l % 2) (take-all 8 p (let z = h .0 in omega arith)) ∙ e
     go (inr h) = ap (λ (n : ℕ). n % 2) (length-take-le 8 p (h .0))
 
--- ---- entries that quarrel: they are in one group, and agree in the last units that both spell out
-module _ (e f : Bytes) (we : wellFormed e ≡ true) (wf : wellFormed f ≡ true) (be : InBytes (nameOf e)) (bf : InBytes (nameOf f)) (apart : sameTarget e f ≡ false)
-    (h : quarrel e f ≡ true) where
+-- ---- entries that quarrel, of those that a dump may have: they are in one group, and agree in the first and last units that both spell out
+pub record Distinct (e f : Bytes) : Type 0 where
+  pub first : wellFormed e ≡ true
+  pub second : wellFormed f ≡ true
+  pub firstBytes : InBytes (nameOf e)
+  pub secondBytes : InBytes (nameOf f)
+  pub apart : sameTarget e f ≡ false
+
+module _ (e f : Bytes) (k : Distinct e f) (h : quarrel e f ≡ true) where
   least : TargetLeast e f
   least = target-least e f h
 
@@ -197,22 +204,22 @@ module _ (e f : Bytes) (we : wellFormed e ≡ true) (wf : wellFormed f ≡ true)
   one-namespace = sym (target-namespace f (leastVariable e f) (least .second))
 
   both-long : length (nameOf e) ≡ length (nameOf f)
-  both-long = lengths-agree e f we wf least
+  both-long = lengths-agree e f (k .first) (k .second) least
 
   not-empty : length (nameOf e) ≡ 0 → ⊥
-  not-empty z = false≢true (both-empty e f we wf z both-long ∙ h)
+  not-empty z = false≢true (both-empty e f (k .first) (k .second) z both-long ∙ h)
 
   overlaps : overlap (nameOf e) (nameOf f) ≡ true
-  overlaps = forced (overlap (nameOf e) (nameOf f)) (λ n. no-overlap e f we wf not-empty both-long n ∙ h)
+  overlaps = forced (overlap (nameOf e) (nameOf f)) (λ n. no-overlap e f (k .first) (k .second) not-empty both-long n ∙ h)
 
   one-rank : wildcards (units (nameOf e)) ≡ wildcards (units (nameOf f))
-  one-rank = sym (rank-first e f we wf not-empty both-long) ∙ least .ranks ∙ rank-second e f we wf not-empty both-long
+  one-rank = sym (rank-first e f (k .first) (k .second) not-empty both-long) ∙ least .ranks ∙ rank-second e f (k .first) (k .second) not-empty both-long
 
-  -- two names without '#' would be the same
+  -- two names without '#' would (k .firstBytes) the same
   signs : wildcards (units (nameOf e)) ≡ 0 → ⊥
   signs z =
-      let n = overlap-sign (nameOf e) (nameOf f) be bf both-long (nameOf-even e we) z (sym one-rank ∙ z) overlaps in
-      false≢true (sym apart ∙ sameTarget-of e f (record { namespace = one-namespace; name = n }))
+      let n = overlap-sign (nameOf e) (nameOf f) (k .firstBytes) (k .secondBytes) both-long (nameOf-even e (k .first)) z (sym one-rank ∙ z) overlaps in
+      false≢true (sym (k .apart) ∙ sameTarget-of e f (record { namespace = one-namespace; name = n }))
 
   pub grouped : groupOf e < groups
   unfolding groupOf
@@ -224,15 +231,15 @@ module _ (e f : Bytes) (we : wellFormed e ≡ true) (wf : wellFormed f ≡ true)
 
   -- in the first units and in the last
   pub tails-agree : bitAnd (literalsOf (nameOf e)) (literalMaskOf (nameOf f)) ≡ bitAnd (literalsOf (nameOf f)) (literalMaskOf (nameOf e))
-  tails-agree = literals-agree (nameOf e) (nameOf f) be bf both-long (nameOf-even e we) overlaps
+  tails-agree = literals-agree (nameOf e) (nameOf f) (k .firstBytes) (k .secondBytes) both-long (nameOf-even e (k .first)) overlaps
 
   pub fronts-agree : bitAnd (literalsOf (front (nameOf e))) (literalMaskOf (front (nameOf f))) ≡ bitAnd (literalsOf (front (nameOf f))) (literalMaskOf (front (nameOf e)))
   fronts-agree =
-      literals-agree (front (nameOf e)) (front (nameOf f)) (front-bytes (nameOf e) be) (front-bytes (nameOf f) bf) (front-long (nameOf e) (nameOf f) both-long)
-      (front-even (nameOf e) (nameOf-even e we)) (front-overlap (nameOf e) (nameOf f) overlaps)
+      literals-agree (front (nameOf e)) (front (nameOf f)) (front-bytes (nameOf e) (k .firstBytes)) (front-bytes (nameOf f) (k .secondBytes)) (front-long (nameOf e) (nameOf f) both-long)
+      (front-even (nameOf e) (nameOf-even e (k .first))) (front-overlap (nameOf e) (nameOf f) overlaps)
 
-  -- and do not have '#' at the same places, or the names would be the same
+  -- and do not have '#' at the same places, or the names would (k .firstBytes) the same
   pub signs-differ : sameSigns (nameOf e) (nameOf f) ≡ true → ⊥
   signs-differ s =
-      let n = same-signs-apart (nameOf e) (nameOf f) be bf both-long (nameOf-even e we) s overlaps in
-      false≢true (sym apart ∙ sameTarget-of e f (record { namespace = one-namespace; name = n }))
+      let n = same-signs-apart (nameOf e) (nameOf f) (k .firstBytes) (k .secondBytes) both-long (nameOf-even e (k .first)) s overlaps in
+      false≢true (sym (k .apart) ∙ sameTarget-of e f (record { namespace = one-namespace; name = n }))

@@ -16,14 +16,14 @@ use Rattle.entry.specs.Entry.{namespaceOf, nameOf}
 abbrev pub groups : ℕ
 groups = 256
 
--- by the first bytes of the namespace, the length of the name and the number of '#'
-abbrev pub groupBy : ℕ → ℕ → ℕ → ℕ
-groupBy start size signs = (start + 4099 * size + 262147 * signs) % 4294967296 * 2654435761 / 16777216 % groups
+-- by the first bytes of the namespace and the length of the name
+abbrev pub groupBy : ℕ → ℕ → ℕ
+groupBy start size = (start + 4099 * size) % 4294967296 * 2654435761 / 16777216 % groups
 
 unfoldable pub groupOf : Bytes → ℕ
 groupOf e =
     cond (eqb (wildcards (units (nameOf e))) 0) groups
-    (groupBy (le32 (namespaceOf e) 0) (length (nameOf e)) (wildcards (units (nameOf e))))
+    (groupBy (le32 (namespaceOf e) 0) (length (nameOf e)))
 
 abbrev pub groupAt : List Bytes → ℕ → ℕ
 groupAt es i = groupOf (getD es i [])
@@ -41,12 +41,6 @@ module _ (group : ℕ → ℕ) (n : ℕ) where
   pub record Next (i t : ℕ) : Type 0 where
     pub alone : (k : ℕ) → i < k → k < n → k < t → group k ≡ group i → ⊥
     pub alike : t < n → (i < t) × (group t ≡ group i)
-
-  -- of the places from i on: where each group begins
-  pub record Heads (heads : List ℕ) (i : ℕ) : Type 0 where
-    pub room : length heads ≡ groups
-    pub alone : (g k : ℕ) → g < groups → i ≤ k → k < n → k < getD heads g 0 → group k ≡ g → ⊥
-    pub alike : (g : ℕ) → g < groups → getD heads g 0 < n → (i ≤ getD heads g 0) × (group (getD heads g 0) ≡ g)
 
   -- of the places from i on: where the next one of its group is; places before i, and those in no group, are at the end of a chain
   pub record Chains (next : List ℕ) (i : ℕ) : Type 0 where

@@ -3,3 +3,4 @@ pub mod PairsLaws
 pub mod Quarrel
 pub mod QuarrelLaws
 pub mod Group
+pub mod Readings

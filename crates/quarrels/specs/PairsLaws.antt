@@ -1,7 +1,7 @@
 -- What the search over pairs of places finds: `finds-first` says that the pair found is one for which the test holds, and the first; `first-found` that this
--- first pair is found; `none-exactly` that none is found exactly if the test holds for none. Assumes nothing.
+-- first pair is found; `no-pair-exactly` that none is found exactly if the test holds for none. Assumes nothing.
 use mathlib.Core.Path.{_≡_, refl, sym, ap, ap₂, subst, _∙_}
-use mathlib.Core.Logic.{_⊎_, inl, inr, ⊎-elim}
+use mathlib.Core.Logic.{_⊎_, inl, inr, ⊎-elim, _↔_}
 use lib.Dec.{eqb}
 use borrow.Author.Tests.{eqb-true, eqb-false}
 use mathlib.Core.Bool.{Bool, true, false, cond, false≢true}
@@ -97,8 +97,8 @@ module _ (f : ℕ → ℕ → Bool) (n : ℕ) where
   finds-first a b e = let h = subst (Facts 0 0) e facts in (h .0, h .1, h .2, λ x y o w u. h .3 x y o w (not-before x y) u)
 
   -- none is found exactly if the test holds for none
-  pub none-exactly : (firstPair f n ≡ NoPair → (x y : ℕ) → x < y → y < n → f x y ≡ false) × (((x y : ℕ) → x < y → y < n → f x y ≡ false) → firstPair f n ≡ NoPair)
-  none-exactly = ((λ e x y o w. subst (Facts 0 0) e facts x y o w (not-before x y) (inl (omega arith))), λ all. go all (firstPair f n) refl)
+  pub no-pair-exactly : firstPair f n ≡ NoPair ↔ ((x y : ℕ) → x < y → y < n → f x y ≡ false)
+  no-pair-exactly = ((λ e x y o w. subst (Facts 0 0) e facts x y o w (not-before x y) (inl (omega arith))), λ all. go all (firstPair f n) refl)
     where
       go : ((x y : ℕ) → x < y → y < n → f x y ≡ false) → (o : Pair) → firstPair f n ≡ o → firstPair f n ≡ NoPair
       go all (Places a b) e = let h = finds-first a b e in absurd (false≢true (sym (all a b (h .0) (h .1)) ∙ h .2))
@@ -109,7 +109,7 @@ module _ (f : ℕ → ℕ → Bool) (n : ℕ) where
   first-found a b o w t clear = go (firstPair f n) refl
     where
       go : (p : Pair) → firstPair f n ≡ p → firstPair f n ≡ Places a b
-      go NoPair e = absurd (false≢true (sym (none-exactly .0 e a b o w) ∙ t))
+      go NoPair e = absurd (false≢true (sym (no-pair-exactly .0 e a b o w) ∙ t))
       go (Places x y) e =
           let h = finds-first x y e in
           e ∙ ⊎-elim (λ l. absurd (false≢true (sym (clear x y (h .0) (h .1) l) ∙ h .2)))

@@ -19,11 +19,11 @@ use Rattle.quarrels.specs.declared.Verdict.the-variants.{NoDump, NoQuarr
 use Rattle.quarrels.specs.Pairs.{firstPair}
 
 -- the least name that both could match, and the variable of that name in the first one's namespace
-abbrev pub leastOf : Bytes → Bytes → Bytes
-leastOf e f = leastName (nameOf e) (nameOf f)
+abbrev pub leastCommon : Bytes → Bytes → Bytes
+leastCommon e f = leastName (nameOf e) (nameOf f)
 
 abbrev pub leastVariable : Bytes → Bytes → Variable
-leastVariable e f = variable (namespaceOf e) (leastOf e f)
+leastVariable e f = variable (namespaceOf e) (leastCommon e f)
 
 -- two entries quarrel: equal ranks, and both target that variable (QuarrelLaws.antt: so they do if both target any)
 unfoldable pub quarrel : Bytes → Bytes → Bool
@@ -38,7 +38,7 @@ pairOf es = firstPair (quarrelAt es) (length es)
 
 -- the least name of a pair of places
 abbrev pub leastAt : List Bytes → ℕ → ℕ → Bytes
-leastAt es i j = leastOf (getD es i []) (getD es j [])
+leastAt es i j = leastCommon (getD es i []) (getD es j [])
 
 -- THE ANSWER: no dump (2); no quarrel; or the first pair, with the length of its least name
 abbrev pub answerFor : List Bytes → Pair → Verdict

@@ -32,7 +32,7 @@ use Rattle.quarrels.specs.declared.Verdict.{Verdict}
 use Rattle.quarrels.specs.declared.Verdict.the-variants.{NoDump, NoQuarrel, Found}
 use Rattle.quarrels.specs.Pairs.{firstPair}
 use Rattle.quarrels.specs.PairsLaws as pairs
-use Rattle.quarrels.specs.Quarrel.{leastOf, leastVariable, quarrel, quarrelAt, pairOf, leastAt, answerFor, quarrelsOf, bufferFor, bufferAfter}
+use Rattle.quarrels.specs.Quarrel.{leastCommon, leastVariable, quarrel, quarrelAt, pairOf, leastAt, answerFor, quarrelsOf, bufferFor, bufferAfter}
 
 -- THE MEANING (RULES.md, 10.11): equal ranks, and some variable, of all that a set can name, is targeted by both
 pub record Quarrelling (e f : Bytes) : Type 0 where
@@ -119,7 +119,7 @@ module _ (e f : Bytes) (we : wellFormed e ≡ true) (wf : wellFormed f ≡ true)
 
   -- no name that both target is smaller than the least
   pub least-smallest : rank e ≡ rank f → (v : Variable) → named v ≡ true → targets e v ≡ true → targets f v ≡ true
-      → Smaller (units (v .name)) (units (leastOf e f)) → ⊥
+      → Smaller (units (v .name)) (units (leastCommon e f)) → ⊥
   least-smallest r v n a b =
       let q : Quarrelling e f = record { ranks = r; of = v; taken = n; first = a; second = b } in
       none-smaller (nameOf e) (nameOf f) (units (v .name)) (first-matches q) (second-matches q)
@@ -186,8 +186,8 @@ module _ (es : List Bytes) (a : Entries es) where
   pub none-found : pairOf es ≡ NoPair ↔ ((v : Variable) → named v ≡ true → Pairs (RanksDiffer rank (λ e. targets e v)) es)
   none-found = (
     (λ h v n. at-pairs (RanksDiffer rank (λ e. targets e v)) es (λ i j o w p q r.
-        false≢true (sym (pairs.none-exactly (quarrelAt es) (length es) .0 h i j o w) ∙ at-exactly i j o w .1 (record { ranks = r; of = v; taken = n; first = p; second = q })))),
-    (λ u. pairs.none-exactly (quarrelAt es) (length es) .1 (λ i j o w.
+        false≢true (sym (pairs.no-pair-exactly (quarrelAt es) (length es) .0 h i j o w) ∙ at-exactly i j o w .1 (record { ranks = r; of = v; taken = n; first = p; second = q })))),
+    (λ u. pairs.no-pair-exactly (quarrelAt es) (length es) .1 (λ i j o w.
         forced-off (quarrelAt es i j) (λ t. let q = at-exactly i j o w .0 t in absurd (pairs-at (RanksDiffer rank (λ e. targets e (q .of))) es (u (q .of) (q .taken)) i j o w (q .first) (q .second) (q .ranks))))),
   )
 

@@ -23,10 +23,10 @@ use policy::PolicyCheck;
 const GROUPS: usize = 256;
 
 // Two numbers for each entry that a dump may have.
-const NOTES: usize = 256;
+const NOTES: usize = 2 * limits::MAX_ENTRIES;
 
 // The end of a chain: behind the last entry that a dump may have.
-const END: u8 = 128;
+const END: u8 = limits::MAX_ENTRIES as u8;
 
 // The first two entries that quarrel, by their places counted from 0; or none.
 pub enum Pair {
@@ -34,7 +34,7 @@ pub enum Pair {
     NoPair,
 }
 
-// What the check of a dump answers: that the bytes are none; that no two entries quarrel; or the first two that do, and the length of the
+// What the check of a dump answers: that the bytes are no dump; that no two entries quarrel; or the first two that do, and the length of the
 // least name that both target.
 pub enum Verdict {
     NoDump,
@@ -52,11 +52,10 @@ fn group_of(e: &[u8]) -> usize
     ensures { λ r. ⌜ r ≡ groupOf (now (e .entry)) ⌝ }
 {
     let name = entry::name_bytes(e);
-    let signs = names::wildcards(name);
-    if signs == 0 {
+    if !names::has_sign(name) {
         return GROUPS;
     }
-    let key = slices::get32(e, limits::NAMESPACE_AT) + 4099 * name.len() + 262147 * signs;
+    let key = slices::get32(e, limits::NAMESPACE_AT) + 4099 * name.len();
     key % 4294967296 * 2654435761 / 16777216 % GROUPS
 }
 
@@ -134,12 +133,12 @@ fn note(name: &[u8], place: usize, masks: &mut [usize; NOTES], shown: &mut [usiz
     ensures masked { λ _. ⌜ now (masks .exit) ≡ notedFor literalMaskOf (now (masks .entry)) place (now (name .entry)) ⌝ }
     ensures shown { λ _. ⌜ now (shown .exit) ≡ notedFor literalsOf (now (shown .entry)) place (now (name .entry)) ⌝ }
 {
-    let head = names::literals(front(name));
-    let tail = names::literals(name);
-    masks[place] = head.mask;
-    shown[place] = head.shown;
-    masks[ENTRIES + place] = tail.mask;
-    shown[ENTRIES + place] = tail.shown;
+    let foremost = names::literals(front(name));
+    let last = names::literals(name);
+    masks[place] = foremost.mask;
+    shown[place] = foremost.shown;
+    masks[ENTRIES + place] = last.mask;
+    shown[ENTRIES + place] = last.shown;
 }
 
 // Links each entry with '#' in its name to the next one of its group, and to the first that has '#' at other places; its first and last units are
@@ -249,11 +248,14 @@ fn first_pair(
     found
 }
 
-// The same of a dump that was found valid.
+// Links and notes the entries of a dump that was found valid, and looks for the first two that quarrel. Without a '#' in it there is nothing to look for.
 fn pair_of(dump: &[u8], count: usize, ends: &[u16; ENTRIES]) -> Pair
     requires { ⌜ (count ≡ length (entriesOf (now dump))) × EntryEnds (now ends) (now dump) × (dumpValid (now dump) ≡ true) ⌝ }
     ensures { λ r. ⌜ r ≡ pairOf (entriesOf (now (dump .entry))) ⌝ }
 {
+    if !names::has_sign(dump) {
+        return Pair::NoPair;
+    }
     let mut next = no_links();
     let mut first = no_links();
     let mut masks = [0usize; NOTES];

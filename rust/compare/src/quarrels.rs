@@ -71,7 +71,15 @@ impl Comparison {
     }
 }
 
-fn by_reference(dump: &[u8], old: &NameBuffer) -> Asked {
+/// What the library answers to these bytes, over a buffer with old bytes.
+pub fn by_library(dump: &[u8], old: &NameBuffer) -> Asked {
+    let mut buffer = *old;
+    let answer = calls::quarrels(dump, &mut buffer);
+    Asked { answer, buffer: buffer.to_vec() }
+}
+
+/// What the reference answers.
+pub fn by_reference(dump: &[u8], old: &NameBuffer) -> Asked {
     let mut buffer = *old;
     let reference::Quarrelled { status, found, earlier, later, name_length } = reference::quarrels(dump, &mut buffer);
     let answer = Quarrelled { status: translate(status), found, earlier, later, name_length };

@@ -29,27 +29,34 @@ enum-told c = search needs
 enum-known-count : tie.Need-enum-known-count
 enum-known-count c = search needs
 
--- what the scan told of a dump
-checked : (c : tie.After-count) → CheckedWithin (length (c .before .before .before .before .before .before .before .before .args .dump .now)) (c .before .before .before .before .before .before .before .before .args .dump .now) (c .count .given .0 .0) (c .count .given .0 .1 .0)
+-- the start, from where the bytes were scanned, and the bytes
+abbrev Start : tie.After-scan → tie.Start
+Start c = c .before .before .before .before .before .before
+
+abbrev D : tie.After-scan → Bytes
+D c = Start c .args .dump .now
+
+-- what the scan told
+checked : (c : tie.After-count) → CheckedWithin (length (D (c .before .before))) (D (c .before .before)) (c .count .given .0 .0) (c .count .given .0 .1 .0)
 checked c = within-valid _ _ _ _ (sym (c .before .before .scan .ensures .0) ∙ c .count .given .1)
 
 returns-2 : tie.Need-returns-2
 returns-2 c =
     let k = checked (c .before .before) in
-    let d = c .before .before .before .before .before .before .before .before .before .before .args .dump .now in
+    let d = D (c .before .before .before .before) in
     dump-refused d (dump-behind d (omega (arith, k .summed, c .if2 .taken)))
 
 returns-3 : tie.Need-returns-3
 returns-3 c =
-    let d = c .before .before .before .before .before .before .before .before .args .dump .now in
-    dump-refused d (dump-invalid d (within-invalid _ d (sym (c .before .before .scan .ensures .0) ∙ c .enum-told .given .1)))
+    let s = c .before .before in
+    dump-refused (D s) (dump-invalid (D s) (within-invalid _ (D s) (sym (s .scan .ensures .0) ∙ c .enum-told .given .1)))
 
 returns-4 : tie.Need-returns-4
 returns-4 c =
     let k = checked (c .before .before) in
     let s = c .before .before .before .before in
-    let d = s .before .before .before .before .before .before .args .dump .now in
-    dump-granted d k (dump-good d (omega (arith, s .before .before .before .before .if1 .left)) (k .valid) (omega (arith, k .summed, c .if2 .left))) (s .scan .ensures .1 (k .valid))
+    let few : length (D s) ≤ policyBytes = omega (arith, s .before .before .before .before .if1 .left) in
+    dump-granted (D s) k (dump-good (D s) few (k .valid) (omega (arith, k .summed, c .if2 .left))) (s .scan .ensures .1 (k .valid))
 
 pub check-dump-spec : {M : Type 1} → statement M
 check-dump-spec = tie.close (tie.spec returns no-marks-requires scan-requires enum-told enum-known-count returns-2 returns-3 returns-4)

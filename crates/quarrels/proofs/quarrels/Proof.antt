@@ -4,7 +4,7 @@ use native.Mathlib.Omega.{arith}
 use borrow.Author.Needs.{needs}
 use Rattle.entry.specs.Entry.{nameOf}
 use Rattle.policy.specs.Policy.{entriesOf}
-use Rattle.policy.specs.DumpLaws.{DumpChecked, dump-checked, dump-unchecked}
+use Rattle.policy.specs.DumpLaws.{DumpChecked, dump-check-valid, dump-check-invalid}
 use Rattle.quarrels.specs.declared.Pair.the-variants.{Places}
 use Rattle.quarrels.specs.Quarrel.{pairOf}
 use Rattle.quarrels.specs.QuarrelLaws.{at}
@@ -12,12 +12,15 @@ use Rattle.quarrels.proofs.Answers.{no-dump, no-quarrel, places, names-
 use Rattle.quarrels.proofs.quarrels.Statement.{statement}
 use Rattle.quarrels.proofs.quarrels.Tie as tie
 
--- where the bytes are known to be a dump
+-- where the bytes were checked, from where they are known to be a dump; and the start
+abbrev Checked : tie.After-ends2 → tie.After-check-dump
+Checked c = c .before .before .before .before
+
 abbrev Start : tie.After-ends2 → tie.Start
-Start c = c .before .before .before .before .before .before .before .before
+Start c = Checked c .before .before .before .before
 
 checked : (c : tie.After-ends2) → DumpChecked (Start c .args .dump .now) (c .before .before .count .given .0 .0)
-checked c = dump-checked _ _ _ (sym (c .before .before .before .before .check-dump .ensures .0) ∙ c .before .before .count .given .1)
+checked c = dump-check-valid _ _ _ (sym (Checked c .check-dump .ensures .0) ∙ c .before .before .count .given .1)
 
 -- where a pair was found
 abbrev Valid : tie.After-pair → tie.After-ends2
@@ -42,10 +45,10 @@ returns : tie.Need-returns
 returns c =
     let k = c .before .before in
     let x = k .before .before .before .before in
-    no-dump (x .args .dump .now) (x .args .name .now) (dump-unchecked (x .args .dump .now) (sym (k .check-dump .ensures .0) ∙ c .enum-told .given .1))
+    no-dump (x .args .dump .now) (x .args .name .now) (dump-check-invalid (x .args .dump .now) (sym (k .check-dump .ensures .0) ∙ c .enum-told .given .1))
 
 pair-of-requires : tie.Need-pair-of-requires
-pair-of-requires c κs = (checked c .counted, c .before .before .before .before .check-dump .ensures .1 (checked c .valid), checked c .valid)
+pair-of-requires c κs = (checked c .counted, Checked c .check-dump .ensures .1 (checked c .valid), checked c .valid)
 
 enum-known-pair : tie.Need-enum-known-pair
 enum-known-pair c = search needs
@@ -63,7 +66,7 @@ entry-at-requires : tie.Need-entry-at-requires
 entry-at-requires c κs =
     let p = c .before .before in
     let k = Valid p in
-    (places (Start k .args .dump .now) (checked k .valid) _ _ (pair-is p) .0, k .before .before .before .before .check-dump .ensures .1 (checked k .valid))
+    (places (Start k .args .dump .now) (checked k .valid) _ _ (pair-is p) .0, Checked k .check-dump .ensures .1 (checked k .valid))
 
 name-bytes-requires : tie.Need-name-bytes-requires
 name-bytes-requires c κs = c .entry-at .ensures .1
@@ -72,7 +75,7 @@ entry-at-requires-2 : tie.Need-entry-at-requires-2
 entry-at-requires-2 c κs =
     let p = c .before .before .before .before .before in
     let k = Valid p in
-    (places (Start k .args .dump .now) (checked k .valid) _ _ (pair-is p) .1, k .before .before .before .before .check-dump .ensures .1 (checked k .valid))
+    (places (Start k .args .dump .now) (checked k .valid) _ _ (pair-is p) .1, Checked k .check-dump .ensures .1 (checked k .valid))
 
 name-bytes-requires-2 : tie.Need-name-bytes-requires-2
 name-bytes-requires-2 c κs = c .entry-at2 .ensures .1

@@ -1,12 +1,15 @@
-//! The bench readings (docs/RULES.md, 13), each run by the library and by the reference. The last seven, from
-//! the store of 40 bytes on, are not proved, and this program is what checks them.
+//! The bench readings (docs/RULES.md, 13), each run by the library and by the reference. Of those on an engine the last
+//! seven, from the store of 40 bytes on, are not proved, and of those of dumps the last six, from the names of 64 units
+//! on; this program is what checks them.
 
 use compare::call::{Answer, Call, Values, by_library, by_reference};
-use compare::make::{EntryFields, G, entry_of_size, packed, unit_bytes, units};
+use compare::make::{EntryFields, G, entries_of_size, entries_of_sum, entry_of_size, packed, unit_bytes, units};
+use compare::quarrels::{self, Asked, OLD_NAME};
 use compare::state::{Guarded, State};
 use reference::POLICY_BYTES;
 use std::process::ExitCode;
-use varpolicy::Report;
+use varpolicy::calls::Quarrelled;
+use varpolicy::{Report, Status};
 
 /// An implementation: makes a call on a state.
 type Implementation = fn(&mut State, &Call) -> Answer;
@@ -69,17 +72,74 @@ const GROUNDS: &[Reported] = &[
     [0, 0, 0, 0, 0, 0, 0],
 ];
 
+/// A reading of the checker of dumps: its text, the bytes, and what is expected.
+type DumpReading = (&'static str, fn() -> Vec<u8>, Expected);
+
+/// What the checker is expected to answer.
+enum Expected {
+    NoDump,
+    NoQuarrel,
+    Pair(usize, usize, &'static str),
+}
+
+use Expected::{NoDump, NoQuarrel, Pair};
+
+const DUMP_READINGS: [DumpReading; 21] = [
+    ("no bytes", || free(&[]), NoQuarrel),
+    ("`Boot00##`, `Boot##01`", || free(&["Boot00##", "Boot##01"]), Pair(0, 1, "Boot0001")),
+    ("`A##`, `#0#`", || free(&["A##", "#0#"]), Pair(0, 1, "A00")),
+    ("`Boot####`, the whole namespace", || dump(&[entry("Boot####"), locked_now("")]), NoQuarrel),
+    ("`Boot##`, `Boot#0`", || free(&["Boot##", "Boot#0"]), NoQuarrel),
+    ("`#G`, `0#`", || free(&["#G", "0#"]), NoQuarrel),
+    ("`A#`, `B#`", || free(&["A#", "B#"]), NoQuarrel),
+    ("`X`, `A#`, `#B`, `#C`", || free(&["X", "A#", "#B", "#C"]), Pair(1, 2, "AB")),
+    ("`A#`, `GA#`, `G#A`, `#A`", || free(&["A#", "GA#", "G#A", "#A"]), Pair(0, 3, "AA")),
+    ("`A#`, `#A` of another namespace", two_namespaces, NoQuarrel),
+    ("`A#` twice", || dump(&[entry("A#"), locked_now("A#")]), NoDump),
+    ("the whole namespace twice", || dump(&[entry(""), locked_now("")]), NoDump),
+    ("`A#`, `#A`, a zero byte", || [free(&["A#", "#A"]), vec![0]].concat(), NoDump),
+    ("`A#` with the trigger `T#`, `#A`", || triggered("T#"), NoDump),
+    ("`A#` with the trigger `T0`, `#A`", || triggered("T0"), Pair(0, 1, "AA")),
+    ("names of 64 units", longest_names, Pair(0, 1, LONGEST_NAME)),
+    ("128 entries, the last two `A#`, `#A`", last_places, Pair(126, 127, "AA")),
+    ("128 entries of 44 bytes", || entries_of_size(44, 128).concat(), NoQuarrel),
+    ("one more", || entries_of_size(44, 129).concat(), NoDump),
+    ("51 entries that sum to 16,384", || entries_of_sum(POLICY_BYTES).concat(), NoQuarrel),
+    ("to 16,386", || entries_of_sum(POLICY_BYTES + 2).concat(), NoDump),
+];
+
 fn main() -> ExitCode {
     let mut all_agree = true;
+    let mut tell = |text: &str, agrees: bool, library: String, reference: String| {
+        all_agree &= agrees;
+        let verdict = if agrees { "ok    " } else { "FAILED" };
+        println!("{verdict} {text} library {library} reference {reference}");
+    };
     for (text, run, expected) in READINGS {
         let library = run(by_library);
         let reference = run(|state, call| by_reference(state, call).0);
         let agrees = library == expected && reference == expected;
-        all_agree &= agrees;
-        let verdict = if agrees { "ok    " } else { "FAILED" };
-        println!("{verdict} {text} library {library:?} reference {reference:?}");
+        tell(text, agrees, format!("{library:?}"), format!("{reference:?}"));
+    }
+    for (text, bytes, expected) in DUMP_READINGS {
+        let (dump, expected) = (bytes(), expected.over_old_name());
+        let library = quarrels::by_library(&dump, &OLD_NAME);
+        let reference = quarrels::by_reference(&dump, &OLD_NAME);
+        let agrees = library == expected && reference == expected;
+        tell(&format!("a dump: {text}"), agrees, told(&library), told(&reference));
     }
     if all_agree { ExitCode::SUCCESS } else { ExitCode::FAILURE }
+}
+
+impl Expected {
+    /// The answer, and the buffer from end to end.
+    fn over_old_name(&self) -> Asked {
+        match self {
+            NoDump => Asked::without_pair(Status::InvalidParameter, &OLD_NAME),
+            NoQuarrel => Asked::without_pair(Status::Success, &OLD_NAME),
+            Pair(earlier, later, name) => Asked::with_pair((*earlier, *later), &unit_bytes(&units(name)), &OLD_NAME),
+        }
+    }
 }
 
 /// An engine on the bench: a state, and who runs it.
@@ -363,4 +423,46 @@ fn whole_dump(implementation: Implementation) -> Vec<u32> {
         return vec![answer.status.number()];
     };
     vec![answer.status.number(), length as u32, u32::from(buffer == expected)]
+}
+
+/// The status, and of a pair the places and the name.
+fn told(asked: &Asked) -> String {
+    let Quarrelled { status, found, earlier, later, name_length } = asked.answer;
+    if !found {
+        return format!("[{}]", status.number());
+    }
+    let units = asked.buffer[..name_length].chunks_exact(2).map(|unit| u16::from_le_bytes([unit[0], unit[1]]));
+    format!("[{}, {earlier}, {later}] `{}`", status.number(), String::from_utf16_lossy(&units.collect::<Vec<u16>>()))
+}
+
+fn dump(entries: &[EntryFields]) -> Vec<u8> {
+    entries.iter().flat_map(EntryFields::pack).collect()
+}
+
+/// The dump of entries of these names that never lock.
+fn free(names: &[&str]) -> Vec<u8> {
+    names.iter().flat_map(|name| entry(name).pack()).collect()
+}
+
+fn two_namespaces() -> Vec<u8> {
+    let mut other = G;
+    other[15] += 1;
+    dump(&[entry("A#"), EntryFields { namespace: other, ..entry("#A") }])
+}
+
+/// `A#` with this trigger, and `#A`.
+fn triggered(trigger: &str) -> Vec<u8> {
+    dump(&[entry("A#").with_trigger(G, &units(trigger), 0), entry("#A")])
+}
+
+/// `A` and 62 times `0` and `A`.
+const LONGEST_NAME: &str = "A00000000000000000000000000000000000000000000000000000000000000A";
+
+fn longest_names() -> Vec<u8> {
+    let signs = "#".repeat(63);
+    free(&[&format!("A{signs}"), &format!("{signs}A")])
+}
+
+fn last_places() -> Vec<u8> {
+    [entries_of_size(44, 126).concat(), free(&["A#", "#A"])].concat()
 }
