@@ -421,8 +421,8 @@ varpolicy_set (
 
 /**
   Tells whether two entries of a dump quarrel: they have the same rank, and some variable, stored or not,
-  is targeted by both. Which of the two speaks for it depends on which was registered first, so that an
-  engine may be rebuilt in every order exactly if no two entries of its dump quarrel. To settle a
+  is targeted by both. Unless an entry of lower rank targets it too, the one registered first speaks for
+  it. An engine may be rebuilt in every order exactly if no two entries of its dump quarrel. To settle a
   quarrel, put a hex digit in the place of a '#' in one of the two names. The rank is how many '#' a name
   has; entries for a whole namespace quarrel with none.
 
@@ -434,9 +434,10 @@ varpolicy_set (
 
   @param[in]     dump      The entries, end to end as varpolicy_dump writes them, and nothing behind them.
   @param[in]     dump_len  Their length, as varpolicy_dump answers it: not that of its buffer.
-  @param[in,out] name      A buffer. Of a pair, the bytes of the 16-bit units of the smallest name are
-                           written to its front, without a closing zero, and the bytes behind them
-                           stay. Without a pair all of it stays.
+  @param[in,out] name      A buffer of VARPOLICY_MAX_NAME_BYTES bytes, however short the name. Of a pair,
+                           the bytes of the 16-bit units of the smallest name are written to its front,
+                           without a closing zero, and the bytes behind them stay. Without a pair all of
+                           it stays.
 
   @retval VARPOLICY_INVALID_PARAMETER  The bytes are not a dump: at most VARPOLICY_MAX_ENTRIES well-formed
                                        entries in at most VARPOLICY_POLICY_BYTES bytes, no two for one

@@ -19,8 +19,8 @@ pub fn pair(dump: &[u8], quarrel: &Quarrel, namespaces: &BTreeMap<String, Namesp
     let Quarrel { earlier, later, .. } = *quarrel;
     let [one, other] = [earlier, later].map(|place| describe::entry_line(place, entries[place], namespaces));
     format!(
-        "{quarrel}{one}{other}\n    Of the two, entry {earlier} speaks, as it was registered first: make one more \
-         specific, by a hex digit for a '#', or keep their order at every rebuild."
+        "{quarrel}{one}{other}\n    Of the two, entry {earlier} goes before, as it was registered first: make one \
+         more specific, by a hex digit for a '#', or keep their order at every rebuild."
     )
 }
 

@@ -64,7 +64,7 @@ fn a_pair_is_told_with_the_name_and_what_to_do() {
 entries 1 and 2 quarrel: they have the same rank, and \"Boot0001\" is the smallest name that both target
     1: 61DFE48BCA93D211AA0D00E098032B8C \"Boot00##\" max=4
     2: 61DFE48BCA93D211AA0D00E098032B8C \"Boot##01\" max=2
-    Of the two, entry 1 speaks, as it was registered first: make one more specific, by a hex digit for a '#', or keep \
+    Of the two, entry 1 goes before, as it was registered first: make one more specific, by a hex digit for a '#', or keep \
 their order at every rebuild.
 ";
     assert_eq!(told(&output), (Some(1), expected.to_string(), String::new()));

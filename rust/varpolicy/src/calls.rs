@@ -277,8 +277,8 @@ pub fn set(
 }
 
 /// Tells whether two entries of a dump quarrel: they have the same rank, and some variable, stored or not, is targeted
-/// by both, so that which of them speaks for it depends on which was registered first. `dump` is the entries end to
-/// end, as [`dump`](dump()) writes them, and nothing behind them; no part of an engine is lent.
+/// by both. Unless an entry of lower rank targets it too, the one registered first speaks for it. `dump` is the entries
+/// end to end, as [`dump`](dump()) writes them, and nothing behind them; no part of an engine is lent.
 ///
 /// The pair is the first: of all that quarrel the one with the lowest earlier place, and of those the one with the
 /// lowest later place. The bytes of the smallest name that both entries target are written to the front of `name`,

@@ -4,8 +4,9 @@ use crate::calls::{self, Quarrelled};
 use crate::{MAX_NAME_UNITS, Name, Status};
 use core::fmt;
 
-/// Two entries of a dump that quarrel: they have the same rank, and some variable is targeted by both. The one that was
-/// registered first speaks for it, so that a rebuild has to keep their order. As text it is a sentence.
+/// Two entries of a dump that quarrel: they have the same rank, and some variable is targeted by both. Unless an entry
+/// of lower rank targets it too, the one registered first speaks for it. A rebuild has to keep their order. As text it
+/// is a sentence.
 #[derive(Clone, Copy, PartialEq, Eq, Debug)]
 pub struct Quarrel {
     /// The place of the entry that was registered first, counted from 0 as the dump has them.
