@@ -10,16 +10,15 @@ use mathlib.Core.Logic.{_⊎_, inl, inr}
 use native.Mathlib.Omega.{arith}
 use lib.ListN.{length}
 use borrow.Author.Tests.{eq-eqb}
-use Rattle.limits.specs.Limits.{namespaceBytes, wholeNamespaceRank}
+use Rattle.limits.specs.Limits.{namespaceBytes}
 use Rattle.lists.specs.Lists.{All, nil, more, Pairs, RanksDiffer}
 use Rattle.lists.specs.ListsLaws.{all-here, all-rest, all-map}
 use Rattle.slices.specs.Test.{_and_}
 use Rattle.slices.specs.TestLaws.{and-left, and-right, and-intro}
 use Rattle.slices.specs.Bytes.{Bytes, AreBytes, pairwise}
-use Rattle.slices.specs.BytesLaws.{pairwise-length, same-eq}
 use Rattle.slices.specs.PartLaws.{bytes-part}
 use Rattle.names.specs.Name.{Variable, units, each, isName, named, unitMatches}
-use Rattle.names.specs.NameLaws.{isName-length, isName-even, named-namespace, named-name, units-length, wildcards-le, unit-cases}
+use Rattle.names.specs.NameLaws.{isName-even, named-namespace, named-name, unit-cases}
 use Rattle.entry.specs.Entry.{offsetToName, nameIsEmpty, nameOf, targets, rank}
 use Rattle.entry.specs.EntryLaws.{target-namespace, target-name, rank-of-name, rank-of-namespace}
 use Rattle.history.specs.History.{Unambiguous}

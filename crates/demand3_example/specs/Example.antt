@@ -16,7 +16,7 @@ use Rattle.slices.specs.Bytes.{Bytes, same}
 use Rattle.slices.specs.BytesLaws.{same-eq}
 use Rattle.slices.specs.Chunks.{flat}
 use Rattle.names.specs.Name.{Variable, units}
-use Rattle.names.specs.Common.{leastName}
+use Rattle.patterns.specs.Common.{leastName}
 use Rattle.entry.specs.Entry.{wellFormed, targets, rank}
 use Rattle.policy.specs.Dump.{dumpValid}
 use Rattle.quarrels.specs.Pairs.{rowFrom, pairFrom}

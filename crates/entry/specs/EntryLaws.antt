@@ -20,7 +20,6 @@ use Rattle.slices.specs.BytesLaws.{pairwise-length, same-eq, same-sym, same-of}
 use Rattle.slices.specs.PartLaws.{length-part, part-none}
 use Rattle.names.specs.Name.{isName, isTerminated, isPlainTerminated, units, Variable, named, numberSign, unitMatches, matches, wildcards}
 use Rattle.names.specs.NameLaws.{isName-length, isName-even, named-name, isTerminated-length, isTerminated-name, plain-terminated, plain-wildcards, units-length, wildcards-le, sign-in-name}
-use Rattle.names.specs.SignLaws.{wildcards-part}
 use Rattle.entry.specs.Entry.{headerOk, lockOk, nameOk, wellFormed, sizeField, offsetToName, lockPolicyType, nameIsEmpty, nameOf, namespaceOf, targets, rank, sameTarget}
 
 -- ---- lengths and places
@@ -225,11 +224,6 @@ entry-even e w = (go (nameIsEmpty e) refl, at)
     go : (t : Bool) → nameIsEmpty e ≡ t → length e % 2 ≡ 0
     go true q = omega (arith, at, eqb-true (offsetToName e) (length e) q)
     go false q = omega (arith, at, nameOf-even e w, nameOf-closed e w q, sized e w .offset-most)
-
--- no '#' in the bytes of an entry, none in its name
-pub entry-plain : (e : Bytes) → wellFormed e ≡ true → wildcards (units e) ≡ 0 → wildcards (units (nameOf e)) ≡ 0
-unfolding nameOf
-entry-plain e w z = omega (arith, wildcards-part (offsetToName e) (length e - 2) e (entry-even e w .1))
 
 -- ---- the same namespace and name
 -- the namespace's first bytes in the entry

@@ -1,10 +1,9 @@
 -- Names: 16-bit little-endian units; what a valid name is; how an entry's name is compared with a variable's.
 -- Assumes nothing: these are definitions.
 use Prim.Native.Nat.{ℕ, _+_, _-_, _*_, _%_}
-use mathlib.Core.Path.{_≡_}
 use mathlib.Core.List.{List, [], _∷_}
 use mathlib.Core.Bool.{Bool, true, false, not, _&&_, _||_, cond}
-use lib.ListN.{length, getD, take, drop}
+use lib.ListN.{length, getD, take}
 use lib.Dec.{eqb, leb}
 use Rattle.limits.specs.Limits.{maxNameBytes, namespaceBytes}
 use Rattle.slices.specs.Test.{_and_}
@@ -86,10 +85,6 @@ unfoldable pub wildcards : List ℕ → ℕ
 wildcards [] = 0
 wildcards (u ∷ rest) = oneIf (eqb u numberSign) + wildcards rest
 
--- a unit of the bytes is '#'
-abbrev pub hasSign : Bytes → Bool
-hasSign s = not (eqb (wildcards (units s)) 0)
-
 -- a name that has no '#', and then one zero unit: how an entry carries its trigger's (RULES.md, 3.2)
 unfoldable pub isPlainTerminated : Bytes → Bool
 isPlainTerminated s = isTerminated s and eqb (wildcards (units (take (length s - 2) s))) 0
@@ -103,9 +98,3 @@ signsIn signs s = signs || eqb (wildcards (units s)) 0
 -- a unit of a trigger's name: neither zero nor '#'
 abbrev pub plainUnit : ℕ → Bool
 plainUnit u = not (eqb u 0) && not (eqb u numberSign)
-
--- of two blocks, the first j bytes from i on and from k on: a '#' was met in one, or what is behind decides in both
-abbrev pub EitherSign : Bytes → ℕ → ℕ → ℕ → Bool → Type 0
-EitherSign s i k j met =
-    (met ≡ true → (hasSign (drop i s) || hasSign (drop k s)) ≡ true)
-    × (met ≡ false → (hasSign (drop i s) ≡ hasSign (drop (i + j) s)) × (hasSign (drop k s) ≡ hasSign (drop (k + j) s)))

@@ -9,19 +9,18 @@ use lib.ListN.{length, getD, take, drop, set, length-set}
 use lib.Seq.{getD-set-same, getD-set-other}
 use lib.Dec.{eqb, leb}
 use borrow.Author.Tests.{eq-eqb, ne-eqb, le-leb, lt-leb, eqb-true, eqb-false}
-use Rattle.limits.specs.Limits.{namespaceBytes, namespaceAt, maxEntries, policyBytes}
+use Rattle.limits.specs.Limits.{namespaceAt, maxEntries, policyBytes}
 use Rattle.slices.specs.Test.{_and_}
 use Rattle.slices.specs.TestLaws.{and-no, and-yes, forced-off}
 use Rattle.slices.specs.Bytes.{Bytes, le32, part, allAre}
 use Rattle.slices.specs.PartLaws.{part-of}
-use Rattle.slices.specs.NumberLaws.{le32-take, le32-drop}
 use Rattle.slices.specs.Hash.{hashFrom}
 use Rattle.slices.specs.Filter.{joined}
 use Rattle.slices.specs.FilterLaws.{filter-met, filter-unmet}
 use Rattle.slices.specs.Chunks.{flat, contains, distinct}
 use Rattle.lists.specs.Lists.{nil}
 use Rattle.slices.specs.ItemsLaws.{or-off, or-left-off, or-right-off, contains-append, contains-one, distinct-apart, distinct-left, distinct-append}
-use Rattle.entry.specs.Entry.{namespaceOf, nameOf, wellFormed, sameTarget}
+use Rattle.entry.specs.Entry.{nameOf, wellFormed, sameTarget}
 use Rattle.entry.specs.EntryLaws.{namespace-start, sameTarget-same, sameTarget-sym, sameTarget-alike}
 use Rattle.policy.specs.declared.PolicyCheck.{PolicyCheck}
 use Rattle.policy.specs.declared.PolicyCheck.the-variants.{Valid, Invalid}

@@ -1,26 +1,23 @@
 -- The bytes of a dump and its list of entries determine each other: `dump-flat`, `entriesOf-flat`; which lists these are: `dump-exactly`. A dump is a record of
 -- just its own length.
 -- Assumes nothing.
-use Prim.Native.Nat.{ℕ, zero, suc, _+_, _≤_, _<_}
+use Prim.Native.Nat.{ℕ, _≤_, _<_}
 use mathlib.Core.Path.{_≡_, refl, sym, ap, subst, _∙_}
 use mathlib.Core.Logic.{_↔_}
-use mathlib.Core.List.{List, [], _∷_, append-nil}
+use mathlib.Core.List.{List, [], append-nil}
 use mathlib.Core.Bool.{Bool, true, false, cond, false≢true}
 use native.Mathlib.Omega.{arith}
-use lib.ListN.{length, getD, take, drop}
-use lib.Dec.{eqb, leb}
+use lib.ListN.{length, drop}
 use lib.Seq.{take-all, drop-length}
-use borrow.Author.Tests.{eq-eqb, ne-eqb, le-leb, lt-leb, eqb-true, leb-true}
+use borrow.Author.Tests.{eq-eqb, le-leb, lt-leb, eqb-true, leb-true}
 use Rattle.limits.specs.Limits.{maxEntries, policyBytes}
 use Rattle.slices.specs.Test.{_and_}
-use Rattle.slices.specs.TestLaws.{and-left, and-right, and-intro, and-no, forced-off}
+use Rattle.slices.specs.TestLaws.{and-left, and-right, and-intro, forced-off}
 use Rattle.slices.specs.Bytes.{Bytes, allAre}
-use Rattle.slices.specs.Chunks.{flat, distinct}
-use Rattle.slices.specs.ChunksLaws.{All, nil, more, flat-chunks, chunks-flat}
-use Rattle.names.specs.Name.{units, wildcards, hasSign}
-use Rattle.names.specs.SignLaws.{units-append, wildcards-append, sign-none}
-use Rattle.entry.specs.Entry.{wellFormed, sameTarget, nameOf}
-use Rattle.entry.specs.EntryLaws.{well-formed-header, entry-even, entry-plain}
+use Rattle.slices.specs.Chunks.{flat}
+use Rattle.slices.specs.ChunksLaws.{All, flat-chunks, chunks-flat}
+use Rattle.entry.specs.Entry.{wellFormed}
+use Rattle.entry.specs.EntryLaws.{well-formed-header}
 use Rattle.policy.specs.declared.PolicyCheck.the-variants.{Valid, Invalid}
 use Rattle.policy.specs.Policy.{entryLength, entriesOf, sizesSum, validWithin}
 use Rattle.policy.specs.PolicyLaws.{WellFormed, Entries, CheckedWithin, lengthBy-within, entryLength-within, entryLength-short, items-by, entriesOf-formed, sizesSum-flat, sizesSum-within}
@@ -121,19 +118,3 @@ dump-check-invalid d e = go (dumpValid d) refl e
     go : (t : Bool) → dumpValid d ≡ t → cond t (Valid (length (entriesOf d)) (sizesSum d)) Invalid ≡ Invalid → dumpValid d ≡ false
     go true q k = absurd (let z : _≡_ {A = ℕ} 0 1 = cc in omega arith)
     go false q k = q
-
--- ---- '#' in the names of a dump
--- of entries end to end, each of whole units
-flat-wildcards : (e : Bytes) (es : List Bytes) → WellFormed e → wildcards (units (flat (e ∷ es))) ≡ wildcards (units e) + wildcards (units (flat es))
-unfolding flat
-flat-wildcards e es w = ap wildcards (units-append e (flat es) (entry-even e w .0)) ∙ wildcards-append (units e) (units (flat es))
-
-flat-plain : (es : List Bytes) → All WellFormed es → wildcards (units (flat es)) ≡ 0 → (k : ℕ) → k < length es → wildcards (units (nameOf (getD es k []))) ≡ 0
-flat-plain [] nil z k h = absurd (omega arith)
-flat-plain (e ∷ es) (more w a) z zero h = entry-plain e w (omega (arith, z, flat-wildcards e es w))
-flat-plain (e ∷ es) (more w a) z (suc k) h = flat-plain es a (omega (arith, z, flat-wildcards e es w)) k (omega arith)
-
--- WHERE NO UNIT OF A DUMP IS '#', none of a name of its entries is
-pub dump-plain : (d : Bytes) → dumpValid d ≡ true → hasSign d ≡ false → (k : ℕ) → k < length (entriesOf d) → wildcards (units (nameOf (getD (entriesOf d) k []))) ≡ 0
-dump-plain d v s =
-    flat-plain (entriesOf d) (dump-entries d v .formed) (ap (λ (b : Bytes). wildcards (units b)) (dump-flat d v) ∙ sign-none d s)

@@ -1,22 +1,22 @@
 -- What `quarrels::quarrels` answers and leaves in the buffer, one law for each way out. Assumes nothing.
 use Prim.Native.Nat.{ℕ, _%_, _≤_, _<_}
-use mathlib.Core.Path.{_≡_, refl, sym, ap, ap₂, _∙_}
+use mathlib.Core.Path.{_≡_, sym, ap, ap₂, _∙_}
 use mathlib.Core.List.{List}
-use mathlib.Core.Bool.{Bool, true, false}
+use mathlib.Core.Bool.{true, false}
 use native.Mathlib.Omega.{arith}
 use lib.ListN.{length}
 use Rattle.limits.specs.Limits.{maxNameBytes}
 use Rattle.slices.specs.Bytes.{Bytes, overwrite}
-use Rattle.names.specs.Common.{leastName}
-use Rattle.names.specs.CommonLaws.{least-length}
-use Rattle.entry.specs.Entry.{wellFormed, nameOf}
+use Rattle.patterns.specs.Common.{leastName}
+use Rattle.patterns.specs.CommonLaws.{least-length}
+use Rattle.entry.specs.Entry.{nameOf}
 use Rattle.entry.specs.EntryLaws.{nameOf-even, nameOf-most}
 use Rattle.policy.specs.Policy.{entriesOf}
 use Rattle.policy.specs.Dump.{dumpValid}
 use Rattle.policy.specs.DumpLaws.{dump-entries}
 use Rattle.quarrels.specs.declared.Pair.the-variants.{Places, NoPair}
 use Rattle.quarrels.specs.declared.Verdict.the-variants.{NoDump, NoQuarrel, Found}
-use Rattle.quarrels.specs.Quarrel.{quarrelAt, pairOf, leastAt, answerFor, quarrelsOf, bufferFor, bufferAfter}
+use Rattle.quarrels.specs.Quarrel.{pairOf, leastAt, answerFor, quarrelsOf, bufferFor, bufferAfter}
 use Rattle.quarrels.specs.QuarrelLaws.{at, FirstQuarrel, pair-found, formed-at}
 use Rattle.quarrels.proofs.Tests.{lengths-agree}
 

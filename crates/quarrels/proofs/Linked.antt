@@ -14,11 +14,11 @@ use Rattle.lists.specs.ListsLaws.{Less, less}
 use Rattle.slices.specs.Test.{_and_}
 use Rattle.slices.specs.TestLaws.{and-left, and-right}
 use Rattle.slices.specs.Bytes.{Bytes}
-use Rattle.names.specs.Common.{sameSigns}
-use Rattle.names.specs.CommonLaws.{same-signs-trans}
-use Rattle.names.specs.Literals.{literalMaskOf, literalsOf}
+use Rattle.patterns.specs.Common.{sameSigns}
+use Rattle.patterns.specs.CommonLaws.{same-signs-trans}
+use Rattle.patterns.specs.Literals.{literalMaskOf, literalsOf}
 use Rattle.entry.specs.Entry.{nameOf}
-use Rattle.quarrels.specs.Group.{groups, groupOf, groupAt, front, notedFor, Next, Chains, Others, Noted}
+use Rattle.quarrels.specs.Group.{groups, groupAt, front, notedFor, Next, Chains, Others, Noted}
 use Rattle.quarrels.proofs.Chains.{Heads, no-heads, own-next, chains-grouped, heads-grouped, chains-single, heads-single}
 
 -- numbers noted for an entry in a group, and none for one in no group

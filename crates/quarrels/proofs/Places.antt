@@ -3,8 +3,8 @@
 use Prim.Native.Nat.{ℕ, zero, suc, _+_, _-_, _≤_, _<_}
 use mathlib.Core.Path.{_≡_, refl, sym, ap, ap₂, subst⁻¹, _∙_}
 use mathlib.Core.List.{List, [], _∷_}
-use mathlib.Core.Bool.{Bool, true, false, false≢true}
-use mathlib.Core.Logic.{_⊎_, inl, inr}
+use mathlib.Core.Bool.{true, false}
+use mathlib.Core.Logic.{inl, inr}
 use native.Mathlib.Omega.{arith}
 use lib.ListN.{length, getD}
 use lib.Bits.{bitAnd}
@@ -17,18 +17,19 @@ use Rattle.slices.specs.TestLaws.{forced-off}
 use Rattle.slices.specs.Bytes.{Bytes, AreBytes}
 use Rattle.slices.specs.PartLaws.{bytes-part}
 use Rattle.slices.specs.Chunks.{flat}
-use Rattle.names.specs.Name.{hasSign}
-use Rattle.names.specs.Common.{sameSigns}
 use Rattle.names.specs.TailLaws.{InBytes}
-use Rattle.names.specs.Literals.{literalMaskOf, literalsOf}
+use Rattle.patterns.specs.Signs.{hasSign}
+use Rattle.patterns.specs.Common.{sameSigns}
+use Rattle.patterns.specs.Literals.{literalMaskOf, literalsOf}
 use Rattle.entry.specs.Entry.{offsetToName, nameOf}
 use Rattle.policy.specs.Policy.{entriesOf}
 use Rattle.policy.specs.Dump.{dumpValid}
-use Rattle.policy.specs.DumpLaws.{dump-flat, dump-entries, dump-plain}
+use Rattle.policy.specs.DumpLaws.{dump-flat, dump-entries}
 use Rattle.quarrels.specs.declared.Pair.the-variants.{Places, NoPair}
 use Rattle.quarrels.specs.PairsLaws.{Before, no-pair-exactly, first-found}
-use Rattle.quarrels.specs.Quarrel.{quarrel, quarrelAt, pairOf}
+use Rattle.quarrels.specs.Quarrel.{quarrelAt, pairOf}
 use Rattle.quarrels.specs.QuarrelLaws.{at, all-at, formed-at, apart-at}
+use Rattle.quarrels.specs.PlainLaws.{dump-plain}
 use Rattle.quarrels.specs.Group.{groups, groupOf, groupAt, InGroup, Next, Chains, Others, front, Noted}
 use Rattle.quarrels.proofs.Tests.{Distinct, grouped, one-group, tails-agree, fronts-agree, signs-differ}
 

@@ -4,29 +4,28 @@ use mathlib.Core.Path.{_≡_, refl, sym, ap, ap₂, subst⁻¹, _∙_}
 use mathlib.Core.List.{[], _∷_}
 use mathlib.Core.Logic.{inl, inr}
 use Rattle.lists.specs.ListsLaws.{Less, less}
-use mathlib.Core.Bool.{Bool, true, false, not, cond, false≢true}
+use mathlib.Core.Bool.{Bool, true, false, not, false≢true}
 use native.Mathlib.Omega.{arith}
 use lib.ListN.{length, getD, take, length-take}
 use lib.Seq.{take-nil, take-all, length-take-le, getD-take}
 use lib.Bits.{bitAnd}
-use lib.Dec.{eqb}
 use borrow.Author.Tests.{eq-eqb, ne-eqb}
 use Rattle.limits.specs.Limits.{maxNameBytes, namespaceBytes, namespaceAt, minSizeAt}
-use Rattle.slices.specs.Test.{_and_}
 use Rattle.slices.specs.TestLaws.{and-left, and-right, and-intro, forced-off}
-use Rattle.slices.specs.Bytes.{Bytes, le32, part, pairwise, same}
+use Rattle.slices.specs.Bytes.{Bytes, le32, pairwise, same}
 use Rattle.slices.specs.BytesLaws.{pairwise-length, same-eq, same-of}
 use Rattle.slices.specs.PartLaws.{length-part}
-use Rattle.names.specs.Name.{Variable, units, isName, named, unitMatches, matches, wildcards, hasSign}
-use Rattle.names.specs.NameLaws.{named-name, isName-length, units-length, wildcards-le}
-use Rattle.names.specs.SignLaws.{sign-none}
-use Rattle.names.specs.Common.{leastName, overlap, unitsOverlap, sameSigns}
-use Rattle.names.specs.CommonLaws.{overlap-pairs, overlap-matches, least-length, least-name, overlap-sign, same-signs-apart}
+use Rattle.names.specs.Name.{units, named, unitMatches, wildcards}
+use Rattle.names.specs.NameLaws.{named-name, isName-length, units-length}
 use Rattle.names.specs.TailLaws.{InBytes}
-use Rattle.names.specs.Literals.{literalMaskOf, literalsOf}
-use Rattle.names.specs.LiteralsLaws.{literals-agree}
-use Rattle.entry.specs.Entry.{wellFormed, namespaceOf, nameIsEmpty, nameOf, targets, rank, sameTarget}
-use Rattle.entry.specs.EntryLaws.{Sized, sized, nameOf-empty, nameOf-none, nameOf-even, nameOf-most, namespace-start, target-namespace, target-name, rank-of-name, rank-of-namespace, sameTarget-of}
+use Rattle.patterns.specs.Signs.{hasSign}
+use Rattle.patterns.specs.SignLaws.{sign-none}
+use Rattle.patterns.specs.Common.{overlap, unitsOverlap, sameSigns}
+use Rattle.patterns.specs.CommonLaws.{overlap-pairs, overlap-matches, least-length, least-name, overlap-sign, same-signs-apart}
+use Rattle.patterns.specs.Literals.{literalMaskOf, literalsOf}
+use Rattle.patterns.specs.LiteralsLaws.{literals-agree}
+use Rattle.entry.specs.Entry.{wellFormed, namespaceOf, nameIsEmpty, nameOf, rank, sameTarget}
+use Rattle.entry.specs.EntryLaws.{sized, nameOf-empty, nameOf-none, nameOf-even, nameOf-most, namespace-start, target-namespace, target-name, rank-of-name, rank-of-namespace, sameTarget-of}
 use Rattle.quarrels.specs.Quarrel.{leastCommon, leastVariable, quarrel}
 use Rattle.quarrels.specs.QuarrelLaws.{TargetLeast, target-least, name-targets, name-of}
 use Rattle.quarrels.specs.Group.{groups, groupBy, groupOf, front}

@@ -9,7 +9,7 @@ use lib.Dec.{eqb}
 use Rattle.limits.specs.Limits.{maxEntries}
 use Rattle.slices.specs.Bytes.{Bytes, le32}
 use Rattle.names.specs.Name.{units, wildcards}
-use Rattle.names.specs.Common.{sameSigns}
+use Rattle.patterns.specs.Common.{sameSigns}
 use Rattle.entry.specs.Entry.{namespaceOf, nameOf}
 
 -- how many groups there are; no entry without '#' is in one of them

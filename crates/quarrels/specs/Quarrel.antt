@@ -8,7 +8,7 @@ use lib.Dec.{eqb}
 use Rattle.slices.specs.Test.{_and_}
 use Rattle.slices.specs.Bytes.{Bytes, overwrite}
 use Rattle.names.specs.Name.{Variable, variable, named}
-use Rattle.names.specs.Common.{leastName}
+use Rattle.patterns.specs.Common.{leastName}
 use Rattle.entry.specs.Entry.{namespaceOf, nameOf, targets, rank}
 use Rattle.policy.specs.Policy.{entriesOf}
 use Rattle.policy.specs.Dump.{dumpValid}

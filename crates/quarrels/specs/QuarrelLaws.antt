@@ -1,36 +1,33 @@
 -- What the checker's answer says (RULES.md, 10.11): `quarrel-exactly`, `none-exactly`, `found-first`. Assumes nothing.
-use Prim.Native.Nat.{ℕ, zero, suc, _+_, _/_, _%_, _≤_, _<_}
-use mathlib.Core.Path.{_≡_, refl, sym, ap, ap₂, subst, _∙_}
+use Prim.Native.Nat.{ℕ, zero, suc, _<_}
+use mathlib.Core.Path.{_≡_, refl, sym, ap, _∙_}
 use mathlib.Core.List.{List, [], _∷_}
-use mathlib.Core.Bool.{Bool, true, false, cond, _||_, false≢true}
+use mathlib.Core.Bool.{Bool, true, false, _||_, false≢true}
 use mathlib.Core.Logic.{_⊎_, inl, inr, _↔_}
 use native.Mathlib.Omega.{arith}
 use lib.ListN.{length, getD}
-use lib.Dec.{eqb}
 use borrow.Author.Tests.{eq-eqb, eqb-true}
 use Rattle.limits.specs.Limits.{namespaceBytes, maxEntries}
 use Rattle.lists.specs.Lists.{All, nil, more, Pairs, RanksDiffer}
-use Rattle.slices.specs.Test.{_and_}
 use Rattle.slices.specs.TestLaws.{and-left, and-right, and-intro, forced-off}
 use Rattle.slices.specs.Bytes.{Bytes, overwrite}
-use Rattle.slices.specs.BytesLaws.{pairwise-length, same-eq, same-of}
+use Rattle.slices.specs.BytesLaws.{pairwise-length, same-of}
 use Rattle.slices.specs.Chunks.{distinct}
 use Rattle.slices.specs.ItemsLaws.{contains-none, distinct-apart}
-use Rattle.names.specs.Name.{Variable, variable, units, isName, named, unitMatches, matches, wildcards}
-use Rattle.names.specs.NameLaws.{named-namespace, named-name, isName-length, units-length, wildcards-le}
-use Rattle.names.specs.Common.{leastName, overlap, Smaller}
-use Rattle.names.specs.CommonLaws.{overlap-complete, overlap-matches, none-smaller, least-length, least-name}
+use Rattle.names.specs.Name.{Variable, variable, units, isName, named, unitMatches, matches}
+use Rattle.names.specs.NameLaws.{named-namespace, units-length}
+use Rattle.patterns.specs.Common.{Smaller}
+use Rattle.patterns.specs.CommonLaws.{overlap-complete, overlap-matches, none-smaller, least-name}
 use Rattle.entry.specs.Entry.{wellFormed, namespaceOf, nameIsEmpty, nameOf, targets, rank, sameTarget}
 use Rattle.entry.specs.EntryLaws.{nameOf-empty, nameOf-name, nameOf-none, nameOf-even, target-namespace, target-name, rank-of-name, rank-of-namespace, sameTarget-of}
 use Rattle.policy.specs.Policy.{entriesOf}
-use Rattle.policy.specs.PolicyLaws.{WellFormed, Entries}
+use Rattle.policy.specs.PolicyLaws.{Entries}
 use Rattle.policy.specs.Dump.{dumpValid}
 use Rattle.policy.specs.DumpLaws.{dump-entries}
 use Rattle.quarrels.specs.declared.Pair.{Pair}
 use Rattle.quarrels.specs.declared.Pair.the-variants.{Places, NoPair}
 use Rattle.quarrels.specs.declared.Verdict.{Verdict}
 use Rattle.quarrels.specs.declared.Verdict.the-variants.{NoDump, NoQuarrel, Found}
-use Rattle.quarrels.specs.Pairs.{firstPair}
 use Rattle.quarrels.specs.PairsLaws as pairs
 use Rattle.quarrels.specs.Quarrel.{leastCommon, leastVariable, quarrel, quarrelAt, pairOf, leastAt, answerFor, quarrelsOf, bufferFor, bufferAfter}
 

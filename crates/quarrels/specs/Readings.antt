@@ -10,7 +10,7 @@ use Rattle.slices.specs.Test.{_and_}
 use Rattle.slices.specs.Bytes.{Bytes, le16, le32, le16Bytes, le32Bytes, pairwise, same, overwrite}
 use Rattle.slices.specs.Chunks.{flat, chunks, chunksFrom, used, contains, distinct}
 use Rattle.names.specs.Name.{units, each, isName, isTerminated, named, isHexDigit, unitMatches, wildcards, isPlainTerminated}
-use Rattle.names.specs.Common.{leastName}
+use Rattle.patterns.specs.Common.{leastName}
 use Rattle.entry.specs.Entry.{headerOk, lockOk, nameOk, wellFormed, nameOf, targets, rank, sameTarget}
 use Rattle.entry.specs.Encoding.{Lock, offsetFor, sizeFor, encodeLock, encodeNumbers, encodeEntry}
 use Rattle.entry.specs.Encoding.Lock.{plain, onVarState}

@@ -7,9 +7,9 @@ ghost use lib.Dec.{eqb, ltb};
 ghost use lib.Bits.{bitAnd};
 ghost use mathlib.Core.List.{[]};
 ghost use Rattle.slices.specs.Test.{_and_};
-ghost use Rattle.names.specs.Common.{sameSigns};
+ghost use Rattle.patterns.specs.Common.{sameSigns};
 ghost use Rattle.limits.specs.Limits.{maxEntries};
-ghost use Rattle.names.specs.Literals.{literalMaskOf, literalsOf};
+ghost use Rattle.patterns.specs.Literals.{literalMaskOf, literalsOf};
 ghost use Rattle.entry.specs.Entry.{wellFormed, nameOf};
 ghost use Rattle.policy.specs.Policy.{entriesOf};
 ghost use Rattle.policy.specs.Walk.{EntryEnds};
@@ -52,7 +52,7 @@ fn group_of(e: &[u8]) -> usize
     ensures { λ r. ⌜ r ≡ groupOf (now (e .entry)) ⌝ }
 {
     let name = entry::name_bytes(e);
-    if !names::has_sign(name) {
+    if !patterns::has_sign(name) {
         return GROUPS;
     }
     let key = slices::get32(e, limits::NAMESPACE_AT) + 4099 * name.len();
@@ -72,7 +72,7 @@ fn quarrel(e: &[u8], f: &[u8]) -> bool
     if own.len() == 0 {
         return false;
     }
-    if !names::overlap(own, other) {
+    if !patterns::overlap(own, other) {
         return false;
     }
     if names::wildcards(own) != names::wildcards(other) {
@@ -114,7 +114,7 @@ fn alike(dump: &[u8], count: usize, ends: &[u16; ENTRIES], name: &[u8], place: u
         return false;
     }
     let e = policy::entry_at(dump, ends, place);
-    names::same_signs(name, entry::name_bytes(e))
+    patterns::same_signs(name, entry::name_bytes(e))
 }
 
 // The first four units of a name; of a shorter one all.
@@ -133,8 +133,8 @@ fn note(name: &[u8], place: usize, masks: &mut [usize; NOTES], shown: &mut [usiz
     ensures masked { λ _. ⌜ now (masks .exit) ≡ notedFor literalMaskOf (now (masks .entry)) place (now (name .entry)) ⌝ }
     ensures shown { λ _. ⌜ now (shown .exit) ≡ notedFor literalsOf (now (shown .entry)) place (now (name .entry)) ⌝ }
 {
-    let foremost = names::literals(front(name));
-    let last = names::literals(name);
+    let foremost = patterns::literals(front(name));
+    let last = patterns::literals(name);
     masks[place] = foremost.mask;
     shown[place] = foremost.shown;
     masks[ENTRIES + place] = last.mask;
@@ -253,7 +253,7 @@ fn pair_of(dump: &[u8], count: usize, ends: &[u16; ENTRIES]) -> Pair
     requires { ⌜ (count ≡ length (entriesOf (now dump))) × EntryEnds (now ends) (now dump) × (dumpValid (now dump) ≡ true) ⌝ }
     ensures { λ r. ⌜ r ≡ pairOf (entriesOf (now (dump .entry))) ⌝ }
 {
-    if !names::has_sign(dump) {
+    if !patterns::has_sign(dump) {
         return Pair::NoPair;
     }
     let mut next = no_links();
@@ -288,7 +288,7 @@ pub fn quarrels(dump: &[u8], name: &mut [u8; 128]) -> Verdict
     };
     let own = entry::name_bytes(policy::entry_at(dump, &ends, earlier));
     let other = entry::name_bytes(policy::entry_at(dump, &ends, later));
-    names::put_least(own, other, name);
+    patterns::put_least(own, other, name);
     Verdict::Found {
         earlier,
         later,

@@ -1,7 +1,6 @@
 -- `policy::entry_at` meets its contract. Assumes nothing.
 use Prim.Native.Nat.{_-_}
 use native.Mathlib.Omega.{arith}
-use borrow.Author.Needs.{needs}
 use mathlib.Core.Path.{sym}
 use lib.ListN.{getD}
 use lib.Seq.{length-take-le}

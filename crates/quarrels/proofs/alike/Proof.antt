@@ -1,16 +1,14 @@
 -- `quarrels::alike` meets its contract. Assumes nothing.
 use Prim.Native.Nat.{ℕ, _≤_, _<_}
-use mathlib.Core.Path.{_≡_, sym, ap, _∙_}
-use mathlib.Core.List.{List, []}
+use mathlib.Core.Path.{_≡_, ap, _∙_}
 use mathlib.Core.Bool.{Bool, false}
 use native.Mathlib.Omega.{arith}
-use lib.ListN.{length, getD}
 use lib.Dec.{ltb}
 use borrow.Author.Tests.{lt-ltb, le-ltb}
 use borrow.Author.Needs.{needs}
 use Rattle.slices.specs.Test.{_and_}
 use Rattle.slices.specs.Bytes.{Bytes}
-use Rattle.names.specs.Common.{sameSigns}
+use Rattle.patterns.specs.Common.{sameSigns}
 use Rattle.entry.specs.Entry.{nameOf}
 use Rattle.quarrels.proofs.alike.Statement.{statement}
 use Rattle.quarrels.proofs.alike.Tie as tie

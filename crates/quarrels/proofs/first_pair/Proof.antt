@@ -1,11 +1,9 @@
 -- `quarrels::first_pair` meets its contract. The invariants: nothing is found yet, and no pair before the one at hand quarrels; the inner walk is at a place of the
 -- group of the outer one, or has come to the end of its chain. The measures are the places left. Assumes nothing.
-use Prim.Native.Nat.{ℕ, _-_, _≤_, _<_}
+use Prim.Native.Nat.{ℕ, _-_, _<_}
 use mathlib.Core.Path.{_≡_, refl, sym, _∙_}
 use native.Mathlib.Omega.{arith}
-use borrow.Author.Needs.{needs}
 use lib.ListN.{length, getD}
-use Rattle.limits.specs.Limits.{maxEntries}
 use Rattle.slices.specs.Bytes.{Bytes}
 use Rattle.policy.specs.Policy.{entriesOf}
 use Rattle.quarrels.specs.declared.Pair.the-variants.{NoPair}

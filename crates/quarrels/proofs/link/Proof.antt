@@ -11,7 +11,7 @@ use lib.Dec.{ltb}
 use Rattle.limits.specs.Limits.{maxEntries}
 use Rattle.slices.specs.Test.{_and_}
 use Rattle.slices.specs.Bytes.{Bytes}
-use Rattle.names.specs.Common.{sameSigns}
+use Rattle.patterns.specs.Common.{sameSigns}
 use Rattle.entry.specs.Entry.{nameOf}
 use Rattle.policy.specs.Policy.{entriesOf}
 use Rattle.quarrels.specs.QuarrelLaws.{at}

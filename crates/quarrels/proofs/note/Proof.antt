@@ -3,10 +3,10 @@ use Prim.Native.Nat.{ℕ, _+_}
 use mathlib.Core.Path.{_≡_, ap, ap₂, _∙_}
 use mathlib.Core.List.{List}
 use native.Mathlib.Omega.{arith}
-use lib.ListN.{set, length-set}
+use lib.ListN.{set}
 use Rattle.limits.specs.Limits.{maxEntries}
 use Rattle.slices.specs.Bytes.{Bytes}
-use Rattle.names.specs.Literals.{literalMaskOf, literalsOf}
+use Rattle.patterns.specs.Literals.{literalMaskOf, literalsOf}
 use Rattle.quarrels.specs.Group.{front, notedFor}
 use Rattle.quarrels.proofs.note.Statement.{statement}
 use Rattle.quarrels.proofs.note.Tie as tie

@@ -1,9 +1,9 @@
 -- `quarrels::quarrel` meets its contract. Assumes nothing.
-use mathlib.Core.Path.{sym, ap, _∙_}
+use mathlib.Core.Path.{sym, _∙_}
 use native.Mathlib.Omega.{arith}
 use borrow.Author.Tests.{not-true, not-false}
 use borrow.Author.Needs.{needs}
-use Rattle.names.specs.Name.{units, wildcards}
+use Rattle.names.specs.Name.{wildcards}
 use Rattle.entry.specs.EntryLaws.{sized}
 use Rattle.quarrels.proofs.Tests.{by-length, by-none, by-overlap, by-rank, by-namespace, namespace-length}
 use Rattle.quarrels.proofs.quarrel.Statement.{statement}

@@ -1,6 +1,6 @@
 -- `varpolicy::no_pair` meets its contract. Assumes nothing.
 use Prim.Native.Nat.{ℕ}
-use mathlib.Core.Path.{_≡_, ap}
+use mathlib.Core.Path.{ap}
 use mathlib.Core.Bool.{false}
 use borrow.Author.Needs.{needs}
 use Rattle.varpolicy.specs.declared.Quarrelled.{Quarrelled}
