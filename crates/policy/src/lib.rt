@@ -155,6 +155,17 @@ pub fn no_ends() -> [u16; ENTRIES]
     [0u16; ENTRIES]
 }
 
+// The same with a filter of its own, which takes its room on the stack for this time alone.
+fn scan_noting(policy: &[u8], ends: &mut [u16; ENTRIES]) -> PolicyCheck
+    requires { ⌜ (length (now policy) ≤ policyBytes) × (length (now ends) ≡ maxEntries) ⌝ }
+    ensures answer { λ r. ⌜ r ≡ checkWithin (length (now (policy .entry))) (now (policy .entry)) ⌝ }
+    ensures noted { λ _. ⌜ (validWithin wellFormed maxEntries (length (now (policy .entry))) (now (policy .entry)) ≡ true
+        → EntryEnds (now (ends .exit)) (now (policy .entry))) ⌝ }
+{
+    let mut marks = no_marks();
+    scan(policy, &mut marks, ends)
+}
+
 // The check of a lent policy record (RULES.md, 7), which notes where each entry ends.
 pub fn check_noting(policy: &[u8], ends: &mut [u16; ENTRIES]) -> PolicyCheck
     requires { ⌜ length (now ends) ≡ maxEntries ⌝ }
@@ -164,8 +175,7 @@ pub fn check_noting(policy: &[u8], ends: &mut [u16; ENTRIES]) -> PolicyCheck
     if policy.len() != limits::POLICY_BYTES {
         return PolicyCheck::Invalid;
     }
-    let mut marks = no_marks();
-    scan(policy, &mut marks, ends)
+    scan_noting(policy, ends)
 }
 
 // The check alone.
@@ -185,8 +195,7 @@ pub fn check_dump(dump: &[u8], ends: &mut [u16; ENTRIES]) -> PolicyCheck
     if limits::POLICY_BYTES < dump.len() {
         return PolicyCheck::Invalid;
     }
-    let mut marks = no_marks();
-    match scan(dump, &mut marks, ends) {
+    match scan_noting(dump, ends) {
         PolicyCheck::Invalid => PolicyCheck::Invalid,
         PolicyCheck::Valid { count, used } => {
             if used < dump.len() {
