@@ -1,5 +1,5 @@
 -- What `quarrels::link` has built where it has come to the entry at index i from behind, with a law for each way on. Assumes nothing.
-use Prim.Native.Nat.{ℕ, _+_, _-_, _*_, _≤_, _<_}
+use Prim.Native.Nat.{ℕ, _+_, _-_, _≤_, _<_}
 use mathlib.Core.Path.{_≡_, refl, sym, ap, ap₂, subst, _∙_}
 use mathlib.Core.List.{List, []}
 use mathlib.Core.Bool.{Bool, true, false}
@@ -18,7 +18,7 @@ use Rattle.patterns.specs.Common.{sameSigns}
 use Rattle.patterns.specs.CommonLaws.{same-signs-trans}
 use Rattle.patterns.specs.Literals.{literalMaskOf, literalsOf}
 use Rattle.entry.specs.Entry.{nameOf}
-use Rattle.quarrels.specs.Group.{groups, groupAt, front, notedFor, Next, Chains, Others, Noted}
+use Rattle.quarrels.specs.Group.{groups, groupAt, front, notes, tailsAt, notedFor, Next, Chains, Others, Noted}
 use Rattle.quarrels.proofs.Chains.{Heads, no-heads, own-next, chains-grouped, heads-grouped, chains-single, heads-single}
 
 -- numbers noted for an entry in a group, and none for one in no group
@@ -26,8 +26,9 @@ module _ (of : Bytes → ℕ) (es : List Bytes) (l : List ℕ) (i : ℕ) (h : No
   noted-grouped : Noted of es (notedFor of l i (nameOf (getD es i []))) i
   noted-grouped =
       record {
-        room = length-set (set l i a) (maxEntries + i) b ∙ length-set l i a ∙ h .room;
+        room = length-set (set l i a) (tailsAt + i) b ∙ length-set l i a ∙ h .room;
         fronts = λ k x y z. fronts k x y z (eqb k i) refl;
+        end = getD-set-other (set l i a) (tailsAt + i) maxEntries b 0 (λ w. omega arith) ∙ getD-set-other l i maxEntries a 0 (λ w. omega arith) ∙ h .end;
         tails = λ k x y z. tails k x y z (eqb k i) refl;
       }
     where
@@ -41,23 +42,23 @@ module _ (of : Bytes → ℕ) (es : List Bytes) (l : List ℕ) (i : ℕ) (h : No
           → getD (notedFor of l i (nameOf (getD es i []))) k 0 ≡ of (front (nameOf (getD es k [])))
       fronts k x y z true e =
           let q = eqb-true k i e in
-          getD-set-other (set l i a) (maxEntries + i) k b 0 (λ w. omega arith)
+          getD-set-other (set l i a) (tailsAt + i) k b 0 (λ w. omega arith)
           ∙ rw q (getD-set-same l i a 0 (omega (arith, h .room)))
       fronts k x y z false e =
           let q = eqb-false k i e in
-          getD-set-other (set l i a) (maxEntries + i) k b 0 (λ w. omega arith) ∙ getD-set-other l i k a 0 q ∙ h .fronts k (omega arith) y z
+          getD-set-other (set l i a) (tailsAt + i) k b 0 (λ w. omega arith) ∙ getD-set-other l i k a 0 q ∙ h .fronts k (omega arith) y z
 
       tails : (k : ℕ) → i ≤ k → k < length es → groupAt es k < groups → (t : Bool) → eqb k i ≡ t
-          → getD (notedFor of l i (nameOf (getD es i []))) (maxEntries + k) 0 ≡ of (nameOf (getD es k []))
+          → getD (notedFor of l i (nameOf (getD es i []))) (tailsAt + k) 0 ≡ of (nameOf (getD es k []))
       tails k x y z true e =
           let q = eqb-true k i e in
-          rw q (getD-set-same (set l i a) (maxEntries + i) b 0 (omega (arith, length-set l i a, h .room)))
+          rw q (getD-set-same (set l i a) (tailsAt + i) b 0 (omega (arith, length-set l i a, h .room)))
       tails k x y z false e =
           let q = eqb-false k i e in
-          getD-set-other (set l i a) (maxEntries + i) (maxEntries + k) b 0 (λ w. q (omega arith)) ∙ getD-set-other l i (maxEntries + k) a 0 (λ w. omega arith) ∙ h .tails k (omega arith) y z
+          getD-set-other (set l i a) (tailsAt + i) (tailsAt + k) b 0 (λ w. q (omega arith)) ∙ getD-set-other l i (tailsAt + k) a 0 (λ w. omega arith) ∙ h .tails k (omega arith) y z
 
   noted-single : groups ≤ groupAt es i → Noted of es l i
-  noted-single g = record { room = h .room; fronts = λ k x y z. h .fronts k (behind k x z (eqb k i) refl) y z; tails = λ k x y z. h .tails k (behind k x z (eqb k i) refl) y z }
+  noted-single g = record { room = h .room; fronts = λ k x y z. h .fronts k (behind k x z (eqb k i) refl) y z; end = h .end; tails = λ k x y z. h .tails k (behind k x z (eqb k i) refl) y z }
     where
       behind : (k : ℕ) → i ≤ k → groupAt es k < groups → (b : Bool) → eqb k i ≡ b → i + 1 ≤ k
       behind k x z true e = let q = ap (groupAt es) (eqb-true k i e) in absurd (omega arith)
@@ -185,18 +186,29 @@ module _ (es : List Bytes) (few : length es ≤ maxEntries) where
         before = λ k l. let q = getD-replicate maxEntries k maxEntries 0 (omega arith) in omega arith;
       })
 
+  pub no-notes : {l : List ℕ} (of : Bytes → ℕ) → l ≡ replicate notes 0 → Noted of es l (length es)
+  no-notes of e =
+      rw e
+      (record {
+        room = length-replicate {A = ℕ} notes 0;
+        fronts = λ k x y z. absurd (omega arith);
+        end = getD-replicate notes maxEntries 0 0 (omega arith);
+        tails = λ k x y z. absurd (omega arith);
+      })
+
   pub linked-none : {heads : List ℕ} {count : ℕ} (next first masks shown : List ℕ) → heads ≡ replicate groups maxEntries → count ≡ length es
-      → Chains (groupAt es) (length es) next (length es) → Others es first (length es) → length masks ≡ 2 * maxEntries → length shown ≡ 2 * maxEntries
+      → Chains (groupAt es) (length es) next (length es) → Others es first (length es)
+      → Noted literalMaskOf es masks (length es) → Noted literalsOf es shown (length es)
       → Linked es heads next first masks shown count
   linked-none next first masks shown e n c o m s =
       rw (e, n)
       (record {
         upto = omega arith;
-        headed = no-heads (groupAt es) (length es) maxEntries few;
+        headed = no-heads (groupAt es) (length es) maxEntries few (omega arith);
         chained = c;
         others = o;
-        masked = record { room = m; fronts = λ k x y z. absurd (omega arith); tails = λ k x y z. absurd (omega arith) };
-        shows = record { room = s; fronts = λ k x y z. absurd (omega arith); tails = λ k x y z. absurd (omega arith) };
+        masked = m;
+        shows = s;
       })
 
   module _ (heads next first masks shown : List ℕ) (i : ℕ) (w : Linked es heads next first masks shown (i + 1)) where

@@ -7,7 +7,7 @@ use mathlib.Core.Bool.{true, false}
 use mathlib.Core.Logic.{inl, inr}
 use native.Mathlib.Omega.{arith}
 use lib.ListN.{length, getD}
-use lib.Bits.{bitAnd}
+use lib.Bits.{bitAnd, bitXor}
 use lib.Dec.{eqb}
 use borrow.Author.Tests.{eq-eqb, eqb-false}
 use Rattle.limits.specs.Limits.{maxEntries}
@@ -30,8 +30,8 @@ use Rattle.quarrels.specs.PairsLaws.{Before, no-pair-exactly, first-foun
 use Rattle.quarrels.specs.Quarrel.{quarrelAt, pairOf}
 use Rattle.quarrels.specs.QuarrelLaws.{at, all-at, formed-at, apart-at}
 use Rattle.quarrels.specs.PlainLaws.{dump-plain}
-use Rattle.quarrels.specs.Group.{groups, groupOf, groupAt, InGroup, Next, Chains, Others, front, Noted}
-use Rattle.quarrels.proofs.Tests.{Distinct, grouped, one-group, tails-agree, fronts-agree, signs-differ}
+use Rattle.quarrels.specs.Group.{groups, groupOf, groupAt, InGroup, Next, Chains, Others, front, tailsAt, Noted, differing, Skipped, stay, on}
+use Rattle.quarrels.proofs.Tests.{Distinct, grouped, one-group, tails-agree, fronts-agree, literals-none, signs-differ}
 
 -- ---- bytes
 are-bytes : (l : Bytes) → ((k : ℕ) → getD l k 0 < 256) → AreBytes l
@@ -120,7 +120,14 @@ module _ (d : Bytes) (v : dumpValid d ≡ true) (b : (k : ℕ) → getD d k 0 < 
         (ap₂ bitAnd (s .fronts i (omega arith) before (g .grouped)) (m .fronts j (omega arith) (g .within) grouped-too) ∙ first-units i j (g .order) (g .within) q
         ∙ sym (ap₂ bitAnd (s .fronts j (omega arith) (g .within) grouped-too) (m .fronts i (omega arith) before (g .grouped)))))))
 
-    pub tails-differ : eqb (bitAnd (getD shown (maxEntries + i) 0) (getD masks (maxEntries + j) 0)) (bitAnd (getD shown (maxEntries + j) 0) (getD masks (maxEntries + i) 0)) ≡ false
+    -- the same by the bits that differ
+    bits-differ : (differing masks shown (getD shown i 0) (getD masks i 0) j ≡ 0 → ⊥) → quarrelAt es i j ≡ false
+    bits-differ h =
+        forced-off (quarrelAt es i j) (λ q. absurd (h
+        (ap₂ bitAnd (ap₂ bitAnd (ap₂ bitXor (s .fronts j (omega arith) (g .within) grouped-too) (s .fronts i (omega arith) before (g .grouped))) (m .fronts j (omega arith) (g .within) grouped-too))
+        (m .fronts i (omega arith) before (g .grouped)) ∙ literals-none (front (nameOf (at es i))) (front (nameOf (at es j))) (first-units i j (g .order) (g .within) q))))
+
+    pub tails-differ : eqb (bitAnd (getD shown (tailsAt + i) 0) (getD masks (tailsAt + j) 0)) (bitAnd (getD shown (tailsAt + j) 0) (getD masks (tailsAt + i) 0)) ≡ false
         → false ≡ quarrelAt es i j
     tails-differ h =
         sym (forced-off (quarrelAt es i j) (λ q. absurd (eqb-false _ _ h
@@ -174,14 +181,6 @@ module _ (d : Bytes) (v : dumpValid d ≡ true) (b : (k : ℕ) → getD d k 0 < 
       after : Next (groupAt es) n j (getD next j 0)
       after = c .linked j (omega arith) l (omega (arith, own .grouped, own .one))
 
-      -- the chain goes on behind j
-      pub walk-later : j < getD next j 0
-      walk-later = go (less (getD next j 0) n)
-        where
-          go : Less (getD next j 0) n → j < getD next j 0
-          go (inl k) = after .alike (k .0) .0
-          go (inr k) = let z = k .0 in omega arith
-
       pub walk-step : {t : ℕ} → t ≡ getD next j 0 → quarrelAt es i j ≡ false → Walks es i t
       walk-step e q =
           rw e
@@ -198,6 +197,24 @@ module _ (d : Bytes) (v : dumpValid d ≡ true) (b : (k : ℕ) → getD d k 0 < 
           behind y o w′ p (inl a) _ = w .clear i y o w′ (inr (refl, a .0))
           behind y o w′ p (inr a) (inr b) = let e : y ≡ j = omega (arith, a .0, b .0) in ap (quarrelAt es i) e ∙ q
           behind y o w′ p (inr a) (inl b) = unlike i y o w′ (λ x e. after .alone y (b .0) w′ p (e ∙ sym (own .one)))
+
+    -- past the end of the dump there is nothing more to meet
+    walk-end : (j : ℕ) → n ≤ j → j < getD next j 0 → Walks es i j → Walks es i (getD next j 0)
+    walk-end j h l w = record { inside = λ k. absurd (omega arith); clear = λ x y o u p. w .clear x y o u (nearer y u p) }
+      where
+        nearer : {x : ℕ} (y : ℕ) → y < n → Before x y i (getD next j 0) → Before x y i j
+        nearer y u (inl p) = inl p
+        nearer y u (inr p) = inr (p .0, omega arith)
+
+    -- places in whose first units what counts differs are passed by
+    module _ (masks shown : List ℕ) (m : Noted literalMaskOf es masks 0) (s : Noted literalsOf es shown 0) where
+      walk-past : (j : ℕ) → j < maxEntries → (differing masks shown (getD shown i 0) (getD masks i 0) j ≡ 0 → ⊥) → Walks es i j → Less j n → Walks es i (getD next j 0)
+      walk-past j u d w (inl l) = walk-step j (l .0) w refl (bits-differ masks shown i j m s (w .inside (l .0)) d)
+      walk-past j u d w (inr h) = walk-end j (h .0) (c .rises j u .0) w
+
+      pub walk-skip : {from r : ℕ} → Skipped next masks shown (getD shown i 0) (getD masks i 0) from r → Walks es i from → Walks es i r
+      walk-skip stay w = w
+      walk-skip (on {j} p u d) w = walk-past j u d (walk-skip p w) (less j n)
 
   -- the pair found
   pub found-here : (i j : ℕ) → j < n → Walks es i j → quarrelAt es i j ≡ true → Places i j ≡ pairOf es

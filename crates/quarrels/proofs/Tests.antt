@@ -1,5 +1,5 @@
 -- The tests by which the code decides whether two entries quarrel, one law for each way out. Assumes nothing.
-use Prim.Native.Nat.{ℕ, zero, suc, _+_, _*_, _%_, _≤_, _<_, min}
+use Prim.Native.Nat.{ℕ, zero, suc, _+_, _-_, _*_, _%_, _≤_, _<_, min}
 use mathlib.Core.Path.{_≡_, refl, sym, ap, ap₂, subst⁻¹, _∙_}
 use mathlib.Core.List.{[], _∷_}
 use mathlib.Core.Logic.{inl, inr}
@@ -8,11 +8,11 @@ use mathlib.Core.Bool.{Bool, true, false, not, false≢true}
 use native.Mathlib.Omega.{arith}
 use lib.ListN.{length, getD, take, length-take}
 use lib.Seq.{take-nil, take-all, length-take-le, getD-take}
-use lib.Bits.{bitAnd}
+use lib.Bits.{bitAnd, bitXor}
 use borrow.Author.Tests.{eq-eqb, ne-eqb}
 use Rattle.limits.specs.Limits.{maxNameBytes, namespaceBytes, namespaceAt, minSizeAt}
 use Rattle.slices.specs.TestLaws.{and-left, and-right, and-intro, forced-off}
-use Rattle.slices.specs.Bytes.{Bytes, le32, pairwise, same}
+use Rattle.slices.specs.Bytes.{Bytes, le32, le64, pairwise, same}
 use Rattle.slices.specs.BytesLaws.{pairwise-length, same-eq, same-of}
 use Rattle.slices.specs.PartLaws.{length-part}
 use Rattle.names.specs.Name.{units, named, unitMatches, wildcards}
@@ -29,6 +29,7 @@ use Rattle.entry.specs.EntryLaws.{sized, nameOf-empty, nameOf-none, nameOf-even
 use Rattle.quarrels.specs.Quarrel.{leastCommon, leastVariable, quarrel}
 use Rattle.quarrels.specs.QuarrelLaws.{TargetLeast, target-least, name-targets, name-of}
 use Rattle.quarrels.specs.Group.{groups, groupBy, groupOf, front}
+use Rattle.quarrels.proofs.Words.{none-differs}
 
 pub namespace-length : (e : Bytes) → wellFormed e ≡ true → length (namespaceOf e) ≡ namespaceBytes
 namespace-length e w = length-part namespaceAt minSizeAt e (omega (arith, sized e w .least))
@@ -186,6 +187,12 @@ front-even p e = go (less (length p) 8)
     go : Less (length p) 8 → length (front p) % 2 ≡ 0
     go (inl h) = ap (λ (l : Bytes). length l % 2) (take-all 8 p (let z = h .0 in omega arith)) ∙ e
     go (inr h) = ap (λ (n : ℕ). n % 2) (length-take-le 8 p (h .0))
+
+-- patterns that show the same bits where both count differ in none of these
+pub literals-none : (p q : Bytes) → bitAnd (literalsOf p) (literalMaskOf q) ≡ bitAnd (literalsOf q) (literalMaskOf p)
+    → bitAnd (bitAnd (bitXor (literalsOf q) (literalsOf p)) (literalMaskOf q)) (literalMaskOf p) ≡ 0
+unfolding literalsOf
+literals-none p q e = none-differs (le64 p (length p - 8)) (le64 q (length q - 8)) (literalMaskOf p) (literalMaskOf q) e
 
 -- ---- entries that quarrel, of those that a dump may have: they are in one group, and agree in the first and last units that both spell out
 pub record Distinct (e f : Bytes) : Type 0 where

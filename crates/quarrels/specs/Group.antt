@@ -6,6 +6,7 @@ use mathlib.Core.List.{List, []}
 use mathlib.Core.Bool.{true, cond}
 use lib.ListN.{length, getD, take, set}
 use lib.Dec.{eqb}
+use lib.Bits.{bitAnd, bitXor}
 use Rattle.limits.specs.Limits.{maxEntries}
 use Rattle.slices.specs.Bytes.{Bytes, le32}
 use Rattle.names.specs.Name.{units, wildcards}
@@ -35,6 +36,10 @@ pub record InGroup (es : List Bytes) (i j : ℕ) : Type 0 where
   pub grouped : groupAt es i < groups
   pub one : groupAt es j ≡ groupAt es i
 
+-- every place of a chain is followed by one behind it, up to the end of all chains
+abbrev pub Rises : List ℕ → Type 0
+Rises next = (k : ℕ) → k < maxEntries → (k < getD next k 0) × (getD next k 0 ≤ maxEntries)
+
 -- ---- chains: from each place to the next one of its group, given the group of each of n places
 module _ (group : ℕ → ℕ) (n : ℕ) where
   -- the next place behind i of its group is t; none if t is n or more
@@ -48,6 +53,7 @@ module _ (group : ℕ → ℕ) (n : ℕ) where
     pub linked : (k : ℕ) → i ≤ k → k < n → group k < groups → Next k (getD next k 0)
     pub single : (k : ℕ) → i ≤ k → k < n → groups ≤ group k → n ≤ getD next k 0
     pub before : (k : ℕ) → k < i → n ≤ getD next k 0
+    pub rises : Rises next
 
 -- of the entries from place i on: the first one behind each, of its group, that has '#' at other places; places before i, and those in no group, are at
 -- the end of a chain
@@ -59,15 +65,34 @@ pub record Others (es : List Bytes) (first : List ℕ) (i : ℕ) : Type 0 where
   pub single : (k : ℕ) → i ≤ k → k < length es → groups ≤ groupAt es k → length es ≤ getD first k 0
   pub before : (k : ℕ) → k < i → length es ≤ getD first k 0
 
--- ---- numbers noted for each entry from place i on that is in a group: one of its name's first four units, and behind those of all entries one of its last four
+-- ---- numbers noted for each entry from place i on that is in a group: one of its name's first four units, and behind those of all entries one of its last four.
+-- Between the two stands a zero, at the end of all chains.
 abbrev pub front : Bytes → Bytes
 front p = take 8 p
 
+-- how many there are, and where those of the last units begin
+abbrev pub notes : ℕ
+notes = 2 * maxEntries + 1
+
+abbrev pub tailsAt : ℕ
+tailsAt = maxEntries + 1
+
 -- a list with these numbers of a name noted for place k
 abbrev pub notedFor : (Bytes → ℕ) → List ℕ → ℕ → Bytes → List ℕ
-notedFor of l k name = set (set l k (of (front name))) (maxEntries + k) (of name)
+notedFor of l k name = set (set l k (of (front name))) (tailsAt + k) (of name)
 
 pub record Noted (of : Bytes → ℕ) (es : List Bytes) (l : List ℕ) (i : ℕ) : Type 0 where
-  pub room : length l ≡ 2 * maxEntries
+  pub room : length l ≡ notes
   pub fronts : (k : ℕ) → i ≤ k → k < length es → groupAt es k < groups → getD l k 0 ≡ of (front (nameOf (getD es k [])))
-  pub tails : (k : ℕ) → i ≤ k → k < length es → groupAt es k < groups → getD l (maxEntries + k) 0 ≡ of (nameOf (getD es k []))
+  pub end : getD l maxEntries 0 ≡ 0
+  pub tails : (k : ℕ) → i ≤ k → k < length es → groupAt es k < groups → getD l (tailsAt + k) 0 ≡ of (nameOf (getD es k []))
+
+-- ---- a walk along a chain past places that differ from one entry: `mask` and `own` were noted of it
+-- the bits in which the entry differs from the one at place j, among those that count of both
+abbrev pub differing : List ℕ → List ℕ → ℕ → ℕ → ℕ → ℕ
+differing masks shown own mask j = bitAnd (bitAnd (bitXor (getD shown j 0) own) (getD masks j 0)) mask
+
+-- from a place on it comes to these
+pub data Skipped (next masks shown : List ℕ) (own mask from : ℕ) : ℕ → Type 0 where
+  stay : Skipped next masks shown own mask from from
+  on : {j : ℕ} → Skipped next masks shown own mask from j → j < maxEntries → (differing masks shown own mask j ≡ 0 → ⊥) → Skipped next masks shown own mask from (getD next j 0)

@@ -1,7 +1,7 @@
 // Entries of a dump that quarrel (RULES.md, 10.11): two of equal rank that target one variable.
 ghost use mathlib.Core.Path.{_≡_};
 ghost use mathlib.Core.Bool.{true};
-ghost use Prim.Native.Nat.{_*_, _<_};
+ghost use Prim.Native.Nat.{_≤_, _<_};
 ghost use lib.ListN.{length, getD, replicate};
 ghost use lib.Dec.{eqb, ltb};
 ghost use lib.Bits.{bitAnd};
@@ -15,18 +15,24 @@ ghost use Rattle.policy.specs.Policy.{entriesOf};
 ghost use Rattle.policy.specs.Walk.{EntryEnds};
 ghost use Rattle.policy.specs.Dump.{dumpValid};
 ghost use Rattle.quarrels.specs.Quarrel.{quarrel, quarrelAt, pairOf, quarrelsOf, bufferAfter};
-ghost use Rattle.quarrels.specs.Group.{groups, groupOf, groupAt, InGroup, Chains, Others, front, notedFor, Noted};
+ghost use Rattle.quarrels.specs.Group.{groups, groupOf, groupAt, InGroup, Rises, Chains, Others, front, notes, notedFor, Noted, Skipped};
 use policy::ENTRIES;
 use policy::PolicyCheck;
 
 // The groups of entries that may quarrel; `specs/Group.antt` has the same for the proofs.
 const GROUPS: usize = 256;
 
-// Two numbers for each entry that a dump may have.
-const NOTES: usize = 2 * limits::MAX_ENTRIES;
+// Two numbers for each entry that a dump may have, and between the two a zero at the end of all chains.
+const NOTES: usize = 2 * limits::MAX_ENTRIES + 1;
 
-// The end of a chain: behind the last entry that a dump may have.
-const END: u8 = limits::MAX_ENTRIES as u8;
+// Where the second numbers begin.
+const TAILS: usize = limits::MAX_ENTRIES + 1;
+
+// The end of a chain: behind the last entry that a dump may have. A link has 32 bits, since the loop of `candidate` takes an instruction more with 64 and two with 8.
+const END: u32 = limits::MAX_ENTRIES as u32;
+
+// The same for a group without an entry.
+const NONE: u8 = limits::MAX_ENTRIES as u8;
 
 // The first two entries that quarrel, by their places counted from 0; or none.
 pub enum Pair {
@@ -85,7 +91,7 @@ fn quarrel(e: &[u8], f: &[u8]) -> bool
 }
 
 // A place in a chain as an index.
-fn place(link: u8) -> usize
+fn place(link: u32) -> usize
     ensures { λ r. ⌜ r ≡ link ⌝ }
 {
     link as usize
@@ -95,14 +101,21 @@ fn place(link: u8) -> usize
 fn no_heads() -> [u8; GROUPS]
     ensures { λ r. ⌜ r ≡ replicate groups maxEntries ⌝ }
 {
-    [END; GROUPS]
+    [NONE; GROUPS]
 }
 
 // Every entry at the end of a chain, before they are linked.
-fn no_links() -> [u8; ENTRIES]
+fn no_links() -> [u32; ENTRIES]
     ensures { λ r. ⌜ r ≡ replicate maxEntries maxEntries ⌝ }
 {
     [END; ENTRIES]
+}
+
+// No number noted for any entry.
+fn no_notes() -> [usize; NOTES]
+    ensures { λ r. ⌜ r ≡ replicate notes 0 ⌝ }
+{
+    [0usize; NOTES]
 }
 
 // Whether there is an entry at that place, and it has '#' just where the name has it.
@@ -129,7 +142,7 @@ fn front(name: &[u8]) -> &[u8]
 
 // Notes the first and the last units of the entry at that place.
 fn note(name: &[u8], place: usize, masks: &mut [usize; NOTES], shown: &mut [usize; NOTES])
-    requires { ⌜ (place < maxEntries) × (length (now masks) ≡ 2 * maxEntries) × (length (now shown) ≡ 2 * maxEntries) ⌝ }
+    requires { ⌜ (place < maxEntries) × (length (now masks) ≡ notes) × (length (now shown) ≡ notes) ⌝ }
     ensures masked { λ _. ⌜ now (masks .exit) ≡ notedFor literalMaskOf (now (masks .entry)) place (now (name .entry)) ⌝ }
     ensures shown { λ _. ⌜ now (shown .exit) ≡ notedFor literalsOf (now (shown .entry)) place (now (name .entry)) ⌝ }
 {
@@ -137,8 +150,8 @@ fn note(name: &[u8], place: usize, masks: &mut [usize; NOTES], shown: &mut [usiz
     let last = patterns::literals(name);
     masks[place] = foremost.mask;
     shown[place] = foremost.shown;
-    masks[ENTRIES + place] = last.mask;
-    shown[ENTRIES + place] = last.shown;
+    masks[TAILS + place] = last.mask;
+    shown[TAILS + place] = last.shown;
 }
 
 // Links each entry with '#' in its name to the next one of its group, and to the first that has '#' at other places; its first and last units are
@@ -147,15 +160,16 @@ fn link(
     dump: &[u8],
     count: usize,
     ends: &[u16; ENTRIES],
-    next: &mut [u8; ENTRIES],
-    first: &mut [u8; ENTRIES],
+    next: &mut [u32; ENTRIES],
+    first: &mut [u32; ENTRIES],
     masks: &mut [usize; NOTES],
     shown: &mut [usize; NOTES],
 )
     requires { ⌜ (count ≡ length (entriesOf (now dump))) × EntryEnds (now ends) (now dump)
         × Chains (groupAt (entriesOf (now dump))) (length (entriesOf (now dump))) (now next) (length (entriesOf (now dump)))
         × Others (entriesOf (now dump)) (now first) (length (entriesOf (now dump)))
-        × (length (now masks) ≡ 2 * maxEntries) × (length (now shown) ≡ 2 * maxEntries) ⌝ }
+        × Noted literalMaskOf (entriesOf (now dump)) (now masks) (length (entriesOf (now dump)))
+        × Noted literalsOf (entriesOf (now dump)) (now shown) (length (entriesOf (now dump))) ⌝ }
     ensures chained { λ _. ⌜ Chains (groupAt (entriesOf (now (dump .entry)))) (length (entriesOf (now (dump .entry)))) (now (next .exit)) 0 ⌝ }
     ensures others { λ _. ⌜ Others (entriesOf (now (dump .entry))) (now (first .exit)) 0 ⌝ }
     ensures noted { λ _. ⌜ Noted literalMaskOf (entriesOf (now (dump .entry))) (now (masks .exit)) 0 × Noted literalsOf (entriesOf (now (dump .entry))) (now (shown .exit)) 0 ⌝ }
@@ -168,7 +182,7 @@ fn link(
         let group = group_of(e);
         if group < GROUPS {
             let name = entry::name_bytes(e);
-            let behind = heads[group];
+            let behind = heads[group] as u32;
             heads[group] = i as u8;
             next[i] = behind;
             first[i] = behind;
@@ -183,7 +197,7 @@ fn link(
 
 // Whether what was noted agrees, at these two indices, in the units that both entries spell out.
 fn agree(masks: &[usize; NOTES], shown: &[usize; NOTES], i: usize, j: usize) -> bool
-    requires { ⌜ (i < 2 * maxEntries) × (j < 2 * maxEntries) ⌝ }
+    requires { ⌜ (i < notes) × (j < notes) ⌝ }
     ensures { λ r. ⌜ r ≡ eqb (bitAnd (getD (now (shown .entry)) i 0) (getD (now (masks .entry)) j 0)) (bitAnd (getD (now (shown .entry)) j 0) (getD (now (masks .entry)) i 0)) ⌝ }
 {
     shown[i] & masks[j] == shown[j] & masks[i]
@@ -206,7 +220,7 @@ fn quarrel_at(
     if !agree(masks, shown, earlier, later) {
         return false;
     }
-    if !agree(masks, shown, ENTRIES + earlier, ENTRIES + later) {
+    if !agree(masks, shown, TAILS + earlier, TAILS + later) {
         return false;
     }
     let e = policy::entry_at(dump, ends, earlier);
@@ -214,13 +228,34 @@ fn quarrel_at(
     quarrel(e, f)
 }
 
-// The first two entries that quarrel: of each entry those behind it in its group are looked at, from the first on that has '#' at other places.
+// The first place of a chain, from one on, where the first units agree with those of an entry in all that both spell out: `own` and `mask` were noted of it. At the
+// end of the chain no bit counts.
+fn candidate(
+    next: &[u32; ENTRIES],
+    masks: &[usize; NOTES],
+    shown: &[usize; NOTES],
+    from: usize,
+    own: usize,
+    mask: usize,
+) -> usize
+    requires { ⌜ Rises (now next) × (getD (now masks) maxEntries 0 ≡ 0) × (from ≤ maxEntries) ⌝ }
+    ensures { λ r. ⌜ Skipped (now (next .entry)) (now (masks .entry)) (now (shown .entry)) own mask from r ⌝ }
+{
+    let mut j = from;
+    while (shown[j] ^ own) & masks[j] & mask != 0 {
+        j = place(next[j]);
+    }
+    j
+}
+
+// The first two entries that quarrel: of each entry those behind it in its group are looked at, from the first on that has '#' at other places, and behind
+// that one those whose first units agree with its own. (`candidate` is called once only: with two calls the compiler laid one of the loops out with a jump more.)
 fn first_pair(
     dump: &[u8],
     count: usize,
     ends: &[u16; ENTRIES],
-    next: &[u8; ENTRIES],
-    first: &[u8; ENTRIES],
+    next: &[u32; ENTRIES],
+    first: &[u32; ENTRIES],
     masks: &[usize; NOTES],
     shown: &[usize; NOTES],
 ) -> Pair
@@ -232,6 +267,8 @@ fn first_pair(
     let mut found = Pair::NoPair;
     let mut i = 0;
     'pairs: while i < count {
+        let own = shown[i];
+        let mask = masks[i];
         let mut j = place(first[i]);
         while j < count {
             if quarrel_at(dump, ends, masks, shown, i, j) {
@@ -241,7 +278,7 @@ fn first_pair(
                 };
                 break 'pairs;
             }
-            j = place(next[j]);
+            j = candidate(next, masks, shown, place(next[j]), own, mask);
         }
         i += 1;
     }
@@ -258,8 +295,8 @@ fn pair_of(dump: &[u8], count: usize, ends: &[u16; ENTRIES]) -> Pair
     }
     let mut next = no_links();
     let mut first = no_links();
-    let mut masks = [0usize; NOTES];
-    let mut shown = [0usize; NOTES];
+    let mut masks = no_notes();
+    let mut shown = no_notes();
     link(
         dump,
         count,

@@ -84,14 +84,23 @@ name-bytes-requires c κs = c .before .before .entry-at .ensures .1
 array-read-behind : tie.Need-array-read-behind Inv-loop μ-loop
 array-read-behind c = c .before .if1 .taken
 
+cast-behind : tie.Need-cast-behind Inv-loop μ-loop
+cast-behind c = omega (arith, Turn (Grouped c) .before .loop .inv .headed .most (Grouped c .group-of .result) (c .before .if1 .taken))
+
 cast-heads : tie.Need-cast-heads Inv-loop μ-loop
 cast-heads c = omega (arith, under (Turn (Grouped c)))
 
 array-write-heads : tie.Need-array-write-heads Inv-loop μ-loop
 array-write-heads c = c .before .if1 .taken
 
+mul-next : tie.Need-mul-next Inv-loop μ-loop
+mul-next c = omega (arith, under (Turn (Grouped c)))
+
 element-write-next : tie.Need-element-write-next Inv-loop μ-loop
 element-write-next c = under (Turn (Grouped c))
+
+mul-first : tie.Need-mul-first Inv-loop μ-loop
+mul-first c = omega (arith, under (Turn (Grouped c)))
 
 element-write-first : tie.Need-element-write-first Inv-loop μ-loop
 element-write-first c = under (Turn (Grouped c))
@@ -116,11 +125,20 @@ alike-there : (c : tie.Then2 Inv-loop μ-loop)
     and sameSigns (Named (c .before) .name-bytes .result .now) (nameOf (at (Es (Turn (Grouped (Named (c .before))) .before)) (c .before .before .place .result)))) ≡ true
 alike-there c = alike-yes _ _ (Start (Turn (Grouped (Named (c .before))) .before) .pre .0) (c .before .alike .ensures) (c .if2 .taken)
 
-element-copy-out-first : tie.Need-element-copy-out-first Inv-loop μ-loop
-element-copy-out-first c =
+other-under : (c : tie.Then2 Inv-loop μ-loop) → c .before .before .place .result < maxEntries
+other-under c =
     let t = Turn (Grouped (Named (c .before))) .before in
     let u = alike-under (length (Es t)) (c .before .before .place .result) _ (alike-there c) in
     omega (arith, u, few t)
+
+mul-first-2 : tie.Need-mul-first-2 Inv-loop μ-loop
+mul-first-2 c = omega (arith, other-under c)
+
+element-copy-out-first : tie.Need-element-copy-out-first Inv-loop μ-loop
+element-copy-out-first c = other-under c
+
+mul-first-3 : tie.Need-mul-first-3 Inv-loop μ-loop
+mul-first-3 c = omega (arith, under (Turn (Grouped (Named (c .before .before)))))
 
 element-write-first-2 : tie.Need-element-write-first-2 Inv-loop μ-loop
 element-write-first-2 c = under (Turn (Grouped (Named (c .before .before))))
@@ -178,14 +196,19 @@ link-spec =
     group-of-requires
     name-bytes-requires
     array-read-behind
+    cast-behind
     cast-heads
     array-write-heads
+    mul-next
     element-write-next
+    mul-first
     element-write-first
     note-requires
     place-requires
     alike-requires
+    mul-first-2
     element-copy-out-first
+    mul-first-3
     element-write-first-2
     loop-less
     loop-again

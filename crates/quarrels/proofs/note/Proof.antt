@@ -4,17 +4,16 @@ use mathlib.Core.Path.{_≡_, ap, ap₂, _∙_}
 use mathlib.Core.List.{List}
 use native.Mathlib.Omega.{arith}
 use lib.ListN.{set}
-use Rattle.limits.specs.Limits.{maxEntries}
 use Rattle.slices.specs.Bytes.{Bytes}
 use Rattle.patterns.specs.Literals.{literalMaskOf, literalsOf}
-use Rattle.quarrels.specs.Group.{front, notedFor}
+use Rattle.quarrels.specs.Group.{front, tailsAt, notedFor}
 use Rattle.quarrels.proofs.note.Statement.{statement}
 use Rattle.quarrels.proofs.note.Tie as tie
 
 -- the two numbers of a name, as they were found
 noted-for : {m : Bytes} {a b : ℕ} (of : Bytes → ℕ) (l : List ℕ) (k : ℕ) (name : Bytes) → m ≡ front name → a ≡ of m → b ≡ of name
-    → set (set l k a) (maxEntries + k) b ≡ notedFor of l k name
-noted-for of l k name e f g = ap₂ (λ (x y : ℕ). set (set l k x) (maxEntries + k) y) (f ∙ ap of e) g
+    → set (set l k a) (tailsAt + k) b ≡ notedFor of l k name
+noted-for of l k name e f g = ap₂ (λ (x y : ℕ). set (set l k x) (tailsAt + k) y) (f ∙ ap of e) g
 
 front-requires : tie.Need-front-requires
 front-requires c κs = tt
