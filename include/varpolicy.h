@@ -40,7 +40,7 @@
   was compiled with an older header then does not link, in place of passing memory that is taken for
   something else.
 
-  Stack: the deepest call, varpolicy_set, takes 9,512 bytes with its return address (read off the
+  Stack: the deepest call, varpolicy_set, takes 9,464 bytes with its return address (read off the
   machine code); read, restart and power-on take nearly as much. The red zone and what memcpy, memmove
   and memset take come on top.
 
