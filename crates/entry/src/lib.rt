@@ -1,7 +1,7 @@
 // The packed policy entry.
 ghost use mathlib.Core.Path.{_≡_};
 ghost use mathlib.Core.Bool.{true};
-ghost use Rattle.entry.specs.Entry.{offsetToName, headerOk, lockOk, nameOk, wellFormed, nameOf, lockOf, entryOf, parse, sameTarget};
+ghost use Rattle.entry.specs.Entry.{offsetToName, headerOk, lockOk, nameOk, wellFormed, nameOf, lockOf, entryOf, parse, rank, sameTarget};
 
 // The trigger of the fourth lock rule: the value that locks, and where its namespace and its name stand in the entry's bytes.
 // The name's last byte before its closing zero unit is at name_end - 1.
@@ -168,6 +168,18 @@ pub fn name_bytes(e: &[u8]) -> &[u8]
         return &e[..0];
     }
     &e[start..end - 2]
+}
+
+// The rank of a well-formed entry.
+pub fn rank(e: &[u8]) -> usize
+    requires { ⌜ wellFormed (now e) ≡ true ⌝ }
+    ensures { λ r. ⌜ r ≡ rank (now (e .entry)) ⌝ }
+{
+    let name = name_bytes(e);
+    if name.len() == 0 {
+        return limits::WHOLE_NAMESPACE_RANK;
+    }
+    names::wildcards(name)
 }
 
 // Whether two well-formed entries have the same namespace and the same name: the names first, since most entries share a namespace.

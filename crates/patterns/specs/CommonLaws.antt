@@ -15,7 +15,7 @@ use Rattle.slices.specs.TestLaws.{and-left, and-right, and-intro, and-no, and-y
 use Rattle.slices.specs.Bytes.{Bytes, le16, pairwise, overwrite}
 use Rattle.slices.specs.BytesLaws.{pairwise-length}
 use Rattle.slices.specs.PartLaws.{drop-step}
-use Rattle.slices.specs.OverwriteLaws.{overwrite-none, overwrite-next}
+use Rattle.slices.specs.OverwriteLaws.{overwrite-none, overwrite-set}
 use Rattle.names.specs.Name.{units, each, noZero, isName, nameLength, numberSign, isHexDigit, unitMatches, matches, wildcards}
 use Rattle.names.specs.NameLaws.{hex-range, plain-matches, isName-even}
 use Rattle.names.specs.TailLaws.{InBytes}
@@ -315,14 +315,6 @@ least-bytes a b c d h g = go (eqb (a + 256 * b) numberSign) (eqb (c + 256 * d) n
     go true true = refl
     go true false = bytes c d g
     go false t = bytes a b h
-
--- one byte written, and the rest behind it
-set-overwrites : (s : Bytes) (i x : ℕ) → i < length s → set s i x ≡ overwrite s i (x ∷ [])
-unfolding overwrite
-set-overwrites s i x h = rw (append-assoc, add-one) (set-split s i x h)
-
-overwrite-set : (s : Bytes) (i x : ℕ) (r : Bytes) → i < length s → overwrite s i (x ∷ r) ≡ overwrite (set s i x) (i + 1) r
-overwrite-set s i x r h = sym (overwrite-next s i (i + 1) (x ∷ []) r (set-overwrites s i x h) refl (omega arith))
 
 least-none : (p q : Bytes) → length p < 2 → leastName p q ≡ []
 unfolding leastName

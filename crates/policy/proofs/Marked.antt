@@ -1,7 +1,6 @@
--- What the filter tells: an entry whose slot is free, or has another fingerprint, has the target of none that was met, since entries with one target have
--- one slot and one fingerprint. And the check as it goes on: `Checked` is what is known where the walk has come to an entry, with one law for each way on. Assumes nothing.
-use Prim.Native.Nat.{ℕ, _+_, _/_, _%_, _≤_, _<_}
-use mathlib.Core.Path.{_≡_, refl, sym, ap, ap₂, subst, _∙_}
+-- What the code finds in the filter, and the check as it goes on: `Checked` is what is known where the walk has come to an entry, with one law for each way on. Assumes nothing.
+use Prim.Native.Nat.{ℕ, _+_, _≤_, _<_}
+use mathlib.Core.Path.{_≡_, refl, sym, ap, subst, _∙_}
 use mathlib.Core.List.{List, [], _∷_, _++_, append-assoc}
 use mathlib.Core.Bool.{Bool, true, false, _||_, cond, false≢true}
 use native.Mathlib.Omega.{arith}
@@ -15,18 +14,16 @@ use Rattle.slices.specs.TestLaws.{and-no, and-yes, forced-off}
 use Rattle.slices.specs.Bytes.{Bytes, le32, part, allAre}
 use Rattle.slices.specs.PartLaws.{part-of}
 use Rattle.slices.specs.Hash.{hashFrom}
-use Rattle.slices.specs.Filter.{joined}
-use Rattle.slices.specs.FilterLaws.{filter-met, filter-unmet}
 use Rattle.slices.specs.Chunks.{flat, contains, distinct}
-use Rattle.lists.specs.Lists.{nil}
-use Rattle.slices.specs.ItemsLaws.{or-off, or-left-off, or-right-off, contains-append, contains-one, distinct-apart, distinct-left, distinct-append}
+use Rattle.slices.specs.ItemsLaws.{or-off, or-right-off, contains-append, contains-one, distinct-apart, distinct-left, distinct-append}
 use Rattle.entry.specs.Entry.{nameOf, wellFormed, sameTarget}
-use Rattle.entry.specs.EntryLaws.{namespace-start, sameTarget-same, sameTarget-sym, sameTarget-alike}
+use Rattle.entry.specs.EntryLaws.{namespace-start, sameTarget-sym, sameTarget-alike}
 use Rattle.policy.specs.declared.PolicyCheck.{PolicyCheck}
 use Rattle.policy.specs.declared.PolicyCheck.the-variants.{Valid, Invalid}
 use Rattle.policy.specs.Policy.{entryLength, entriesOf, sizesSum, validWithin, checkWithin, policyCheck}
 use Rattle.policy.specs.PolicyLaws.{within-invalid}
-use Rattle.policy.specs.Filter.{slots, keyAt, keyOf, slotOf, fingerprintOf, Marks, marksWith}
+use Rattle.policy.specs.Filter.{keyAt, keyOf, slotOf, fingerprintOf, Marks, marksWith}
+use Rattle.policy.specs.FilterLaws.{unmet, unmet-test, marks-more}
 use Rattle.policy.specs.Walk.{At, EntryEnds}
 use Rattle.policy.proofs.Walk.{at-start, at-next, all-met, sum-met, count-met, more-left, whole, grown}
 
@@ -35,51 +32,27 @@ pub key-is : {h n : ℕ} {m : Bytes} (e : Bytes) → n ≡ le32 e namespaceAt �
 unfolding keyOf
 key-is e a b c = rw (c, a, b, namespace-start e)
 
-key-same : (e f : Bytes) → sameTarget e f ≡ true → keyOf f ≡ keyOf e
-unfolding keyOf
-key-same e f h =
-    let s = sameTarget-same e f h in
-    ap₂ (λ n m. keyAt (hashFrom (le32 n 0) m)) (sym (s .namespace)) (sym (s .name))
-
 -- ---- the filter
--- what the code finds in the slot of an entry
-module _ (e : Bytes) {x : ℕ} (k : x ≡ keyOf e) (t : Bytes) where
-  none-like : (es : List Bytes) → Marks t es → (getD t (slotOf e) 0 ≡ 255 → ⊥) → (getD t (slotOf e) 0 ≡ fingerprintOf e → ⊥)
-      → false ≡ contains (sameTarget e) es
-  none-like es m a b =
-      sym (filter-unmet slotOf fingerprintOf sameTarget (λ x y h. (rw (key-same x y h), rw (key-same x y h))) t e es (m .marks) a b)
-
+-- what the code finds in the slot s of an entry whose fingerprint is f
+module _ (e : Bytes) {s f : ℕ} (k : s ≡ slotOf e) (l : f ≡ fingerprintOf e) (t : Bytes) where
   -- the filter afterwards, if it was free and if not
-  pub marks-first : getD t (x / 2097152 % slots) 0 ≡ 0 → set t (x / 2097152 % slots) (x / 8192 % 128 + 1) ≡ marksWith t e
-  marks-first z = let z′ : getD t (slotOf e) 0 ≡ 0 = rw k at z in rw (k, eq-eqb (getD t (slotOf e) 0) 0 z′)
+  pub marks-first : getD t s 0 ≡ 0 → set t s f ≡ marksWith t e
+  marks-first z = let z′ : getD t (slotOf e) 0 ≡ 0 = rw k at z in rw (k, l, eq-eqb (getD t (slotOf e) 0) 0 z′)
 
-  pub marks-several : (getD t (x / 2097152 % slots) 0 ≡ 0 → ⊥) → set t (x / 2097152 % slots) 255 ≡ marksWith t e
+  pub marks-several : (getD t s 0 ≡ 0 → ⊥) → set t s 255 ≡ marksWith t e
   marks-several z = let z′ : getD t (slotOf e) 0 ≡ 0 → ⊥ = rw k at z in rw (k, ne-eqb (getD t (slotOf e) 0) 0 z′)
 
   -- it is free
-  pub free : (es : List Bytes) → Marks t es → getD t (x / 2097152 % slots) 0 ≡ 0 → false ≡ contains (sameTarget e) es
+  pub free : (es : List Bytes) → Marks t es → getD t s 0 ≡ 0 → false ≡ contains (sameTarget e) es
   free es m z =
       let z′ : getD t (slotOf e) 0 ≡ 0 = rw k at z in
-      none-like es m (λ q. omega arith) (λ q. omega arith)
+      sym (unmet t e es m (λ q. omega arith) (λ q. omega arith))
 
   -- or has another fingerprint
-  pub unmarked : (es : List Bytes) → Marks t es → (eqb (getD t (x / 2097152 % slots) 0) 255 || eqb (getD t (x / 2097152 % slots) 0) (x / 8192 % 128 + 1)) ≡ false
-      → false ≡ contains (sameTarget e) es
+  pub unmarked : (es : List Bytes) → Marks t es → (eqb (getD t s 0) 255 || eqb (getD t s 0) f) ≡ false → false ≡ contains (sameTarget e) es
   unmarked es m z =
-      let z′ : (eqb (getD t (slotOf e) 0) 255 || eqb (getD t (slotOf e) 0) (fingerprintOf e)) ≡ false = rw k at z in
-      none-like es m
-      (eqb-false _ _ (or-left-off (eqb (getD t (slotOf e) 0) 255) (eqb (getD t (slotOf e) 0) (fingerprintOf e)) z′))
-      (eqb-false _ _ (or-right-off (eqb (getD t (slotOf e) 0) 255) (eqb (getD t (slotOf e) 0) (fingerprintOf e)) z′))
-
-pub marks-none : (t : Bytes) → length t ≡ slots → Marks t []
-marks-none t e = record { room = e; marks = nil }
-
-marks-more : (t : Bytes) (es : List Bytes) (e : Bytes) → Marks t es → Marks (marksWith t e) (es ++ (e ∷ []))
-marks-more t es e m =
-    record {
-      room = length-set t (slotOf e) (joined (getD t (slotOf e) 0) (fingerprintOf e)) ∙ m .room;
-      marks = filter-met slotOf fingerprintOf (λ q. omega arith) t e es (rw (m .room) (omega arith)) (m .marks);
-    }
+      let z′ : (eqb (getD t (slotOf e) 0) 255 || eqb (getD t (slotOf e) 0) (fingerprintOf e)) ≡ false = rw (k, l) at z in
+      sym (unmet-test t e es m z′)
 
 -- ---- an entry that was met before
 last-apart : (xs : List Bytes) (q : Bytes) → distinct sameTarget (xs ++ (q ∷ [])) ≡ true → contains (sameTarget q) xs ≡ false

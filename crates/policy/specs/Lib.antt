@@ -8,3 +8,4 @@ pub mod PlaceLaws
 pub mod Walk
 pub mod Best
 pub mod Filter
+pub mod FilterLaws

@@ -12,14 +12,14 @@ ghost use Rattle.names.specs.Tail.{wholeUnits, TailOf};
 ghost use Rattle.entry.specs.Entry.{wellFormed, nameIsEmpty, nameOf, targets, rank, sameTarget};
 ghost use Rattle.policy.specs.Policy.{entryLength, entriesOf, sizesSum, packPolicy, emptyPolicy, validWithin, policyValid, checkWithin, policyCheck};
 ghost use Rattle.policy.specs.Dump.{dumpValid, dumpCheck};
-ghost use Rattle.policy.specs.Filter.{slots, keyOf, Marks, marksWith};
+ghost use Rattle.policy.specs.Filter.{slots, keyOf, slotOf, fingerprintOf, Marks, marksWith};
 ghost use Rattle.policy.specs.Choice.{choiceOf};
 ghost use Rattle.policy.specs.Walk.{At, EntryEnds, Passed};
 ghost use Rattle.policy.specs.Best.{asChoice};
 use names::Tail;
 
 // The slots of the filter; `specs/Filter.antt` has the same for the proofs.
-const SLOTS: usize = 2048;
+pub const SLOTS: usize = 2048;
 
 // As many entries as a record may have, for arrays.
 pub const ENTRIES: usize = limits::MAX_ENTRIES;
@@ -81,6 +81,24 @@ fn is_among(policy: &[u8], count: usize, e: &[u8]) -> bool
     false
 }
 
+// Whether one of the entries that the bytes begin with, whatever they are, has the namespace and the name of e.
+pub fn is_listed(entries: &[u8], e: &[u8]) -> bool
+    requires { ⌜ wellFormed (now e) ≡ true ⌝ }
+    ensures { λ r. ⌜ r ≡ contains (sameTarget (now (e .entry))) (entriesOf (now (entries .entry))) ⌝ }
+{
+    let mut at = 0;
+    let mut next = entry_length(entries);
+    while 0 < next {
+        let end = at + next;
+        if entry::same_target(e, &entries[at..end]) {
+            return true;
+        }
+        at = end;
+        next = entry_length(&entries[at..]);
+    }
+    false
+}
+
 // The key of an entry, from which its slot in the filter and its fingerprint are taken.
 fn key(e: &[u8]) -> usize
     requires { ⌜ wellFormed (now e) ≡ true ⌝ }
@@ -91,15 +109,32 @@ fn key(e: &[u8]) -> usize
     product % 4294967296 + product / 4294967296
 }
 
+// Where the filter notes an entry, and as what.
+pub struct Mark {
+    pub slot: usize,
+    pub fingerprint: u8,
+}
+
+pub fn mark_of(e: &[u8]) -> Mark
+    requires { ⌜ wellFormed (now e) ≡ true ⌝ }
+    ensures { λ r. ⌜ (r .slot ≡ slotOf (now (e .entry))) × (r .fingerprint ≡ fingerprintOf (now (e .entry))) ⌝ }
+{
+    let key = key(e);
+    Mark {
+        slot: key / 2097152 % SLOTS,
+        fingerprint: (key / 8192 % 128 + 1) as u8,
+    }
+}
+
 // Whether one of the first count entries, which the filter has, has the namespace and the name of e; the filter then has e too.
 fn is_repeated(policy: &[u8], count: usize, e: &[u8], marks: &mut [u8; SLOTS]) -> bool
     requires { ⌜ (count ≤ length (entriesOf (now policy))) × (wellFormed (now e) ≡ true) × Marks (now marks) (take count (entriesOf (now policy))) ⌝ }
     ensures answer { λ r. ⌜ r ≡ contains (sameTarget (now (e .entry))) (take count (entriesOf (now (policy .entry)))) ⌝ }
     ensures marked { λ _. ⌜ now (marks .exit) ≡ marksWith (now (marks .entry)) (now (e .entry)) ⌝ }
 {
-    let key = key(e);
-    let slot = key / 2097152 % SLOTS;
-    let fingerprint = (key / 8192 % 128 + 1) as u8;
+    let mark = mark_of(e);
+    let slot = mark.slot;
+    let fingerprint = mark.fingerprint;
     let seen = marks[slot];
     if seen == 0 {
         marks[slot] = fingerprint;

@@ -1,10 +1,11 @@
 -- Laws of writes into a list of bytes, one after the other. Assumes nothing.
 use mathlib.Core.Path.{_≡_, refl, sym, ap, _∙_}
-use mathlib.Core.List.{[], _++_, append-assoc}
-use Prim.Native.Nat.{ℕ, _+_, _-_, _≤_}
+use mathlib.Core.List.{[], _∷_, _++_, append-assoc}
+use Prim.Native.Nat.{ℕ, _+_, _-_, _≤_, _<_}
 use native.Mathlib.Omega.{arith}
-use lib.ListN.{length, take, drop, length-append, length-take}
-use lib.Seq.{length-take-le, take-at, drop-at, take-append-le, take-take, drop-drop, drop-append-add, paste-zero}
+use native.Mathlib.Numerals.{add-one}
+use lib.ListN.{length, set, take, drop, length-append, length-drop, length-take}
+use lib.Seq.{length-take-le, take-at, drop-at, take-append-le, take-take, drop-drop, drop-append-add, set-split, paste-zero}
 use Rattle.slices.specs.Bytes.{Bytes, overwrite}
 use Rattle.slices.specs.PartLaws.{drop-take}
 
@@ -76,6 +77,22 @@ drop-overwrite s at j v h g =
 -- one more write, which begins at index i where those before, of v, ended
 pub overwrite-next : {t : Bytes} (s : Bytes) (at i : ℕ) (v w : Bytes) → t ≡ overwrite s at v → i ≡ at + length v → at ≤ length s → overwrite t i w ≡ overwrite s at (v ++ w)
 overwrite-next s at i v w e f h = rw (e, f) (overwrite-after s at v w h)
+
+-- one byte written, and the rest behind it
+pub set-overwrites : (s : Bytes) (i x : ℕ) → i < length s → set s i x ≡ overwrite s i (x ∷ [])
+unfolding overwrite
+set-overwrites s i x h = rw (append-assoc, add-one) (set-split s i x h)
+
+pub overwrite-set : (s : Bytes) (i x : ℕ) (r : Bytes) → i < length s → overwrite s i (x ∷ r) ≡ overwrite (set s i x) (i + 1) r
+overwrite-set s i x r h = sym (overwrite-next s i (i + 1) (x ∷ []) r (set-overwrites s i x h) refl (omega arith))
+
+-- the length, where there is room
+pub length-overwrite : (s : Bytes) (at : ℕ) (v : Bytes) → at + length v ≤ length s → length (overwrite s at v) ≡ length s
+unfolding overwrite
+length-overwrite s at v h =
+    let k = length-head s at v (omega arith) in
+    let d = length-drop (at + length v) s in
+    rw length-append (omega (arith, k, d))
 
 -- what was put at the front of z, and two lists put there one behind the other
 pub take-front : (z v : Bytes) (n : ℕ) → length v ≡ n → take n (overwrite z 0 v) ≡ v

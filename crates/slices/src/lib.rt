@@ -2,7 +2,7 @@
 ghost use mathlib.Core.Path.{_≡_};
 ghost use Prim.Native.Nat.{_+_, _≤_, _<_};
 ghost use lib.ListN.{length, getD, take, drop, replicate};
-ghost use Rattle.slices.specs.Bytes.{le16, le32, le64, part, allAre, same, overwrite};
+ghost use Rattle.slices.specs.Bytes.{le16, le32, le64, le16Bytes, part, allAre, same, overwrite};
 ghost use Rattle.slices.specs.Hash.{hashFrom};
 
 // The byte at a place, and 0 past the end.
@@ -81,6 +81,15 @@ pub fn get64(s: &[u8], at: usize) -> usize
     ensures { λ r. ⌜ r ≡ le64 (now (s .entry)) at ⌝ }
 {
     get32(s, at) + 4294967296 * get32(s, at + 4)
+}
+
+// Puts a number's two bytes at index at and the one behind it.
+pub fn put16(s: &mut [u8], at: usize, n: usize)
+    requires { ⌜ at + 2 ≤ length (now s) ⌝ }
+    ensures { λ _. ⌜ now (s .exit) ≡ overwrite (now (s .entry)) at (le16Bytes n) ⌝ }
+{
+    s[at] = (n % 256) as u8;
+    s[at + 1] = (n / 256 % 256) as u8;
 }
 
 // Whether every byte is v. No exit before the end, so that the loop is compiled to wide compares.

@@ -1,6 +1,6 @@
 -- `policy::scan_noting` meets its contract. Assumes nothing.
 use borrow.Author.Needs.{needs}
-use Rattle.policy.proofs.Marked.{marks-none}
+use Rattle.policy.specs.FilterLaws.{marks-none}
 use Rattle.policy.proofs.scan_noting.Statement.{statement}
 use Rattle.policy.proofs.scan_noting.Tie as tie
 
