@@ -8,8 +8,9 @@
   - a policy record of VARPOLICY_POLICY_BYTES bytes: packed entries end to end, then zeros;
   - three switches, varpolicy_switches, in each byte of which every value has a meaning.
 
-  varpolicy_quarrels alone is lent none of these: it is given the bytes of a dump, from wherever they come,
-  and a buffer for a name, and concerns no engine.
+  varpolicy_quarrels and the calls of a reader, varpolicy_reader_.., are lent none of these and concern no
+  engine. The one is given the bytes of a dump, from wherever they come, and a buffer for a name; the
+  others are lent a varpolicy_reader, which is fed the bytes of a dump in pieces, as they arrive.
 
   A call checks all of each store and policy record that it is lent, and answers
   VARPOLICY_VOLUME_CORRUPTED before all else if one is not so. The exceptions: varpolicy_power_on takes
@@ -109,6 +110,8 @@ extern "C" {
 #define VARPOLICY_MAX_NAME_UNITS  64U    /* 16-bit units of a name */
 #define VARPOLICY_MAX_NAME_BYTES  128U   /* bytes of a name without a closing zero: two for each unit */
 #define VARPOLICY_NAMESPACE_BYTES 16U    /* bytes of a namespace, as an EFI_GUID lies in memory */
+#define VARPOLICY_MAX_PIECE       4096U  /* bytes of a piece that a reader is fed */
+#define VARPOLICY_READER_BYTES    18438U /* bytes of a reader */
 
 /**
   The switches of an engine: kept by the caller, lent to the calls.
@@ -180,6 +183,60 @@ typedef struct {
   uint32_t later;       /* and of the later one */
   size_t   name_length; /* bytes of the smallest name that both target */
 } varpolicy_quarrel;
+
+/**
+  A reader of a dump that arrives in pieces: kept by the caller, lent to the calls varpolicy_reader_...
+
+  The bytes of the dump stand from the reader's first byte on, as far as they were taken; the calls keep
+  what they know of them behind the first VARPOLICY_POLICY_BYTES. So the bytes of a good entry at byte
+  `at` of the dump are reader.bytes + at, as many as its size, until the reader is started again.
+
+  Of VARPOLICY_READER_BYTES bytes any content is allowed, and what each call does with it is proved: it
+  does nothing undefined, and touches nothing but what it is lent. What a reader says holds of the bytes
+  that it was fed if varpolicy_reader_start came first and only these calls wrote it since.
+
+  However the dump is cut into pieces, the answers are the same. To read one and walk its entries:
+
+    static varpolicy_reader reader;
+    varpolicy_listed        entry;
+    varpolicy_verdict       verdict;
+    size_t                  at;
+
+    varpolicy_reader_start(&reader);
+    while ((length = receive(piece, sizeof piece)) > 0) {
+      varpolicy_reader_feed(&reader, piece, length);
+    }
+    for (at = 0; (entry = varpolicy_reader_entry(&reader, at)).status == VARPOLICY_SUCCESS; at += entry.size) {
+      use(reader.bytes + at, entry.size);
+    }
+    verdict = varpolicy_reader_verdict(&reader);
+    if (!verdict.whole) {
+      printf("bad at %u\n", (unsigned)verdict.bytes);
+    }
+**/
+typedef struct {
+  uint8_t bytes[VARPOLICY_READER_BYTES];
+} varpolicy_reader;
+
+/**
+  What varpolicy_reader_verdict answers. Good entries are those up to the first that is malformed,
+  repeated, past the limits or cut short; no piece makes a good entry bad.
+**/
+typedef struct {
+  uint32_t status;
+  bool     whole;   /* good entries and nothing behind them: what arrived is a dump */
+  bool     ended;   /* no further piece changes anything: a bad entry was met */
+  uint32_t entries; /* how many good entries there are */
+  uint32_t bytes;   /* how many bytes they take; unless whole, the bad entry's first byte */
+} varpolicy_verdict;
+
+/** What varpolicy_reader_entry answers. Where there is no entry every number is 0. **/
+typedef struct {
+  uint32_t status;
+  uint32_t size; /* how many bytes it has */
+  uint32_t lock; /* its LockPolicyType, VARPOLICY_TYPE_.. */
+  uint32_t rank; /* how many '#' its name has, or VARPOLICY_RANK_WHOLE_NAMESPACE */
+} varpolicy_listed;
 
 /**
   Powers an engine on: the policy record becomes all zeros, the volatile store all 0xFF. The engine is
@@ -451,6 +508,72 @@ varpolicy_quarrels (
   const uint8_t *dump,
   size_t         dump_len,
   uint8_t        name[VARPOLICY_MAX_NAME_BYTES]
+  );
+
+/**
+  Starts a reader, or starts it again: nothing arrived yet.
+
+  @param[in,out] reader  The reader, with any content. Its first VARPOLICY_POLICY_BYTES bytes are not
+                         written.
+
+  @retval VARPOLICY_SUCCESS  Always.
+**/
+VARPOLICY_CALL uint32_t
+varpolicy_reader_start (
+  varpolicy_reader *reader
+  );
+
+/**
+  Feeds a reader the next bytes of a dump. The status does not tell whether the entries are good:
+  varpolicy_reader_verdict does, at any time. After a bad entry no more bytes are taken.
+
+  @param[in,out] reader     The reader, with any content.
+  @param[in]     piece      The bytes, whatever they are.
+  @param[in]     piece_len  How many: 1 to VARPOLICY_MAX_PIECE.
+
+  @retval VARPOLICY_INVALID_PARAMETER  There are none, or more than VARPOLICY_MAX_PIECE. The reader stands
+                                       as before.
+  @retval VARPOLICY_SUCCESS            The bytes arrived. After a bad entry they changed nothing.
+**/
+VARPOLICY_CALL uint32_t
+varpolicy_reader_feed (
+  varpolicy_reader *reader,
+  const uint8_t    *piece,
+  size_t            piece_len
+  );
+
+/**
+  Tells what a reader says of the bytes that arrived: whether they are a dump, and if not, at which byte
+  the first bad entry begins. An entry of which a part is still to come is bad until it has arrived.
+
+  Behind the last piece, whole tells whether the dump was good. Before it, ended tells that no further
+  piece is worth receiving. No bytes at all are a dump without entries.
+
+  @param[in] reader  The reader, with any content.
+
+  @retval VARPOLICY_SUCCESS  Always.
+**/
+VARPOLICY_CALL varpolicy_verdict
+varpolicy_reader_verdict (
+  const varpolicy_reader *reader
+  );
+
+/**
+  Tells of a good entry its Size, its lock type and its rank. The first begins at byte 0, and each other
+  where the one before it ends, so that a walk adds up the sizes until there is no entry. It may be made
+  while pieces still arrive.
+
+  @param[in] reader  The reader, with any content.
+  @param[in] at      The byte of the dump at which the entry begins: 0, or such a sum. Of another byte the
+                     answer tells what stands there, taken for an entry.
+
+  @retval VARPOLICY_NOT_FOUND  No entry begins there within the good ones; they end at the verdict's bytes.
+  @retval VARPOLICY_SUCCESS    The entry's bytes are reader->bytes + at, as many as its size.
+**/
+VARPOLICY_CALL varpolicy_listed
+varpolicy_reader_entry (
+  const varpolicy_reader *reader,
+  size_t                  at
   );
 
 #ifdef __cplusplus

@@ -83,6 +83,10 @@ maxEntries = 128
 abbrev pub policyBytes : ℕ
 policyBytes = 16384
 
+-- the most bytes of a piece in which a dump arrives
+abbrev pub maxPiece : ℕ
+maxPiece = 4096
+
 -- the attribute bits that a request may have
 abbrev pub knownAttributes : ℕ
 knownAttributes = 0x47

@@ -53,6 +53,9 @@ pub const MAX_ENTRIES: usize = 128;
 // The length of the policy record, which is the most that the Sizes of its entries sum to.
 pub const POLICY_BYTES: usize = 16384;
 
+// The most bytes of a piece in which a dump arrives.
+pub const MAX_PIECE: usize = 4096;
+
 // The attribute bits that a request may have.
 pub const KNOWN_ATTRIBUTES: u32 = 0x47;
 

@@ -4,6 +4,7 @@ use mathlib.Core.Path.{_≡_, sym, ap, ap₂, subst, _∙_}
 use mathlib.Core.Bool.{Bool, cond}
 use Rattle.slices.specs.Bytes.{Bytes}
 use Rattle.status.specs.declared.Status.{Status}
+use Rattle.status.specs.declared.Status.the-variants.{Success}
 use Rattle.status.specs.Status.{statusNumber, isSuccess}
 use Rattle.status.specs.StatusLaws.{zero-success}
 use Rattle.switches.specs.declared.Switches.{Switches}
@@ -19,8 +20,12 @@ use Rattle.engine.specs.declared.SetAnswer.{SetAnswer}
 use Rattle.engine.specs.Answers.{dumpAnswer, queryAnswer}
 use Rattle.varpolicy.specs.declared.Started.{Started}
 use Rattle.varpolicy.specs.declared.Reported.{Reported}
+use Rattle.reader.specs.declared.Verdict as reader
+use Rattle.reader.specs.declared.Listing.{Listing}
 use Rattle.varpolicy.specs.declared.Quarrelled.{Quarrelled}
-use Rattle.varpolicy.specs.Exports.{Numbered, numbered, statusAlone, startedAnswer, standing, dumpedAnswer, queriedAnswer, reportedOf, writtenAnswer, quarrelledOf, quarrelled}
+use Rattle.varpolicy.specs.declared.ReaderVerdict.{ReaderVerdict}
+use Rattle.varpolicy.specs.declared.ReaderEntry.{ReaderEntry}
+use Rattle.varpolicy.specs.Exports.{Numbered, numbered, statusAlone, startedAnswer, standing, dumpedAnswer, queriedAnswer, reportedOf, writtenAnswer, quarrelledOf, quarrelled, readerVerdictOf, readerEntryOf}
 
 module _ {x : Answer × State} {s : State} where
   pub status-numbered : {n : ℕ} (a : Status) → x ≡ (onlyStatus a, s) → n ≡ statusNumber a → numbered x ≡ (statusAlone n, s)
@@ -76,3 +81,18 @@ module _ (nv vol policy : Bytes) (w : Switches) (a : SwitchAnswer) where
 -- its verdict v, and b in the buffer, is what the record r says
 pub quarrelled-is : {v w : Verdict} {r : Quarrelled} {b : Bytes} (dump buffer : Bytes) → v ≡ quarrelsOf dump → b ≡ bufferAfter dump buffer → v ≡ w → r ≡ quarrelledOf w → quarrelled dump buffer ≡ (r, b)
 quarrelled-is dump buffer e k m h = ap₂ (λ (x : Quarrelled) (y : Bytes). (x, y)) (ap quarrelledOf (sym e ∙ m) ∙ sym h) (sym k)
+
+-- ---- the reader of a dump
+-- the number of the status that it answered
+pub same-number : {n : ℕ} {s t : Status} → s ≡ t → n ≡ statusNumber s → n ≡ statusNumber t
+same-number e k = k ∙ ap statusNumber e
+
+-- its verdict v, with that number beside it
+pub verdict-numbered : {n : ℕ} {w : reader.Verdict} (v : reader.Verdict) → v ≡ w → n ≡ statusNumber Success
+    → record { status = n; whole = v .whole; ended = v .ended; entries = v .entries; bytes = v .bytes } ≡ readerVerdictOf w
+verdict-numbered v e k =
+    ap {B = ReaderVerdict} (λ (n : ℕ). record { status = n; whole = v .whole; ended = v .ended; entries = v .entries; bytes = v .bytes }) k ∙ ap readerVerdictOf e
+
+-- what it tells of an entry, l, is what the record r says
+pub listing-numbered : {l m w : Listing} {r : ReaderEntry} → l ≡ w → l ≡ m → r ≡ readerEntryOf m → r ≡ readerEntryOf w
+listing-numbered e k h = h ∙ ap readerEntryOf (sym k ∙ e)

@@ -14,7 +14,7 @@ use Rattle.quarrels.specs.declared.Verdict.the-variants.{NoDump, NoQuarrel, Fou
 use Rattle.quarrels.specs.Quarrel.{quarrelsOf, bufferAfter}
 use Rattle.store.specs.Record.{hasNV}
 use Rattle.status.specs.declared.Status.{Status}
-use Rattle.status.specs.declared.Status.the-variants.{Success, InvalidParameter}
+use Rattle.status.specs.declared.Status.the-variants.{Success, InvalidParameter, NotFound}
 use Rattle.status.specs.Status.{statusNumber}
 use Rattle.switches.specs.declared.Switches.{Switches}
 use Rattle.switches.specs.declared.SwitchBytes.{SwitchBytes}
@@ -24,6 +24,9 @@ use Rattle.rules.specs.Report.{groundNumber}
 use Rattle.rules.specs.Engine.{State, Answer, step}
 use Rattle.rules.specs.Engine.Call.{read}
 use Rattle.engine.specs.declared.Reading.{Reading}
+use Rattle.reader.specs.declared.Verdict as reader
+use Rattle.reader.specs.declared.Listing.{Listing}
+use Rattle.reader.specs.declared.Listing.the-variants.{Entry, NoEntry}
 use Rattle.varpolicy.specs.declared.Started.{Started}
 use Rattle.varpolicy.specs.declared.Dumped.{Dumped}
 use Rattle.varpolicy.specs.declared.Queried.{Queried}
@@ -31,6 +34,8 @@ use Rattle.varpolicy.specs.declared.Read.{Read}
 use Rattle.varpolicy.specs.declared.Reported.{Reported}
 use Rattle.varpolicy.specs.declared.Written.{Written}
 use Rattle.varpolicy.specs.declared.Quarrelled.{Quarrelled}
+use Rattle.varpolicy.specs.declared.ReaderVerdict.{ReaderVerdict}
+use Rattle.varpolicy.specs.declared.ReaderEntry.{ReaderEntry}
 
 -- an answer with the number of its status, the switches in bytes, and the report in numbers
 pub record Numbered : Type 0 where
@@ -137,3 +142,12 @@ quarrelledOf (Found i j n) = record { status = statusNumber Success; found = tru
 -- and the buffer afterwards
 abbrev pub quarrelled : Bytes → Bytes → Quarrelled × Bytes
 quarrelled dump buffer = (quarrelledOf (quarrelsOf dump), bufferAfter dump buffer)
+
+-- what a reader says of the bytes that arrived
+abbrev pub readerVerdictOf : reader.Verdict → ReaderVerdict
+readerVerdictOf v = record { status = statusNumber Success; whole = v .whole; ended = v .ended; entries = v .entries; bytes = v .bytes }
+
+-- and of a good entry; 14 and zeros where none begins
+abbrev pub readerEntryOf : Listing → ReaderEntry
+readerEntryOf NoEntry = record { status = statusNumber NotFound; size = 0; lock = 0; rank = 0 }
+readerEntryOf (Entry s l k) = record { status = statusNumber Success; size = s; lock = l; rank = k }

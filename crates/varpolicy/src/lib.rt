@@ -7,6 +7,7 @@ ghost use lib.Dec.{eqb};
 ghost use lib.ListN.{length};
 ghost use Rattle.slices.specs.Bytes.{Bytes};
 ghost use Rattle.names.specs.Name.{variable};
+ghost use Rattle.status.specs.declared.Status.the-variants.{Success};
 ghost use Rattle.status.specs.Status.{statusNumber};
 ghost use Rattle.switches.specs.declared.Switches.{Switches};
 ghost use Rattle.switches.specs.SwitchBytes.{givesLeave, switchesOf, bytesOf, lockedBytes, disabledBytes, lockBytes, disableBytes};
@@ -15,8 +16,10 @@ ghost use Rattle.rules.specs.Engine.Call.{powerOn, restart, register, dump, loc
 ghost use Rattle.rules.specs.Set.{requestOf};
 ghost use Rattle.rules.specs.Report.{groundNumber};
 ghost use Rattle.engine.specs.Answers.{readingOf};
-ghost use Rattle.varpolicy.specs.Exports.{numbered, statusAlone, startedAnswer, standing, dumpedAnswer, queriedAnswer, readOf, NumberedRead, reportedOf, writtenAnswer, noPair, quarrelled};
+ghost use Rattle.reader.specs.Reader.{fresh, feedStatus, afterFeed, verdictIn, listingIn};
+ghost use Rattle.varpolicy.specs.Exports.{numbered, statusAlone, startedAnswer, standing, dumpedAnswer, queriedAnswer, readOf, NumberedRead, reportedOf, writtenAnswer, noPair, quarrelled, readerVerdictOf, readerEntryOf};
 use quarrels::Verdict;
+use reader::Listing;
 use rules::Ground;
 use rules::Report;
 use status::Status;
@@ -88,6 +91,26 @@ pub struct Quarrelled {
     pub earlier: u32,
     pub later: u32,
     pub name_length: usize,
+}
+
+// What a reader says of the bytes that it was fed (RULES.md, 10.12): whether they are good entries and nothing else, whether no further piece changes
+// anything, and of the good entries, up to the first that is not, how many they are and how many bytes they take.
+#[repr(C)]
+pub struct ReaderVerdict {
+    pub status: u32,
+    pub whole: bool,
+    pub ended: bool,
+    pub entries: u32,
+    pub bytes: u32,
+}
+
+// What it tells of a good entry: its Size, its lock type and its rank.
+#[repr(C)]
+pub struct ReaderEntry {
+    pub status: u32,
+    pub size: u32,
+    pub lock: u32,
+    pub rank: u32,
 }
 
 // A start's answer with the number of its status, and the switches in bytes.
@@ -338,6 +361,68 @@ pub extern "C" fn varpolicy_quarrels(dump: &[u8], name: &mut [u8; 128]) -> Quarr
             earlier: earlier as u32,
             later: later as u32,
             name_length: length,
+        },
+    }
+}
+
+// The reader of a dump that arrives in pieces. Not a call on an engine: it is lent a reader alone, with any content.
+// Start: nothing arrived yet.
+#[no_mangle]
+pub extern "C" fn varpolicy_reader_start(reader: &mut [u8; reader::READER_BYTES]) -> u32
+    ensures answer { λ s. ⌜ s ≡ statusNumber Success ⌝ }
+    ensures after { λ _. ⌜ now (reader .exit) ≡ fresh (now (reader .entry)) ⌝ }
+{
+    reader::start(reader);
+    number(Status::Success)
+}
+
+// Feed: the piece is judged together with what arrived before it. One of another length than a piece may have is refused.
+#[no_mangle]
+pub extern "C" fn varpolicy_reader_feed(
+    reader: &mut [u8; reader::READER_BYTES],
+    piece: &[u8],
+) -> u32
+    ensures answer { λ s. ⌜ s ≡ statusNumber (feedStatus (now (piece .entry))) ⌝ }
+    ensures after { λ _. ⌜ now (reader .exit) ≡ afterFeed (now (reader .entry)) (now (piece .entry)) ⌝ }
+{
+    number(reader::feed(reader, piece))
+}
+
+// Verdict: what the reader says of the bytes that arrived.
+#[no_mangle]
+pub extern "C" fn varpolicy_reader_verdict(reader: &[u8; reader::READER_BYTES]) -> ReaderVerdict
+    ensures { λ r. ⌜ r ≡ readerVerdictOf (verdictIn (now (reader .entry))) ⌝ }
+{
+    let verdict = reader::verdict_of(reader);
+    ReaderVerdict {
+        status: number(Status::Success),
+        whole: verdict.whole,
+        ended: verdict.ended,
+        entries: verdict.entries,
+        bytes: verdict.bytes,
+    }
+}
+
+// Entry: what the reader tells of the good entry that begins at that byte of the dump.
+#[no_mangle]
+pub extern "C" fn varpolicy_reader_entry(
+    reader: &[u8; reader::READER_BYTES],
+    at: usize,
+) -> ReaderEntry
+    ensures { λ r. ⌜ r ≡ readerEntryOf (listingIn (now (reader .entry)) at) ⌝ }
+{
+    match reader::listing_at(reader, at) {
+        Listing::NoEntry => ReaderEntry {
+            status: number(Status::NotFound),
+            size: 0,
+            lock: 0,
+            rank: 0,
+        },
+        Listing::Entry { size, lock, rank } => ReaderEntry {
+            status: number(Status::Success),
+            size,
+            lock,
+            rank,
         },
     }
 }

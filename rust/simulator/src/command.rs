@@ -2,7 +2,7 @@
 
 use crate::text;
 use std::collections::BTreeMap;
-use varpolicy::{Attributes, Entry, Lock, Name, Namespace};
+use varpolicy::{Attributes, Entry, Lock, MAX_PIECE, Name, Namespace};
 
 /// Stores larger than this are not made.
 const MAX_STORE: usize = 1 << 20;
@@ -21,6 +21,10 @@ pub enum Command {
     Read { namespace: Namespace, name: Vec<u8> },
     Dump { buffer: usize },
     Quarrels(DumpOf),
+    StartReader,
+    Feed { piece: Vec<u8> },
+    FeedDump { piece: usize },
+    List,
     Lock,
     Disable,
     State,
@@ -89,11 +93,12 @@ impl<'a> Words<'a> {
 }
 
 const COMMANDS: &str = "namespace, stores, power-on, restart, register, set, append, delete, read, dump, quarrels, \
-                        lock, disable, state, rebuild, poke or note";
+                        start-reader, feed, feed-dump, list, lock, disable, state, rebuild, poke or note";
 const NAMESPACE: &str = "a namespace (an alias, a GUID or 32 hex digits)";
 const NAME: &str = "a name in quotes (or hex:DIGITS)";
 const ENTRY_NAME: &str = "a name of at most 64 units in quotes";
 const ATTRIBUTES: &str = "attributes, as NV|BS, 0x8 or 0";
+const PIECE: &str = "a number of bytes from 1 to 4096";
 
 /// Understands lines, and keeps the aliases that they define.
 #[derive(Default)]
@@ -130,6 +135,10 @@ impl Parser {
             }
             "dump" => Command::Dump { buffer: buffer_len(&mut words)? },
             "quarrels" => Command::Quarrels(dump_of(&mut words)?),
+            "start-reader" => Command::StartReader,
+            "feed" => Command::Feed { piece: payload(&mut words)? },
+            "feed-dump" => Command::FeedDump { piece: piece_len(&mut words)? },
+            "list" => Command::List,
             "lock" => Command::Lock,
             "disable" => Command::Disable,
             "state" => Command::State,
@@ -298,6 +307,10 @@ fn store_len(words: &mut Words) -> Result<usize, Expected> {
 
 fn buffer_len(words: &mut Words) -> Result<usize, Expected> {
     if words.words.len() == 0 { Ok(varpolicy::POLICY_BYTES) } else { store_len(words) }
+}
+
+fn piece_len(words: &mut Words) -> Result<usize, Expected> {
+    if words.words.len() == 0 { Ok(MAX_PIECE) } else { words.read(PIECE, text::piece) }
 }
 
 fn dump_of(words: &mut Words) -> Result<DumpOf, Expected> {

@@ -7,23 +7,30 @@
 //!
 //! `simulate --quarrels DUMP`: reads the bytes of a dump and prints whether two of its entries quarrel. It ends with
 //! status 0 if none do, 1 if two do, and 2 if the bytes are not a dump.
+//!
+//! `simulate --list DUMP [PIECE-BYTES]`: reads the bytes of a dump in pieces, as they arrive, and prints a line for each good
+//! entry and a closing line. It ends with status 0 if the bytes are a dump, and with 2 if not.
 
 mod command;
 mod describe;
 mod quarrel;
+mod reading;
 mod reason;
 mod simulation;
 mod text;
 
 use command::Parser;
+use reading::Reading;
 use simulation::Simulation;
 use std::collections::BTreeMap;
 use std::io::{self, BufWriter, Read, Write};
 use std::process::ExitCode;
+use varpolicy::MAX_PIECE;
 
 const HELP: &str = "\
 usage: simulate [FILE]
        simulate --quarrels DUMP
+       simulate --list DUMP [PIECE-BYTES]
 
 Reads a history from FILE or standard input, one call to a line:
 
@@ -41,6 +48,12 @@ Reads a history from FILE or standard input, one call to a line:
                                        change places: the line says so)
   quarrels [raw HEX]                   of the engine's entries, or of these bytes as a dump, the first two of
                                        equal rank that target one variable, with the smallest such name
+  start-reader                         a reader of a dump that arrives in pieces; nothing arrived yet
+  feed [PAYLOAD]                       feeds it these bytes as a piece, which has 1 to 4096
+  feed-dump [PIECE-BYTES]              feeds it the engine's dump in pieces of so many bytes (4096)
+  list                                 a line for each good entry of what arrived, up to the first that is
+                                       not, and a closing line: their number and their bytes, or where the
+                                       bad entry begins
   poke nv|volatile|policy AT HEX       damages what is lent
   note TEXT                            prints the text
 
@@ -64,9 +77,12 @@ neither BS nor RT, is a deletion, and its line says so.
 With --quarrels, reads the file DUMP (- is standard input), the bytes that a dump wrote and nothing behind
 them, and prints what the line quarrels does. It ends with status 0 if no two entries quarrel, with 1 if two
 do, and with 2 if the bytes are not a dump: it then tells the place and the first byte of the entry at fault.
+
+With --list, reads the file DUMP (- is standard input) in pieces of so many bytes (4096) up to its end or to a
+bad entry, and prints what the line list does. It ends with status 0 if the bytes are a dump, and with 2 if not.
 ";
 
-const USAGE: &str = "usage: simulate [FILE] or simulate --quarrels DUMP";
+const USAGE: &str = "usage: simulate [FILE], simulate --quarrels DUMP or simulate --list DUMP [PIECE-BYTES]";
 
 fn main() -> ExitCode {
     let arguments: Vec<String> = std::env::args().skip(1).collect();
@@ -75,6 +91,8 @@ fn main() -> ExitCode {
         [] => history("-"),
         ["--help" | "-h"] => print(HELP).map(|()| ExitCode::SUCCESS),
         ["--quarrels", dump] => quarrels(dump),
+        ["--list", dump] => list(dump, MAX_PIECE),
+        ["--list", dump, piece] => text::piece(piece).ok_or(USAGE.to_string()).and_then(|piece| list(dump, piece)),
         [file] if !file.starts_with("--") => history(file),
         _ => Err(USAGE.to_string()),
     };
@@ -106,14 +124,49 @@ fn quarrels(file: &str) -> Result<ExitCode, String> {
     Ok(ended)
 }
 
+/// Reads a dump in a file in pieces of so many bytes, and lists its good entries.
+fn list(file: &str, piece: usize) -> Result<ExitCode, String> {
+    let mut reading = Reading::default();
+    opened(file).and_then(|dump| read_pieces(dump, piece, &mut reading)).map_err(|error| failed(file, error))?;
+    print(&format!("{}\n", reading.lines().join("\n")))?;
+    match reading.fault() {
+        None => Ok(ExitCode::SUCCESS),
+        Some(why) => Err(format!("{}: {why}", named(file))),
+    }
+}
+
+/// Feeds a reader what a file holds, up to its end or until no further piece changes anything.
+fn read_pieces(mut file: impl Read, piece: usize, reading: &mut Reading) -> io::Result<()> {
+    let mut buffer = vec![0; piece];
+    while !reading.has_ended() {
+        match file.read(&mut buffer) {
+            Ok(0) => return Ok(()),
+            Ok(length) => {
+                reading.feed(&buffer[..length]);
+            }
+            Err(error) if error.kind() == io::ErrorKind::Interrupted => {}
+            Err(error) => return Err(error),
+        }
+    }
+    Ok(())
+}
+
 /// The bytes of a file, or of standard input for `-`.
 fn read(file: &str) -> Result<Vec<u8>, String> {
     let mut bytes = Vec::new();
-    let read = match file {
-        "-" => io::stdin().lock().read_to_end(&mut bytes).map(|_| bytes),
-        _ => std::fs::read(file),
-    };
-    read.map_err(|error| format!("{}: {error}", named(file)))
+    let read = opened(file).and_then(|mut opened| opened.read_to_end(&mut bytes));
+    read.map(|_| bytes).map_err(|error| failed(file, error))
+}
+
+fn opened(file: &str) -> io::Result<Box<dyn Read>> {
+    match file {
+        "-" => Ok(Box::new(io::stdin().lock())),
+        _ => Ok(Box::new(std::fs::File::open(file)?)),
+    }
+}
+
+fn failed(file: &str, error: io::Error) -> String {
+    format!("{}: {error}", named(file))
 }
 
 fn named(file: &str) -> &str {

@@ -1,6 +1,7 @@
 //! The state that a history keeps, and what each command does to it.
 
 use crate::command::{Command, DumpOf, Expected, Order, Part};
+use crate::reading::Reading;
 use crate::reason::{self, Refusal};
 use crate::{describe, quarrel};
 use std::collections::BTreeMap;
@@ -8,12 +9,13 @@ use std::fmt::Display;
 use varpolicy::calls::{self, Request, Started};
 use varpolicy::{Attributes, Namespace, POLICY_BYTES, Quarrel, Status, SwitchBytes, Switches};
 
-/// The four parts of `docs/RULES.md`, 1.2.
+/// The four parts of `docs/RULES.md`, 1.2, and a reader, which is none of the engine's.
 pub struct Simulation {
     nv: Vec<u8>,
     volatile: Vec<u8>,
     policy: Vec<u8>,
     switches: SwitchBytes,
+    reading: Reading,
 }
 
 /// The switches before the first power-on, which are those of a refused one.
@@ -26,6 +28,7 @@ impl Default for Simulation {
             volatile: vec![0xFF; 4096],
             policy: vec![0; POLICY_BYTES],
             switches: NOT_STARTED,
+            reading: Reading::default(),
         }
     }
 }
@@ -41,7 +44,9 @@ impl Simulation {
             Command::Alias => return Ok(None),
             Command::Note(text) => text,
             Command::Stores { nv, volatile } => {
-                *self = Simulation { nv: vec![0xFF; nv], volatile: vec![0xFF; volatile], ..Simulation::default() };
+                let reading = std::mem::take(&mut self.reading);
+                let (nv, volatile) = (vec![0xFF; nv], vec![0xFF; volatile]);
+                *self = Simulation { nv, volatile, reading, ..Simulation::default() };
                 return Ok(None);
             }
             Command::PowerOn { disabling_allowed } => {
@@ -69,6 +74,16 @@ impl Simulation {
                 Ok(dump) => quarrels(&dump, namespaces),
                 Err(refused) => refused,
             },
+            Command::StartReader => {
+                self.reading = Reading::default();
+                Status::Success.to_string()
+            }
+            Command::Feed { piece } => self.reading.feed(&piece),
+            Command::FeedDump { piece } => match self.complete_dump() {
+                Ok(dump) => self.feed_dump(&dump, piece),
+                Err(refused) => refused,
+            },
+            Command::List => self.list(),
             Command::Lock => answered(calls::lock(&mut self.switches), |_| reason::LOCKED_ALREADY),
             Command::Disable => {
                 answered(calls::disable(&mut self.switches), |status| reason::disable(status, self.switches))
@@ -147,6 +162,23 @@ impl Simulation {
         }
         buffer.truncate(dumped.length);
         Ok(buffer)
+    }
+
+    /// Feeds the reader a dump in pieces of so many bytes.
+    fn feed_dump(&mut self, dump: &[u8], piece: usize) -> String {
+        let mut pieces = 0;
+        for piece in dump.chunks(piece) {
+            self.reading.feed(piece);
+            pieces += 1;
+        }
+        let word = if pieces == 1 { "piece" } else { "pieces" };
+        format!("SUCCESS {} in {pieces} {word}", describe::count(dump.len()))
+    }
+
+    /// A line for each good entry of what the reader was fed, and the closing line; of a bad entry also why.
+    fn list(&self) -> String {
+        let lines = self.reading.lines().into_iter().chain(self.reading.fault());
+        lines.fold(Status::Success.to_string(), |told, line| format!("{told}\n    {line}"))
     }
 
     /// A restart over the same stores with the old disable setting, each entry of the dump registered again,

@@ -1,6 +1,6 @@
 //! The words of a line: splitting, numbers, hex digits, quoted text, namespaces.
 
-use varpolicy::Namespace;
+use varpolicy::{MAX_PIECE, Namespace};
 
 /// The words of a line, without the blanks around them and without a comment. A note is all of its line.
 pub fn statement(line: &str) -> &str {
@@ -59,6 +59,11 @@ pub fn number(word: &str) -> Option<u32> {
         Some(digits) => u32::from_str_radix(digits, 16).ok(),
         None => word.parse().ok(),
     }
+}
+
+/// How many bytes a piece of a dump is to have.
+pub fn piece(word: &str) -> Option<usize> {
+    number(word).map(|number| number as usize).filter(|number| (1..=MAX_PIECE).contains(number))
 }
 
 /// The bytes of an even number of hex digits.
@@ -155,6 +160,7 @@ mod tests {
     #[test]
     fn numbers() {
         assert_eq!((number("12"), number("0x1f"), number("x")), (Some(12), Some(31), None));
+        assert_eq!(["0", "1", "4096", "4097", "x"].map(piece), [None, Some(1), Some(4096), None, None]);
         assert_eq!((hex("00fF"), hex("0"), hex("+1")), (Some(vec![0, 255]), None, None));
     }
 }

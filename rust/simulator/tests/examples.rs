@@ -30,7 +30,7 @@ fn examples_print_what_is_expected() {
         assert!(output.status.success());
         run += 1;
     }
-    assert!(run >= 9);
+    assert!(run >= 10);
 }
 
 #[test]
@@ -38,12 +38,13 @@ fn a_bad_line_is_told_and_the_rest_runs() {
     let history = b"power-off\nset G \"A\" BS 01\nnamespace G 5C67D181F686DF48BD959A6E4F0925C3\npower-on now\npower-on\n\
         set G A BS 01\nset G \"A\" BS 0\nset G \"A\" XX 00\nregister G \"A\" lock=later\nregister G \"A\" lock=on-state\n\
         stores 1 many\nrebuild 0\npoke nv 4096 00\nset G \"A\" BS 1024*07\nread G \"A\"\nstate now\nset G \"\" BS 01\n\
-        set G hex:410042 BS 01\nset G \"A\\u0000\" BS 01\npoke volatile 0 00\nread G \"A\"\nquarrels now\nquarrels raw 0\n";
+        set G hex:410042 BS 01\nset G \"A\\u0000\" BS 01\npoke volatile 0 00\nread G \"A\"\nquarrels now\nquarrels raw 0\n\
+        start-reader 7\nfeed 0\nfeed-dump 0\nfeed-dump 4097\nlist all\n";
     let output = simulate(history);
     assert_eq!(output.status.code(), Some(1));
     let expected = "\
 1: power-off -> not understood: expected namespace, stores, power-on, restart, register, set, append, delete, read, \
-dump, quarrels, lock, disable, state, rebuild, poke or note, found power-off
+dump, quarrels, start-reader, feed, feed-dump, list, lock, disable, state, rebuild, poke or note, found power-off
 2: set G \"A\" BS 01 -> not understood: expected a namespace (an alias, a GUID or 32 hex digits), found G
 4: power-on now -> not understood: expected allow-disable or the end of the line, found now
 5: power-on -> SUCCESS enabled, unlocked, disabling not allowed
@@ -67,6 +68,11 @@ the line
 21: read G \"A\" -> VOLUME_CORRUPTED the volatile store is not sound
 22: quarrels now -> not understood: expected raw or the end of the line, found now
 23: quarrels raw 0 -> not understood: expected hex digits in pairs, ASCII text in quotes, or COUNT*HH, found 0
+24: start-reader 7 -> not understood: expected the end of the line, found 7
+25: feed 0 -> not understood: expected hex digits in pairs, ASCII text in quotes, or COUNT*HH, found 0
+26: feed-dump 0 -> not understood: expected a number of bytes from 1 to 4096, found 0
+27: feed-dump 4097 -> not understood: expected a number of bytes from 1 to 4096, found 4097
+28: list all -> not understood: expected the end of the line, found all
 ";
     assert_eq!(String::from_utf8_lossy(&output.stdout), expected);
 }

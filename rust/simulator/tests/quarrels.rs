@@ -114,7 +114,7 @@ fn more_than_an_engine_holds_is_no_dump() {
 
 #[test]
 fn other_words_get_the_usage() {
-    let usage = "usage: simulate [FILE] or simulate --quarrels DUMP\n";
+    let usage = "usage: simulate [FILE], simulate --quarrels DUMP or simulate --list DUMP [PIECE-BYTES]\n";
     for words in [&["--quarrels"][..], &["--quarrel", "x"], &["--quarrels", "x", "y"], &["x", "y"], &["--other"]] {
         let output = simulate(words).output().expect("simulate runs");
         assert_eq!(told(&output), (Some(2), String::new(), usage.to_string()), "{words:?}");

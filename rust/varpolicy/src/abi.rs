@@ -2,7 +2,7 @@
 //! in Rust but for a test that needs raw pointers. Nothing checks these declarations against the archive
 //! but the tests and the comparison; include/varpolicy.h has the same ones for C.
 
-use crate::{MAX_NAME_UNITS, SwitchBytes};
+use crate::{MAX_NAME_UNITS, READER_BYTES, SwitchBytes};
 
 #[repr(C)]
 pub(crate) struct Started {
@@ -54,6 +54,23 @@ pub(crate) struct Quarrel {
     pub(crate) earlier: u32,
     pub(crate) later: u32,
     pub(crate) name_length: usize,
+}
+
+#[repr(C)]
+pub(crate) struct Verdict {
+    pub(crate) status: u32,
+    pub(crate) whole: bool,
+    pub(crate) ended: bool,
+    pub(crate) entries: u32,
+    pub(crate) bytes: u32,
+}
+
+#[repr(C)]
+pub(crate) struct Listed {
+    pub(crate) status: u32,
+    pub(crate) size: u32,
+    pub(crate) lock: u32,
+    pub(crate) rank: u32,
 }
 
 unsafe extern "C" {
@@ -121,6 +138,14 @@ unsafe extern "C" {
     ) -> Written;
 
     pub(crate) fn varpolicy_quarrels(dump: *const u8, dump_len: usize, name: *mut [u8; 2 * MAX_NAME_UNITS]) -> Quarrel;
+
+    pub(crate) fn varpolicy_reader_start(reader: *mut [u8; READER_BYTES]) -> u32;
+
+    pub(crate) fn varpolicy_reader_feed(reader: *mut [u8; READER_BYTES], piece: *const u8, piece_len: usize) -> u32;
+
+    pub(crate) fn varpolicy_reader_verdict(reader: *const [u8; READER_BYTES]) -> Verdict;
+
+    pub(crate) fn varpolicy_reader_entry(reader: *const [u8; READER_BYTES], at: usize) -> Listed;
 }
 
 // The layout that the C declarations have.
@@ -133,4 +158,6 @@ const _: () = {
     assert!(size_of::<Report>() == 24);
     assert!(size_of::<Written>() == 28);
     assert!(size_of::<Quarrel>() == 24);
+    assert!(size_of::<Verdict>() == 16);
+    assert!(size_of::<Listed>() == 16);
 };

@@ -5,10 +5,11 @@
 //! The switches are lent as [`SwitchBytes`], and [`Switches`](crate::Switches) serve where they are only
 //! read. Whether disabling is allowed is a byte too, or a bool: 1 and true allow it.
 //!
-//! [`quarrels`] is lent no part of an engine: it is given the bytes of a dump.
+//! [`quarrels`] is lent no part of an engine: it is given the bytes of a dump. Nor are the calls of a reader, which are
+//! lent its bytes, with any content: [`Reader`](crate::Reader) keeps them, and answers with entries.
 
 use crate::abi;
-use crate::{Attributes, MAX_NAME_UNITS, Namespace, Refused, Report, Status, SwitchBytes};
+use crate::{Attributes, MAX_NAME_UNITS, Namespace, READER_BYTES, Refused, Report, Status, SwitchBytes};
 
 /// What power-on and restart answer.
 #[derive(Clone, Copy, PartialEq, Eq, Debug)]
@@ -74,6 +75,34 @@ pub struct Quarrelled {
     pub later: usize,
     /// How many bytes of the buffer are the smallest name that both target.
     pub name_length: usize,
+}
+
+/// What a reader says of the bytes that arrived.
+#[derive(Clone, Copy, PartialEq, Eq, Debug)]
+pub struct ReaderVerdict {
+    /// SUCCESS.
+    pub status: Status,
+    /// Whether they are good entries and nothing else: a dump.
+    pub whole: bool,
+    /// Whether no further piece changes anything: a bad entry was met.
+    pub ended: bool,
+    /// How many good entries there are, up to the first that is malformed, repeated, past the limits or cut short.
+    pub entries: usize,
+    /// How many bytes they take; unless `whole`, the first byte of the bad entry.
+    pub bytes: usize,
+}
+
+/// What a reader tells of an entry. Where there is none every number is 0.
+#[derive(Clone, Copy, PartialEq, Eq, Debug)]
+pub struct ReaderEntry {
+    /// SUCCESS or NOT_FOUND.
+    pub status: Status,
+    /// How many bytes it has.
+    pub size: usize,
+    /// The number of its lock type: 0 to 3, in the order of [`Lock`](crate::Lock).
+    pub lock: u32,
+    /// How many `#` its name has, or [`WHOLE_NAMESPACE_RANK`](crate::WHOLE_NAMESPACE_RANK).
+    pub rank: u32,
 }
 
 /// Power-on. Fills `volatile` with 0xFF and `policy` with zeros; the engine is then enabled,
@@ -298,5 +327,49 @@ pub fn quarrels(dump: &[u8], name: &mut [u8; 2 * MAX_NAME_UNITS]) -> Quarrelled 
         earlier: answer.earlier as usize,
         later: answer.later as usize,
         name_length: answer.name_length,
+    }
+}
+
+/// Starts a reader of a dump, or starts it again: nothing arrived yet. The status is always SUCCESS.
+pub fn reader_start(reader: &mut [u8; READER_BYTES]) -> Status {
+    // SAFETY: the pointer is of one live array that nothing else refers to.
+    Status::answered(unsafe { abi::varpolicy_reader_start(reader) })
+}
+
+/// Feeds a reader the next bytes of a dump, whatever they are. After a bad entry they change nothing.
+///
+/// * INVALID_PARAMETER: `piece` has not 1 to [`MAX_PIECE`](crate::MAX_PIECE) bytes. The reader stands as before.
+pub fn reader_feed(reader: &mut [u8; READER_BYTES], piece: &[u8]) -> Status {
+    // SAFETY: each pointer is of one live array or slice, the mutable one apart from the other.
+    Status::answered(unsafe { abi::varpolicy_reader_feed(reader, piece.as_ptr(), piece.len()) })
+}
+
+/// Tells what a reader says of the bytes that arrived since it was started, if only [`reader_feed`] wrote it since. The
+/// status is always SUCCESS.
+pub fn reader_verdict(reader: &[u8; READER_BYTES]) -> ReaderVerdict {
+    // SAFETY: the pointer is of one live array, and nothing is written.
+    let answer = unsafe { abi::varpolicy_reader_verdict(reader) };
+    ReaderVerdict {
+        status: Status::answered(answer.status),
+        whole: answer.whole,
+        ended: answer.ended,
+        entries: answer.entries as usize,
+        bytes: answer.bytes as usize,
+    }
+}
+
+/// Tells of the good entry that begins at byte `at` of the dump: its Size, its lock type and its rank. The first begins
+/// at 0, and each other where the one before it ends; its bytes are those of the reader from `at` on. Of another byte the
+/// answer tells what stands there, taken for an entry.
+///
+/// * NOT_FOUND: no entry begins there within the good ones.
+pub fn reader_entry(reader: &[u8; READER_BYTES], at: usize) -> ReaderEntry {
+    // SAFETY: the pointer is of one live array, and nothing is written.
+    let answer = unsafe { abi::varpolicy_reader_entry(reader, at) };
+    ReaderEntry {
+        status: Status::answered(answer.status),
+        size: answer.size as usize,
+        lock: answer.lock,
+        rank: answer.rank,
     }
 }

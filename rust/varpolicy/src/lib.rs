@@ -8,7 +8,8 @@
 //!
 //! [`calls`] has one function for each call of the library. [`Engine`] keeps the lent slices and the
 //! switches together and answers with `Result`. [`Entry`] packs a policy entry. [`Report`] tells why an entry
-//! refused a set. [`quarrels`] tells of a dump whether the order of its entries matters, and of which two.
+//! refused a set. [`quarrels`] tells of a dump whether the order of its entries matters, and of which two. [`Reader`]
+//! reads a dump that arrives in pieces.
 //!
 //! ```
 //! use varpolicy::{Attributes, Engine, Entry, Ground, Lock, Name, Status, POLICY_BYTES};
@@ -39,6 +40,7 @@ mod engine;
 mod entry;
 mod limits;
 mod quarrel;
+mod reader;
 mod report;
 mod status;
 mod switches;
@@ -47,9 +49,11 @@ pub use attributes::Attributes;
 pub use engine::{Engine, NotDumped, Variable};
 pub use entry::{Entry, Lock, Name, PackedEntry};
 pub use limits::{
-    MAX_ENTRIES, MAX_ENTRY_SIZE, MAX_NAME_UNITS, MAX_PAYLOAD_BYTES, MAX_STORE_BYTES, MIN_ENTRY_SIZE, POLICY_BYTES,
+    MAX_ENTRIES, MAX_ENTRY_SIZE, MAX_NAME_UNITS, MAX_PAYLOAD_BYTES, MAX_PIECE, MAX_STORE_BYTES, MIN_ENTRY_SIZE,
+    POLICY_BYTES, READER_BYTES,
 };
 pub use quarrel::{Quarrel, quarrels};
+pub use reader::{Entries, ListedEntry, Marks, Reader, Verdict};
 pub use report::{Ground, Refused, Report, WHOLE_NAMESPACE_RANK};
 pub use status::Status;
 pub use switches::{SwitchBytes, Switches};

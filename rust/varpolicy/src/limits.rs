@@ -16,6 +16,10 @@ pub const MAX_STORE_BYTES: usize = defined(b"#define VARPOLICY_MAX_STORE_BYTES "
 pub const MAX_PAYLOAD_BYTES: usize = defined(b"#define VARPOLICY_MAX_PAYLOAD ");
 /// Most units of a name.
 pub const MAX_NAME_UNITS: usize = defined(b"#define VARPOLICY_MAX_NAME_UNITS ");
+/// Most bytes of a piece that a reader is fed.
+pub const MAX_PIECE: usize = defined(b"#define VARPOLICY_MAX_PIECE ");
+/// Bytes of a reader.
+pub const READER_BYTES: usize = defined(b"#define VARPOLICY_READER_BYTES ");
 
 /// The decimal number behind this text in the header, with a comment behind it; the build fails where there is none.
 const fn defined(text: &[u8]) -> usize {

@@ -46,6 +46,8 @@ fn header_and_crate_have_the_same_numbers() {
     expect("MAX_NAME_UNITS", varpolicy::MAX_NAME_UNITS);
     expect("MAX_NAME_BYTES", 2 * varpolicy::MAX_NAME_UNITS);
     expect("NAMESPACE_BYTES", size_of::<varpolicy::Namespace>());
+    expect("MAX_PIECE", varpolicy::MAX_PIECE);
+    expect("READER_BYTES", varpolicy::READER_BYTES);
     assert!(defined.is_empty(), "not checked: {defined:?}");
 }
 
@@ -92,8 +94,12 @@ fn header_and_crate_have_the_same_records() {
         ("report", "Report"),
         ("written", "Written"),
         ("quarrel", "Quarrel"),
+        ("verdict", "Verdict"),
+        ("listed", "Listed"),
     ];
-    assert_eq!(HEADER.matches("typedef struct {").count(), records.len());
+    // A reader is its bytes alone, which the crate passes as an array.
+    assert_eq!(header_fields("reader"), ["bytes[VARPOLICY_READER_BYTES]: u8"]);
+    assert_eq!(HEADER.matches("typedef struct {").count(), records.len() + 1);
     for (c_name, name) in records {
         assert!(!header_fields(c_name).is_empty(), "{name}");
         assert_eq!(header_fields(c_name), crate_fields(name), "{name}");

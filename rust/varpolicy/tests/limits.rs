@@ -2,8 +2,8 @@
 
 use varpolicy::calls::{self, Request, Started};
 use varpolicy::{
-    Attributes, Engine, Entry, Lock, MAX_ENTRIES, MAX_ENTRY_SIZE, MAX_NAME_UNITS, MAX_PAYLOAD_BYTES, MAX_STORE_BYTES,
-    MIN_ENTRY_SIZE, Name, POLICY_BYTES, Status, Switches,
+    Attributes, Engine, Entry, Lock, MAX_ENTRIES, MAX_ENTRY_SIZE, MAX_NAME_UNITS, MAX_PAYLOAD_BYTES, MAX_PIECE,
+    MAX_STORE_BYTES, MIN_ENTRY_SIZE, Name, POLICY_BYTES, READER_BYTES, Status, Switches,
 };
 
 /// An entry of MIN_ENTRY_SIZE bytes: all of the namespace of this number.
@@ -127,4 +127,15 @@ fn payload_and_name() {
     assert_eq!(set(MAX_NAME_UNITS, MAX_PAYLOAD_BYTES), Status::Success);
     assert_eq!(set(MAX_NAME_UNITS + 1, 1), Status::InvalidParameter);
     assert_eq!(set(1, MAX_PAYLOAD_BYTES + 1), Status::InvalidParameter);
+}
+
+/// A piece of the most bytes is taken. A reader is all of its bytes: its last one is written, the one behind it is not.
+#[test]
+fn piece_and_reader() {
+    let mut lent = [0xA5; READER_BYTES + 1];
+    let reader = lent.first_chunk_mut().expect("the first READER_BYTES");
+    assert_eq!(calls::reader_start(reader), Status::Success);
+    assert_eq!(calls::reader_feed(reader, &[0; MAX_PIECE + 1]), Status::InvalidParameter);
+    assert_eq!(calls::reader_feed(reader, &[0; MAX_PIECE]), Status::Success);
+    assert_eq!(lent[READER_BYTES - 1..], [0, 0xA5]);
 }

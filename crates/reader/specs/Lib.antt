@@ -1,0 +1,12 @@
+pub mod Reading
+pub mod ReadingLaws
+pub mod Bad
+pub mod BadLaws
+pub mod ListingLaws
+pub mod Reader
+pub mod ReaderLaws
+pub mod AcceptedLaws
+pub mod Held
+pub mod JudgedLaws
+pub mod HeldLaws
+pub mod Claim
