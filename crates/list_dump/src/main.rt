@@ -139,9 +139,8 @@ enum Turn {
 }
 
 // Reads once, feeds what came, and writes the lines of the entries that are good since.
-fn read_piece(reader: &mut [u8; READER_BYTES]) -> Turn {
-    let mut buffer = io::buffer();
-    let got = libc::read(STDIN_FILENO, &mut buffer);
+fn read_piece(reader: &mut [u8; READER_BYTES], buffer: &mut [u8]) -> Turn {
+    let got = libc::read(STDIN_FILENO, buffer);
     if got < 0 {
         os::fail(b"standard input");
         return Turn::Failed;
@@ -149,7 +148,7 @@ fn read_piece(reader: &mut [u8; READER_BYTES]) -> Turn {
     if got == 0 {
         return Turn::End;
     }
-    let n = io::count(got, &buffer);
+    let n = io::count(got, buffer);
     let before = reader::verdict_of(reader);
     reader::feed(reader, &buffer[..n]);
     if !list_entries(reader, before.entries, before.bytes) {
@@ -164,9 +163,10 @@ fn read_piece(reader: &mut [u8; READER_BYTES]) -> Turn {
 // Reads to the end, or to a bad entry; answers whether no read and no write failed. Each piece has a byte, and a dump with more than POLICY_BYTES is
 // bad: there are no more turns than that.
 fn read_all(reader: &mut [u8; READER_BYTES]) -> bool {
+    let mut buffer = io::buffer();
     let mut turns = limits::POLICY_BYTES + 1;
     while 0 < turns {
-        match read_piece(reader) {
+        match read_piece(reader, &mut buffer) {
             Turn::More => {}
             Turn::End => {
                 return true;
