@@ -198,13 +198,17 @@ typedef struct {
   However the dump is cut into pieces, the answers are the same. To read one and walk its entries:
 
     static varpolicy_reader reader;
-    varpolicy_listed        entry;
+    static uint8_t          piece[VARPOLICY_MAX_PIECE];
+    varpolicy_listing       entry;
     varpolicy_verdict       verdict;
-    size_t                  at;
+    size_t                  at, length;
 
     varpolicy_reader_start(&reader);
     while ((length = receive(piece, sizeof piece)) > 0) {
       varpolicy_reader_feed(&reader, piece, length);
+      if (varpolicy_reader_verdict(&reader).ended) {
+        break;
+      }
     }
     for (at = 0; (entry = varpolicy_reader_entry(&reader, at)).status == VARPOLICY_SUCCESS; at += entry.size) {
       use(reader.bytes + at, entry.size);
@@ -225,7 +229,7 @@ typedef struct {
 typedef struct {
   uint32_t status;
   bool     whole;   /* good entries and nothing behind them: what arrived is a dump */
-  bool     ended;   /* no further piece changes anything: a bad entry was met */
+  bool     ended;   /* the reading has ended at a bad entry: no further piece changes anything */
   uint32_t entries; /* how many good entries there are */
   uint32_t bytes;   /* how many bytes they take; unless whole, the bad entry's first byte */
 } varpolicy_verdict;
@@ -236,7 +240,7 @@ typedef struct {
   uint32_t size; /* how many bytes it has */
   uint32_t lock; /* its LockPolicyType, VARPOLICY_TYPE_.. */
   uint32_t rank; /* how many '#' its name has, or VARPOLICY_RANK_WHOLE_NAMESPACE */
-} varpolicy_listed;
+} varpolicy_listing;
 
 /**
   Powers an engine on: the policy record becomes all zeros, the volatile store all 0xFF. The engine is
@@ -525,7 +529,7 @@ varpolicy_reader_start (
 
 /**
   Feeds a reader the next bytes of a dump. The status does not tell whether the entries are good:
-  varpolicy_reader_verdict does, at any time. After a bad entry no more bytes are taken.
+  varpolicy_reader_verdict does, at any time. Once it says ended, no more bytes are taken.
 
   @param[in,out] reader     The reader, with any content.
   @param[in]     piece      The bytes, whatever they are.
@@ -533,7 +537,7 @@ varpolicy_reader_start (
 
   @retval VARPOLICY_INVALID_PARAMETER  There are none, or more than VARPOLICY_MAX_PIECE. The reader stands
                                        as before.
-  @retval VARPOLICY_SUCCESS            The bytes arrived. After a bad entry they changed nothing.
+  @retval VARPOLICY_SUCCESS            The bytes arrived. If the reading had ended, they changed nothing.
 **/
 VARPOLICY_CALL uint32_t
 varpolicy_reader_feed (
@@ -570,7 +574,7 @@ varpolicy_reader_verdict (
   @retval VARPOLICY_NOT_FOUND  No entry begins there within the good ones; they end at the verdict's bytes.
   @retval VARPOLICY_SUCCESS    The entry's bytes are reader->bytes + at, as many as its size.
 **/
-VARPOLICY_CALL varpolicy_listed
+VARPOLICY_CALL varpolicy_listing
 varpolicy_reader_entry (
   const varpolicy_reader *reader,
   size_t                  at

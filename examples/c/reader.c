@@ -13,7 +13,7 @@
 
 static_assert(sizeof(varpolicy_reader) == VARPOLICY_READER_BYTES, "layout of a reader");
 static_assert(sizeof(varpolicy_verdict) == 16, "layout of the verdict");
-static_assert(sizeof(varpolicy_listed) == 16, "layout of what is told of an entry");
+static_assert(sizeof(varpolicy_listing) == 16, "layout of what is told of an entry");
 
 #define DUMP_BYTES 94
 
@@ -56,7 +56,7 @@ static void receive(const uint8_t *bytes, size_t length, size_t most) {
 /* A line for each good entry, and one for the verdict. */
 static void tell(void) {
   varpolicy_verdict verdict = varpolicy_reader_verdict(&Reader);
-  varpolicy_listed  entry;
+  varpolicy_listing  entry;
   size_t            at    = 0;
   unsigned          place = 0;
 

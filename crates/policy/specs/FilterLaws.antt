@@ -1,6 +1,6 @@
 -- What the filter tells: an entry whose slot is free, or has another fingerprint, has the target of none that was met, since entries with one target have
 -- one slot and one fingerprint. Assumes nothing.
-use Prim.Native.Nat.{ℕ, _+_}
+use Prim.Native.Nat.{_+_}
 use mathlib.Core.Path.{_≡_, sym, ap₂, _∙_}
 use mathlib.Core.List.{List, [], _∷_, _++_}
 use mathlib.Core.Bool.{true, false, _||_}

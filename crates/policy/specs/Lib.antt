@@ -9,3 +9,5 @@ pub mod Walk
 pub mod Best
 pub mod Filter
 pub mod FilterLaws
+pub mod Stated
+pub mod StatedLaws

@@ -4,7 +4,7 @@ ghost use mathlib.Core.List.{[], _∷_, _++_};
 ghost use mathlib.Core.Bool.{true, _||_, cond};
 ghost use Prim.Native.Nat.{_+_, _≤_, _<_};
 ghost use lib.ListN.{length, getD, take};
-ghost use Rattle.limits.specs.Limits.{noRank, maxEntries, policyBytes};
+ghost use Rattle.limits.specs.Limits.{entryHeader, noRank, maxEntries, policyBytes};
 ghost use Rattle.slices.specs.Bytes.{part, overwrite};
 ghost use Rattle.slices.specs.Chunks.{flat, contains};
 ghost use Rattle.names.specs.Name.{units, matches, variable};
@@ -12,6 +12,7 @@ ghost use Rattle.names.specs.Tail.{wholeUnits, TailOf};
 ghost use Rattle.entry.specs.Entry.{wellFormed, nameIsEmpty, nameOf, targets, rank, sameTarget};
 ghost use Rattle.policy.specs.Policy.{entryLength, entriesOf, sizesSum, packPolicy, emptyPolicy, validWithin, policyValid, checkWithin, policyCheck};
 ghost use Rattle.policy.specs.Dump.{dumpValid, dumpCheck};
+ghost use Rattle.policy.specs.Stated.{statedLength, statedOf, repeats};
 ghost use Rattle.policy.specs.Filter.{slots, keyOf, slotOf, fingerprintOf, Marks, marksWith};
 ghost use Rattle.policy.specs.Choice.{choiceOf};
 ghost use Rattle.policy.specs.Walk.{At, EntryEnds, Passed};
@@ -81,20 +82,54 @@ fn is_among(policy: &[u8], count: usize, e: &[u8]) -> bool
     false
 }
 
+// How many bytes the entry has that the bytes begin with, as its Size says; 0 where they are not there.
+fn stated_length(p: &[u8]) -> usize
+    ensures { λ r. ⌜ r ≡ statedLength (now (p .entry)) ⌝ }
+{
+    if p.len() < limits::ENTRY_HEADER {
+        return 0;
+    }
+    let n = slices::get16(p, limits::SIZE_AT);
+    if n < limits::ENTRY_HEADER {
+        return 0;
+    }
+    if p.len() < n {
+        return 0;
+    }
+    n
+}
+
+// Whether f is a well-formed entry with the namespace and the name of e: the namespaces first, since entries that share a slot of the filter differ there most often.
+fn repeats(e: &[u8], f: &[u8]) -> bool
+    requires { ⌜ (wellFormed (now e) ≡ true) × (entryHeader ≤ length (now f)) ⌝ }
+    ensures { λ r. ⌜ r ≡ repeats (now (e .entry)) (now (f .entry)) ⌝ }
+{
+    if !names::same_namespace(
+        &e[limits::NAMESPACE_AT..limits::MIN_SIZE_AT],
+        &f[limits::NAMESPACE_AT..limits::MIN_SIZE_AT],
+    ) {
+        return false;
+    }
+    if !entry::well_formed(f) {
+        return false;
+    }
+    names::same_name(entry::name_bytes(e), entry::name_bytes(f))
+}
+
 // Whether one of the entries that the bytes begin with, whatever they are, has the namespace and the name of e.
-pub fn is_listed(entries: &[u8], e: &[u8]) -> bool
+pub fn has_target(entries: &[u8], e: &[u8]) -> bool
     requires { ⌜ wellFormed (now e) ≡ true ⌝ }
-    ensures { λ r. ⌜ r ≡ contains (sameTarget (now (e .entry))) (entriesOf (now (entries .entry))) ⌝ }
+    ensures { λ r. ⌜ r ≡ contains (repeats (now (e .entry))) (statedOf (now (entries .entry))) ⌝ }
 {
     let mut at = 0;
-    let mut next = entry_length(entries);
+    let mut next = stated_length(entries);
     while 0 < next {
         let end = at + next;
-        if entry::same_target(e, &entries[at..end]) {
+        if repeats(e, &entries[at..end]) {
             return true;
         }
         at = end;
-        next = entry_length(&entries[at..]);
+        next = stated_length(&entries[at..]);
     }
     false
 }

@@ -6,7 +6,7 @@ use mathlib.Core.Bool.{Bool, true, false, not, _||_, cond}
 use native.Mathlib.Omega.{arith}
 use lib.ListN.{length, take, drop, set}
 use lib.Seq.{take-take, drop-drop}
-use lib.Dec.{eqb, ltb}
+use lib.Dec.{eqb}
 use borrow.Author.Tests.{lt-ltb, le-ltb}
 use Rattle.limits.specs.Limits.{maxEntries, policyBytes}
 use Rattle.slices.specs.Test.{_and_}
@@ -14,12 +14,13 @@ use Rattle.slices.specs.Bytes.{Bytes, part}
 use Rattle.slices.specs.PartLaws.{part-of, length-part, drop-take}
 use Rattle.slices.specs.Chunks.{contains}
 use Rattle.slices.specs.Filter.{joined}
-use Rattle.entry.specs.Entry.{wellFormed, sameTarget}
+use Rattle.entry.specs.Entry.{wellFormed}
 use Rattle.policy.specs.Policy.{entryLength, entriesOf}
 use Rattle.policy.specs.PolicyLaws.{entryLength-begins, entriesOf-stop, entriesOf-step}
+use Rattle.policy.specs.Stated.{statedOf, repeats}
 use Rattle.policy.specs.Filter.{slotOf, fingerprintOf}
-use Rattle.reader.specs.Reader.{filterAt, goodAt, countAt, readerBytes, held, good, count, put, stop, front, seen, admits, accepted, judged, stoppedAt, settled}
-use Rattle.reader.specs.Reading.{complete}
+use Rattle.reader.specs.Reader.{filterAt, goodAt, countAt, readerBytes, held, good, count, put, stop, rest, seen, admits, accepted, judged, stoppedIfDecided, allJudged}
+use Rattle.reader.specs.Reading.{decided}
 use Rattle.reader.specs.AcceptedLaws.{accepted-size, accepted-held, accepted-good, accepted-part}
 
 -- the entry e, and how many good ones there are before it
@@ -31,7 +32,7 @@ module _ (r e : Bytes) {n : ℕ} (c : n ≡ count r) where
 
   -- s is what the filter has in its slot, f its fingerprint, b whether it repeats one before it, which end at byte g
   module _ {s f g : ℕ} {b : Bool} (l : n < maxEntries) (q : s ≡ seen r e) (k : f ≡ fingerprintOf e) (o : g ≡ good r)
-      (t : b ≡ ((eqb s 255 || eqb s f) and contains (sameTarget e) (entriesOf (take g r)))) where
+      (t : b ≡ ((eqb s 255 || eqb s f) and contains (repeats e) (statedOf (take g r)))) where
     judgement : not b ≡ admits r e
     unfolding admits _and_
     judgement = rw (t, q, k, o, ← c, lt-ltb n maxEntries l)
@@ -69,7 +70,7 @@ hand r at to n l m e h =
       split = entriesOf-step n (part at to r) (sym e) h ∙ rw (t, d);
     }
 
--- ---- a walk over the complete entries from byte from on, which has come to byte at; r is the reader now, o the one before
+-- ---- a walk over the decided entries from byte from on, which has come to byte at; r is the reader now, o the one before
 pub record Judging (o : Bytes) (from to : ℕ) (r : Bytes) (at : ℕ) : Type 0 where
   pub size : length r ≡ readerBytes
   pub place : at ≡ good r
@@ -118,21 +119,21 @@ module _ {o r s : Bytes} {from to at n : ℕ} {b : Bool} (w : Judging o from to 
         rest = u;
       })
 
--- ---- the reader once all are judged: k is the one that the walk left, which has come to byte a, and b says whether a complete entry is left there
+-- ---- the reader once all are judged: k is the one that the walk left, which has come to byte a, and b says whether a decided entry is left there
 module _ {g h a : ℕ} {k : Bytes} {b : Bool} (r : Bytes) (u : g ≡ good r) (v : h ≡ held r) (q : k ≡ judged r (entriesOf (part g h r))) (p : a ≡ good k)
-    (w : held k ≡ held r) (t : b ≡ complete (part a h k)) where
-  front-is : k ≡ judged r (entriesOf (front r))
-  front-is = q ∙ rw (u, v)
+    (w : held k ≡ held r) (t : b ≡ decided (part a h k)) where
+  rest-is : k ≡ judged r (entriesOf (rest r))
+  rest-is = q ∙ rw (u, v)
 
-  left : complete (front k) ≡ b
+  left : decided (rest k) ≡ b
   left = sym (t ∙ rw (p, v, ← w))
 
-  settled-is : settled r ≡ cond b (stop k) k
-  unfolding stoppedAt
-  settled-is = ap stoppedAt (sym front-is) ∙ rw left
+  all-judged-is : allJudged r ≡ cond b (stop k) k
+  unfolding stoppedIfDecided
+  all-judged-is = ap stoppedIfDecided (sym rest-is) ∙ rw left
 
-  pub settled-stopped : {s : Bytes} → b ≡ true → s ≡ stop k → s ≡ settled r
-  settled-stopped z e = e ∙ sym (settled-is ∙ rw z)
+  pub judged-stopped : {s : Bytes} → b ≡ true → s ≡ stop k → s ≡ allJudged r
+  judged-stopped z e = e ∙ sym (all-judged-is ∙ rw z)
 
-  pub settled-going : b ≡ false → k ≡ settled r
-  settled-going z = sym (settled-is ∙ rw z)
+  pub judged-going : b ≡ false → k ≡ allJudged r
+  judged-going z = sym (all-judged-is ∙ rw z)

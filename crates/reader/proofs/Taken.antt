@@ -13,21 +13,21 @@ use Rattle.slices.specs.TestLaws.{and-no}
 use Rattle.slices.specs.Bytes.{Bytes, le16, part, overwrite}
 use Rattle.slices.specs.OverwriteLaws.{set-overwrites}
 use Rattle.status.specs.declared.Status.the-variants.{Success, InvalidParameter}
-use Rattle.reader.specs.Reading.{complete}
-use Rattle.reader.specs.ReadingLaws.{incomplete-entries}
-use Rattle.reader.specs.Reader.{heldAt, goodAt, readerBytes, held, good, put, stop, front, judged, stoppedAt, settled, taken, fed, isPiece, feedStatus, afterFeed}
+use Rattle.reader.specs.Reading.{decided}
+use Rattle.reader.specs.ReadingLaws.{undecided-entries}
+use Rattle.reader.specs.Reader.{heldAt, goodAt, readerBytes, held, good, put, stop, rest, judged, stoppedIfDecided, allJudged, taken, fed, isPiece, feedStatus, afterFeed}
 use Rattle.reader.specs.ReaderLaws.{length-put, put-same, put-behind, part-put}
 use Rattle.reader.proofs.Parts.{part-order}
 
 -- what stands behind the good entries once the bytes up to byte to are held, whose number the code writes first
-pub held-tells : {b : Bool} {g : ℕ} {t : Bytes} (r : Bytes) (to : ℕ) → length r ≡ readerBytes → to ≤ policyBytes → t ≡ put r heldAt to → g ≡ le16 t goodAt
-    → b ≡ complete (part g to t) → b ≡ complete (part (good r) to r)
-held-tells {b} {g} {t} r to h l e f q =
+pub hold-tells : {b : Bool} {g : ℕ} {t : Bytes} (r : Bytes) (to : ℕ) → length r ≡ readerBytes → to ≤ policyBytes → t ≡ put r heldAt to → g ≡ le16 t goodAt
+    → b ≡ decided (part g to t) → b ≡ decided (part (good r) to r)
+hold-tells {b} {g} {t} r to h l e f q =
     let n : g ≡ good r = f ∙ ap (λ (s : Bytes). le16 s goodAt) e ∙ put-behind r heldAt to (omega arith) goodAt (omega arith) in
-    q ∙ ap₂ (λ (m : ℕ) (s : Bytes). complete (part m to s)) n e ∙ ap complete (part-put r heldAt to (omega arith) (good r) to (omega arith))
+    q ∙ ap₂ (λ (m : ℕ) (s : Bytes). decided (part m to s)) n e ∙ ap decided (part-put r heldAt to (omega arith) (good r) to (omega arith))
 
--- the bytes up to byte to stand in s, and t is the reader with their number; b says whether a complete entry stands behind the good ones
-module _ {b : Bool} {t : Bytes} (s : Bytes) (to : ℕ) (n : length s ≡ readerBytes) (l : to ≤ policyBytes) (e : t ≡ put s heldAt to) (q : b ≡ complete (part (good s) to s)) where
+-- the bytes up to byte to stand in s, and t is the reader with their number; b says whether a decided entry stands behind the good ones
+module _ {b : Bool} {t : Bytes} (s : Bytes) (to : ℕ) (n : length s ≡ readerBytes) (l : to ≤ policyBytes) (e : t ≡ put s heldAt to) (q : b ≡ decided (part (good s) to s)) where
   number-held : held t ≡ to
   number-held = ap held e ∙ put-same s heldAt to (omega arith) (omega arith)
 
@@ -43,15 +43,15 @@ module _ {b : Bool} {t : Bytes} (s : Bytes) (to : ℕ) (n : length s ≡ readerB
   )
 
   -- or there is none to judge
-  pub unsettled : b ≡ false → t ≡ settled t
-  unfolding judged stoppedAt
-  unsettled z =
-      let f : front t ≡ part (good s) to s =
+  pub none-judged : b ≡ false → t ≡ allJudged t
+  unfolding judged stoppedIfDecided
+  none-judged z =
+      let f : rest t ≡ part (good s) to s =
       rw (number-held, number-good) (ap (part (good s) to) e ∙ part-put s heldAt to (omega arith) (good s) to (omega arith)) in
-      let c : complete (front t) ≡ false = ap complete f ∙ sym q ∙ z in
-      sym (rw (incomplete-entries (front t) c, c))
+      let c : decided (rest t) ≡ false = ap decided f ∙ sym q ∙ z in
+      sym (rw (undecided-entries (rest t) c, c))
 
-pub taken-is : {s t u : Bytes} {f : ℕ} (r p : Bytes) → f ≡ held r → s ≡ overwrite r f p → t ≡ put s heldAt (f + length p) → u ≡ settled t → u ≡ taken r p
+pub taken-is : {s t u : Bytes} {f : ℕ} (r p : Bytes) → f ≡ held r → s ≡ overwrite r f p → t ≡ put s heldAt (f + length p) → u ≡ allJudged t → u ≡ taken r p
 unfolding taken
 taken-is r p a b c d = d ∙ rw (c, b, a)
 

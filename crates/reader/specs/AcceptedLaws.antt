@@ -5,7 +5,7 @@ use native.Mathlib.Omega.{arith}
 use lib.ListN.{length, take, drop, set, length-set}
 use lib.Seq.{take-set-le, take-set-lt, drop-set-add}
 use Rattle.limits.specs.Limits.{policyBytes}
-use Rattle.slices.specs.Bytes.{Bytes, le16, part}
+use Rattle.slices.specs.Bytes.{Bytes, part}
 use Rattle.slices.specs.PartLaws.{part-take}
 use Rattle.slices.specs.Filter.{joined}
 use Rattle.policy.specs.Filter.{slots, slotOf, fingerprintOf}

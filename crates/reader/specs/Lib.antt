@@ -6,7 +6,10 @@ pub mod ListingLaws
 pub mod Reader
 pub mod ReaderLaws
 pub mod AcceptedLaws
-pub mod Held
+pub mod HasRead
 pub mod JudgedLaws
-pub mod HeldLaws
+pub mod HasReadLaws
+pub mod Pieces
+pub mod PiecesLaws
 pub mod Claim
+pub mod Readings

@@ -10,14 +10,14 @@ use Rattle.slices.specs.Test.{_and_}
 use Rattle.slices.specs.Bytes.{Bytes, le16, le16Bytes, part, overwrite}
 use Rattle.slices.specs.Chunks.{contains}
 use Rattle.slices.specs.Filter.{joined}
-use Rattle.entry.specs.Entry.{sameTarget}
 use Rattle.policy.specs.Policy.{entriesOf}
+use Rattle.policy.specs.Stated.{statedOf, repeats}
 use Rattle.policy.specs.Filter.{slots, slotOf, fingerprintOf}
 use Rattle.status.specs.declared.Status.{Status}
 use Rattle.status.specs.declared.Status.the-variants.{Success, InvalidParameter}
 use Rattle.reader.specs.declared.Verdict.{Verdict}
 use Rattle.reader.specs.declared.Listing.{Listing}
-use Rattle.reader.specs.Reading.{complete, listing}
+use Rattle.reader.specs.Reading.{decided, listing}
 
 -- where its parts begin: first the bytes that arrived, then the filter over the good entries, then three numbers of two bytes
 abbrev pub filterAt : ℕ
@@ -60,8 +60,8 @@ unfoldable pub fresh : Bytes → Bytes
 fresh r = overwrite r filterAt (replicate (readerBytes - filterAt) 0)
 
 -- the bytes behind the good entries
-abbrev pub front : Bytes → Bytes
-front r = part (good r) (held r) r
+abbrev pub rest : Bytes → Bytes
+rest r = part (good r) (held r) r
 
 -- what the filter has in the slot of an entry, and whether an entry like it may have been met
 abbrev pub seen : Bytes → Bytes → ℕ
@@ -70,9 +70,9 @@ seen r e = getD r (filterAt + slotOf e) 0
 abbrev pub mayRepeat : Bytes → Bytes → Bool
 mayRepeat r e = eqb (seen r e) 255 || eqb (seen r e) (fingerprintOf e)
 
--- whether the entry e, which stands behind the good ones, is good, and the reader where it is
+-- whether the entry e, which stands behind the good ones, is good: not one too many, and it repeats none of them; and the reader where it is
 unfoldable pub admits : Bytes → Bytes → Bool
-admits r e = ltb (count r) maxEntries and not (mayRepeat r e and contains (sameTarget e) (entriesOf (take (good r) r)))
+admits r e = ltb (count r) maxEntries and not (mayRepeat r e and contains (repeats e) (statedOf (take (good r) r)))
 
 unfoldable pub accepted : Bytes → Bytes → Bytes
 accepted r e = put (put (set r (filterAt + slotOf e) (joined (seen r e) (fingerprintOf e))) goodAt (good r + length e)) countAt (count r + 1)
@@ -82,16 +82,17 @@ unfoldable pub judged : Bytes → List Bytes → Bytes
 judged r [] = r
 judged r (e ∷ es) = cond (admits r e) (judged (accepted r e) es) r
 
--- and where a complete entry is left, it is bad
-unfoldable pub stoppedAt : Bytes → Bytes
-stoppedAt r = cond (complete (front r)) (stop r) r
+-- and where it is decided what is left, that is bad
+unfoldable pub stoppedIfDecided : Bytes → Bytes
+stoppedIfDecided r = cond (decided (rest r)) (stop r) r
 
-abbrev pub settled : Bytes → Bytes
-settled r = stoppedAt (judged r (entriesOf (front r)))
+-- the reader once all entries that are decided were judged
+abbrev pub allJudged : Bytes → Bytes
+allJudged r = stoppedIfDecided (judged r (entriesOf (rest r)))
 
 -- the reader after bytes for which there is room
 unfoldable pub taken : Bytes → Bytes → Bytes
-taken r p = settled (put (overwrite r (held r) p) heldAt (held r + length p))
+taken r p = allJudged (put (overwrite r (held r) p) heldAt (held r + length p))
 
 -- THE READER AFTER A PIECE: of bytes past the limit none is taken, and an entry that they belong to is bad
 unfoldable pub fed : Bytes → Bytes → Bytes

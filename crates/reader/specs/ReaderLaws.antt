@@ -87,6 +87,3 @@ module _ (r : Bytes) (i x : ℕ) (h : i < length r) where
 
   pub le16-set : (k : ℕ) → i < k → le16 (set r i x) k ≡ le16 r k
   le16-set k l = ap (λ (s : Bytes). le16 s k) (set-overwrites r i x h) ∙ le16-overwrite-behind r i (x ∷ []) one k (omega arith)
-
-  pub part-set : (a e : ℕ) → e ≤ i → part a e (set r i x) ≡ part a e r
-  part-set a e l = ap (part a e) (set-overwrites r i x h) ∙ part-overwrite r i (x ∷ []) one a e l

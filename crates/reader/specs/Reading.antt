@@ -5,7 +5,7 @@ use mathlib.Core.List.{List, [], _∷_, _++_}
 use mathlib.Core.Bool.{Bool, not, _||_, cond}
 use lib.ListN.{length, take, drop}
 use lib.Dec.{eqb, leb, ltb}
-use Rattle.limits.specs.Limits.{entryHeader, maxEntries, policyBytes}
+use Rattle.limits.specs.Limits.{entryHeader, maxEntryBytes, maxEntries, policyBytes}
 use Rattle.slices.specs.Test.{_and_}
 use Rattle.slices.specs.Bytes.{Bytes}
 use Rattle.slices.specs.Chunks.{flat, contains}
@@ -16,8 +16,8 @@ use Rattle.reader.specs.declared.Listing.{Listing}
 use Rattle.reader.specs.declared.Listing.the-variants.{Entry, NoEntry}
 
 -- the entry e may stand behind the entries es: within both limits, and it repeats none of them
-unfoldable pub joins : List Bytes → Bytes → Bool
-joins es e =
+unfoldable pub mayFollow : List Bytes → Bytes → Bool
+mayFollow es e =
     ltb (length es) maxEntries
     and leb (length (flat es) + length e) policyBytes
     and not (contains (sameTarget e) es)
@@ -25,7 +25,7 @@ joins es e =
 -- of well-formed entries that follow the good ones es, those up to the first that may not stand there
 unfoldable pub goodFrom : List Bytes → List Bytes → List Bytes
 goodFrom es [] = []
-goodFrom es (e ∷ behind) = cond (joins es e) (e ∷ goodFrom (es ++ (e ∷ [])) behind) []
+goodFrom es (e ∷ behind) = cond (mayFollow es e) (e ∷ goodFrom (es ++ (e ∷ [])) behind) []
 
 -- the good entries of the bytes, and how many bytes they take: the first byte of the first entry that is not good
 unfoldable pub goodOf : Bytes → List Bytes
@@ -34,13 +34,17 @@ goodOf d = goodFrom [] (entriesOf d)
 abbrev pub goodBytes : Bytes → ℕ
 goodBytes d = length (flat (goodOf d))
 
--- the bytes begin with a header and with as many bytes as its Size says
-unfoldable pub complete : Bytes → Bool
-complete p = leb entryHeader (length p) and leb (sizeField p) (length p)
+-- the bytes behind the good entries
+abbrev pub behind : Bytes → Bytes
+behind d = drop (goodBytes d) d
 
--- no bytes behind d can change which entries are good: there are more than the limit, or behind the good entries stands a complete one
+-- it is decided whether the bytes begin with a well-formed entry: a header is there, and as many bytes as its Size says, or its Size is more than an entry has
+unfoldable pub decided : Bytes → Bool
+decided p = leb entryHeader (length p) and (leb (sizeField p) (length p) || ltb maxEntryBytes (sizeField p))
+
+-- the reading has ended, and no bytes behind d change the verdict: there are more bytes than the limit, or it is decided what stands behind the good entries
 unfoldable pub ended : Bytes → Bool
-ended d = ltb policyBytes (length d) || complete (drop (goodBytes d) d)
+ended d = ltb policyBytes (length d) || decided (behind d)
 
 -- THE VERDICT: nothing but good entries; or the first bad one begins at `bytes`
 unfoldable pub verdictOf : Bytes → Verdict

@@ -8,9 +8,9 @@ use mathlib.Core.Logic.{_⊎_, inl, inr, _↔_}
 use native.Mathlib.Omega.{arith}
 use lib.ListN.{length, take, drop, length-append, take-append-drop}
 use lib.Seq.{take-append-seam, take-append-le, drop-append-le, take-all, take-at, drop-at, length-take-le}
-use lib.Dec.{eqb, ltb}
+use lib.Dec.{eqb, leb, ltb}
 use borrow.Author.Tests.{eq-eqb, ne-eqb, le-leb, lt-ltb, eqb-true, leb-true, ltb-true, not-true}
-use Rattle.limits.specs.Limits.{sizeAt, entryHeader, maxEntries, policyBytes}
+use Rattle.limits.specs.Limits.{sizeAt, entryHeader, maxEntryBytes, maxEntries, policyBytes}
 use Rattle.lists.specs.Lists.{All, nil, more}
 use Rattle.lists.specs.ListsLaws.{all-here, Less, less}
 use Rattle.slices.specs.TestLaws.{and-left, and-right, and-intro, or-cases, forced-off}
@@ -25,17 +25,17 @@ use Rattle.policy.specs.Policy.{lengthBy, entryLength, entriesOf, sizesSum}
 use Rattle.policy.specs.PolicyLaws.{WellFormed, Entries, entryLength-begins, entryLength-within, items-by, entriesOf-stop, entriesOf-step, entriesOf-formed, entries-append}
 use Rattle.policy.specs.Dump.{dumpValid}
 use Rattle.policy.specs.DumpLaws.{dump-flat, dump-entries, entriesOf-flat, entries-dump}
-use Rattle.reader.specs.Reading.{joins, goodFrom, goodOf, goodBytes, complete, ended, verdictOf}
+use Rattle.reader.specs.Reading.{mayFollow, goodFrom, goodOf, goodBytes, behind, decided, ended, verdictOf}
 
 -- ---- an entry that may stand behind others
-pub record Joins (es : List Bytes) (e : Bytes) : Type 0 where
+pub record Follows (es : List Bytes) (e : Bytes) : Type 0 where
   pub few : length es < maxEntries
   pub room : length (flat es) + length e ≤ policyBytes
   pub apart : contains (sameTarget e) es ≡ false
 
-pub joins-is : (es : List Bytes) (e : Bytes) → joins es e ≡ true → Joins es e
-unfolding joins
-joins-is es e j =
+pub follows-is : (es : List Bytes) (e : Bytes) → mayFollow es e ≡ true → Follows es e
+unfolding mayFollow
+follows-is es e j =
     let k = and-right _ _ j in
     record {
       few = ltb-true (length es) maxEntries (and-left _ _ j);
@@ -43,14 +43,14 @@ joins-is es e j =
       apart = not-true (contains (sameTarget e) es) (and-right _ _ k);
     }
 
-pub joins-entries : (es : List Bytes) (e : Bytes) → Entries es → WellFormed e → joins es e ≡ true → Entries (es ++ (e ∷ []))
-joins-entries es e a w j =
-    let k = joins-is es e j in
+pub follows-entries : (es : List Bytes) (e : Bytes) → Entries es → WellFormed e → mayFollow es e ≡ true → Entries (es ++ (e ∷ []))
+follows-entries es e a w j =
+    let k = follows-is es e j in
     entries-append es e a w (k .apart) (k .few) (k .room)
 
-pub entries-joins : (es : List Bytes) (e : Bytes) (l : List Bytes) → Entries (es ++ (e ∷ l)) → joins es e ≡ true
-unfolding joins flat
-entries-joins es e l a =
+pub entries-follow : (es : List Bytes) (e : Bytes) (l : List Bytes) → Entries (es ++ (e ∷ l)) → mayFollow es e ≡ true
+unfolding mayFollow flat
+entries-follow es e l a =
     let n = simp length-append at (a .few) in
     let m = simp (flat-append, length-append) at (a .room) in
     let c = forced-off (contains (sameTarget e) es) (λ t. sym (distinct-repeated sameTarget sameTarget-sym es e l t) ∙ a .apart) in
@@ -60,18 +60,18 @@ entries-joins es e l a =
 pub goodFrom-entries : (es l : List Bytes) → Entries es → All WellFormed l → Entries (es ++ goodFrom es l)
 unfolding goodFrom
 goodFrom-entries es [] a nil = rw (append-nil es) a
-goodFrom-entries es (e ∷ l) a (more w f) = go (joins es e) refl (λ k. goodFrom-entries (es ++ (e ∷ [])) l k f)
+goodFrom-entries es (e ∷ l) a (more w f) = go (mayFollow es e) refl (λ k. goodFrom-entries (es ++ (e ∷ [])) l k f)
   where
-    go : (b : Bool) → joins es e ≡ b → (Entries (es ++ (e ∷ [])) → Entries ((es ++ (e ∷ [])) ++ goodFrom (es ++ (e ∷ [])) l))
+    go : (b : Bool) → mayFollow es e ≡ b → (Entries (es ++ (e ∷ [])) → Entries ((es ++ (e ∷ [])) ++ goodFrom (es ++ (e ∷ [])) l))
         → Entries (es ++ cond b (e ∷ goodFrom (es ++ (e ∷ [])) l) [])
-    go true j ih = rw append-assoc at (ih (joins-entries es e a w j))
+    go true j ih = rw append-assoc at (ih (follows-entries es e a w j))
     go false j ih = rw (append-nil es) a
 
 -- they are the first, and what is behind them
 goodFrom-first : (es l : List Bytes) → goodFrom es l ++ drop (length (goodFrom es l)) l ≡ l
 unfolding goodFrom
 goodFrom-first es [] = refl
-goodFrom-first es (e ∷ l) = go (joins es e) (goodFrom (es ++ (e ∷ [])) l) (goodFrom-first (es ++ (e ∷ [])) l)
+goodFrom-first es (e ∷ l) = go (mayFollow es e) (goodFrom (es ++ (e ∷ [])) l) (goodFrom-first (es ++ (e ∷ [])) l)
   where
     go : (b : Bool) (g : List Bytes) → g ++ drop (length g) l ≡ l → cond b (e ∷ g) [] ++ drop (length (cond b (e ∷ g) [])) (e ∷ l) ≡ e ∷ l
     go true g ih = ap (λ (m : List Bytes). e ∷ m) ih
@@ -83,19 +83,19 @@ unfolding goodFrom
 goodFrom-all es [] a m = rw (append-nil es)
 goodFrom-all es (e ∷ l) a m =
     let s = append-assoc es (e ∷ []) l in
-    rw (entries-joins es e l a)
+    rw (entries-follow es e l a)
     (ap (λ (n : List Bytes). e ∷ n) (goodFrom-all (es ++ (e ∷ [])) l (rw s a) m ∙ rw s))
 
 -- none is good where the first may not stand there
 module _ (es : List Bytes) (p : Bytes) where
-  pub first-refused : (n : ℕ) → entryLength p ≡ n → (0 < n → joins es (take n p) ≡ false) → goodFrom es (entriesOf p) ≡ []
+  pub first-refused : (n : ℕ) → entryLength p ≡ n → (0 < n → mayFollow es (take n p) ≡ false) → goodFrom es (entriesOf p) ≡ []
   unfolding goodFrom
   first-refused zero e h = rw (entriesOf-stop p e)
   first-refused (suc n) e h = rw (entriesOf-step (suc n) p e (omega arith), h (omega arith))
 
-  pub refused-first : goodFrom es (entriesOf p) ≡ [] → (n : ℕ) → entryLength p ≡ n → 0 < n → joins es (take n p) ≡ false
+  pub refused-first : goodFrom es (entriesOf p) ≡ [] → (n : ℕ) → entryLength p ≡ n → 0 < n → mayFollow es (take n p) ≡ false
   unfolding goodFrom
-  refused-first h n e k = go (joins es (take n p)) (sym (ap (goodFrom es) (entriesOf-step n p e k)) ∙ h)
+  refused-first h n e k = go (mayFollow es (take n p)) (sym (ap (goodFrom es) (entriesOf-step n p e k)) ∙ h)
     where
       go : (b : Bool) → cond b (take n p ∷ goodFrom (es ++ (take n p ∷ [])) (entriesOf (drop n p))) [] ≡ [] → b ≡ false
       go true q = let z : _≡_ {A = ℕ} 0 1 = cc in absurd (omega arith)
@@ -146,10 +146,6 @@ good-front d =
     let s : d ≡ flat g ++ (r ++ z) = sym (take-append-drop (sizesSum d) d) ∙ ap (λ (b : Bytes). b ++ z) (sym (flat-chunks entryLength entryLength-within d) ∙ e) ∙ append-assoc (flat g) r z in
     ap (take (length (flat g))) s ∙ take-append-seam (flat g) (r ++ z)
 
--- the bytes behind them
-abbrev pub behind : Bytes → Bytes
-behind d = drop (goodBytes d) d
-
 pub good-split : (d : Bytes) → d ≡ flat (goodOf d) ++ behind d
 good-split d = sym (take-append-drop (goodBytes d) d) ∙ ap (λ (b : Bytes). b ++ behind d) (good-front d)
 
@@ -184,10 +180,10 @@ module _ (d x : Bytes) where
       n : ℕ
       n = entryLength (behind d ++ x)
 
-      go : 0 < n → Less (length (behind d)) n → joins (goodOf d) (take n (behind d ++ x)) ≡ false
+      go : 0 < n → Less (length (behind d)) n → mayFollow (goodOf d) (take n (behind d ++ x)) ≡ false
       go k (inl l) =
           let m : length (take n (behind d ++ x)) ≡ n = length-take-le n (behind d ++ x) (entryLength-within (behind d ++ x)) in
-          forced-off (joins (goodOf d) (take n (behind d ++ x))) (λ j. absurd (omega (arith, m, h n refl (l .0), joins-is (goodOf d) (take n (behind d ++ x)) j .room)))
+          forced-off (mayFollow (goodOf d) (take n (behind d ++ x))) (λ j. absurd (omega (arith, m, h n refl (l .0), follows-is (goodOf d) (take n (behind d ++ x)) j .room)))
       go k (inr l) =
           rw (take-append-le n (behind d) x (l .0))
           (refused-first (goodOf d) (behind d) (good-end d) n (entry-front (behind d) x n refl k (l .0)) k)
@@ -195,60 +191,89 @@ module _ (d x : Bytes) where
   pub good-past : policyBytes ≤ length d → goodOf (d ++ x) ≡ goodOf d
   good-past h = good-same (λ n e l. omega (arith, good-lengths d))
 
-  pub good-limit : length d ≡ policyBytes → goodOf (d ++ x) ≡ goodOf d
-  good-limit h = good-past (omega arith)
-
--- ---- a header, and as many bytes as its Size says
-pub record Complete (p : Bytes) : Type 0 where
+-- ---- it is decided what the bytes begin with
+pub record Decided (p : Bytes) : Type 0 where
   pub header : entryHeader ≤ length p
-  pub size : sizeField p ≤ length p
+  pub size : (sizeField p ≤ length p) ⊎ (maxEntryBytes < sizeField p)
 
-complete-is : (p : Bytes) → complete p ≡ true → Complete p
-unfolding complete
-complete-is p c = record { header = leb-true entryHeader (length p) (and-left _ _ c); size = leb-true (sizeField p) (length p) (and-right _ _ c) }
+pub decided-is : (p : Bytes) → decided p ≡ true → Decided p
+unfolding decided
+decided-is p c =
+    record { header = leb-true entryHeader (length p) (and-left _ _ c); size = go (or-cases (leb (sizeField p) (length p)) (ltb maxEntryBytes (sizeField p)) (and-right _ _ c)) }
+  where
+    go : (leb (sizeField p) (length p) ≡ true) ⊎ (ltb maxEntryBytes (sizeField p) ≡ true) → (sizeField p ≤ length p) ⊎ (maxEntryBytes < sizeField p)
+    go (inl k) = inl (leb-true (sizeField p) (length p) k)
+    go (inr k) = inr (ltb-true maxEntryBytes (sizeField p) k)
 
-is-complete : (p : Bytes) → Complete p → complete p ≡ true
-unfolding complete
-is-complete p c = and-intro _ _ (le-leb _ _ (c .header)) (le-leb _ _ (c .size))
+pub is-decided : (p : Bytes) → Decided p → decided p ≡ true
+unfolding decided
+is-decided p c = and-intro _ _ (le-leb _ _ (c .header)) (go (c .size))
+  where
+    go : (sizeField p ≤ length p) ⊎ (maxEntryBytes < sizeField p) → (leb (sizeField p) (length p) || ltb maxEntryBytes (sizeField p)) ≡ true
+    go (inl k) = rw (le-leb (sizeField p) (length p) k)
+    go (inr k) = rw (lt-ltb maxEntryBytes (sizeField p) k) (or-true (leb (sizeField p) (length p)))
 
-pub incomplete-none : (p : Bytes) → complete p ≡ false → entryLength p ≡ 0
-incomplete-none p c = go (entryLength p) refl
+pub undecided-none : (p : Bytes) → decided p ≡ false → entryLength p ≡ 0
+undecided-none p c = go (entryLength p) refl
   where
     go : (n : ℕ) → entryLength p ≡ n → n ≡ 0
     go zero e = refl
     go (suc n) e =
         let b = entryLength-begins (suc n) p e (omega arith) in
-        absurd (false≢true (sym c ∙ is-complete p (record { header = omega (arith, b .least, b .within); size = omega (arith, b .field, b .within) })))
+        absurd (false≢true (sym c ∙ is-decided p (record { header = omega (arith, b .least, b .within); size = inl (omega (arith, b .field, b .within)) })))
 
-pub incomplete-entries : (p : Bytes) → complete p ≡ false → entriesOf p ≡ []
-incomplete-entries p c = entriesOf-stop p (incomplete-none p c)
+pub undecided-entries : (p : Bytes) → decided p ≡ false → entriesOf p ≡ []
+undecided-entries p c = entriesOf-stop p (undecided-none p c)
 
-module _ (p x : Bytes) (c : complete p ≡ true) where
+-- no entry has a Size over the most
+oversized-none : (p : Bytes) → maxEntryBytes < sizeField p → entryLength p ≡ 0
+oversized-none p h = go (entryLength p) refl
+  where
+    go : (n : ℕ) → entryLength p ≡ n → n ≡ 0
+    go zero e = refl
+    go (suc n) e = let b = entryLength-begins (suc n) p e (omega arith) in absurd (omega (arith, b .field, b .most))
+
+module _ (p x : Bytes) (c : decided p ≡ true) where
   size-more : sizeField (p ++ x) ≡ sizeField p
-  size-more = sym (le16-take (length p) (p ++ x) sizeAt (omega (arith, complete-is p c .header))) ∙ ap (λ (l : Bytes). le16 l sizeAt) (take-append-seam p x)
+  size-more = sym (le16-take (length p) (p ++ x) sizeAt (omega (arith, decided-is p c .header))) ∙ ap (λ (l : Bytes). le16 l sizeAt) (take-append-seam p x)
 
-  pub complete-more : complete (p ++ x) ≡ true
-  complete-more =
-      let k = complete-is p c in
-      is-complete (p ++ x) (record { header = rw length-append (omega arith); size = rw (size-more, length-append) (omega arith) })
+  pub decided-more : decided (p ++ x) ≡ true
+  decided-more =
+      let k = decided-is p c in
+      is-decided (p ++ x) (record { header = rw length-append (omega (arith, k .header)); size = go (k .size) })
+    where
+      go : (sizeField p ≤ length p) ⊎ (maxEntryBytes < sizeField p) → (sizeField (p ++ x) ≤ length (p ++ x)) ⊎ (maxEntryBytes < sizeField (p ++ x))
+      go (inl k) = inl (rw (size-more, length-append) (omega arith))
+      go (inr k) = inr (rw size-more k)
 
-  pub complete-length : entryLength (p ++ x) ≡ entryLength p
+  pub decided-length : entryLength (p ++ x) ≡ entryLength p
   unfolding lengthBy
-  complete-length =
-      let k = complete-is p c .size in
-      let l : sizeField p ≤ length (p ++ x) = rw length-append (omega arith) in
-      rw (size-more, le-leb (sizeField p) (length p) k, le-leb (sizeField p) (length (p ++ x)) l, take-append-le (sizeField p) p x k)
+  decided-length = go (decided-is p c .size)
+    where
+      go : (sizeField p ≤ length p) ⊎ (maxEntryBytes < sizeField p) → entryLength (p ++ x) ≡ entryLength p
+      go (inl k) =
+          let l : sizeField p ≤ length (p ++ x) = rw length-append (omega arith) in
+          rw (size-more, le-leb (sizeField p) (length p) k, le-leb (sizeField p) (length (p ++ x)) l, take-append-le (sizeField p) p x k)
+      go (inr k) = oversized-none (p ++ x) (rw size-more k) ∙ sym (oversized-none p k)
+
+pub decided-ended : (d : Bytes) → decided (behind d) ≡ true → ended d ≡ true
+unfolding ended
+decided-ended d c = rw c (or-true (ltb policyBytes (length d)))
+
+pub past-ended : (d : Bytes) → policyBytes < length d → ended d ≡ true
+unfolding ended
+past-ended d l = rw (lt-ltb policyBytes (length d) l)
 
 -- ---- no bytes behind change which entries are good
-abbrev Ends : Bytes → Type 0
-Ends d = (policyBytes < length d) ⊎ (complete (behind d) ≡ true)
+abbrev pub Ends : Bytes → Type 0
+Ends d = (policyBytes < length d) ⊎ (decided (behind d) ≡ true)
 
 module _ (d : Bytes) (e : ended d ≡ true) where
-  ends : Ends d
+  pub ends : Ends d
   unfolding ended
-  ends = go (or-cases (ltb policyBytes (length d)) (complete (behind d)) e)
+  ends = go (or-cases (ltb policyBytes (length d)) (decided (behind d)) e)
     where
-      go : (ltb policyBytes (length d) ≡ true) ⊎ (complete (behind d) ≡ true) → Ends d
+      go : (ltb policyBytes (length d) ≡ true) ⊎ (decided (behind d) ≡ true) → Ends d
       go (inl h) = inl (ltb-true policyBytes (length d) h)
       go (inr c) = inr c
 
@@ -258,9 +283,9 @@ module _ (d : Bytes) (e : ended d ≡ true) where
     where
       go : Ends d → goodBytes d < length d
       go (inl h) = omega (arith, good-room d)
-      go (inr c) = omega (arith, good-lengths d, complete-is (behind d) c .header)
+      go (inr c) = omega (arith, good-lengths d, decided-is (behind d) c .header)
 
-  not-whole : eqb (goodBytes d) (length d) ≡ false
+  pub not-whole : eqb (goodBytes d) (length d) ≡ false
   not-whole = ne-eqb (goodBytes d) (length d) (λ q. omega (arith, ended-bad))
 
 module _ (d x : Bytes) (e : ended d ≡ true) where
@@ -269,7 +294,7 @@ module _ (d x : Bytes) (e : ended d ≡ true) where
     where
       go : Ends d → goodOf (d ++ x) ≡ goodOf d
       go (inl h) = good-past d x (omega arith)
-      go (inr c) = good-same d x (λ n k l. absurd (omega (arith, complete-length (behind d) x c, entryLength-within (behind d))))
+      go (inr c) = good-same d x (λ n k l. absurd (omega (arith, decided-length (behind d) x c, entryLength-within (behind d))))
 
   ended-behind : behind (d ++ x) ≡ behind d ++ x
   ended-behind = ap (λ (l : List Bytes). drop (length (flat l)) (d ++ x)) ended-stays ∙ drop-append-le (goodBytes d) d x (good-within d)
@@ -278,9 +303,9 @@ module _ (d x : Bytes) (e : ended d ≡ true) where
   unfolding ended
   ended-more = go (ends d e)
     where
-      go : Ends d → (ltb policyBytes (length (d ++ x)) || complete (behind (d ++ x))) ≡ true
+      go : Ends d → (ltb policyBytes (length (d ++ x)) || decided (behind (d ++ x))) ≡ true
       go (inl h) = rw (lt-ltb policyBytes (length (d ++ x)) (rw length-append (omega arith)))
-      go (inr c) = rw (ended-behind, complete-more (behind d) x c) (or-true (ltb policyBytes (length (d ++ x))))
+      go (inr c) = rw (ended-behind, decided-more (behind d) x c) (or-true (ltb policyBytes (length (d ++ x))))
 
   pub ended-verdict : verdictOf (d ++ x) ≡ verdictOf d
   unfolding verdictOf

@@ -10,10 +10,11 @@ ghost use Rattle.slices.specs.Test.{_and_};
 ghost use Rattle.slices.specs.Bytes.{part, overwrite};
 ghost use Rattle.slices.specs.Chunks.{contains};
 ghost use Rattle.slices.specs.Filter.{joined};
-ghost use Rattle.entry.specs.Entry.{wellFormed, sameTarget};
+ghost use Rattle.entry.specs.Entry.{wellFormed};
 ghost use Rattle.policy.specs.Policy.{entriesOf};
-ghost use Rattle.reader.specs.Reading.{complete};
-ghost use Rattle.reader.specs.Reader.{heldAt, goodAt, countAt, readerBytes, held, good, put, stop, fresh, admits, accepted, judged, settled, taken, fed, feedStatus, afterFeed, verdictIn, listingIn};
+ghost use Rattle.policy.specs.Stated.{statedOf, repeats};
+ghost use Rattle.reader.specs.Reading.{decided};
+ghost use Rattle.reader.specs.Reader.{heldAt, goodAt, countAt, readerBytes, held, good, put, stop, fresh, admits, accepted, judged, allJudged, taken, fed, feedStatus, afterFeed, verdictIn, listingIn};
 use status::Status;
 
 // Where its parts begin; `specs/Reader.antt` has the same for the rules.
@@ -27,11 +28,14 @@ const COUNT_AT: usize = GOOD_AT + 2;
 
 pub const READER_BYTES: usize = COUNT_AT + 2;
 
+// The most bytes of an entry.
+const MAX_ENTRY_BYTES: usize = limits::TRIGGER_NAME_AT + 2 * limits::MAX_NAME_SIZE;
+
 // The number of bytes held where no more are taken.
 const STOPPED: usize = 65535;
 
-// What a reader says of the bytes that arrived: whether they are good entries and nothing else; whether further bytes cannot change which entries are
-// good; how many these are, up to the first that is not, and how many bytes they take.
+// What a reader says of the bytes that arrived: whether they are good entries and nothing else; whether the reading has ended, so that no further bytes change
+// anything; how many entries are good, up to the first that is not, and how many bytes they take.
 pub struct Verdict {
     pub whole: bool,
     pub ended: bool,
@@ -39,18 +43,10 @@ pub struct Verdict {
     pub bytes: u32,
 }
 
-// What it tells of a good entry: its Size, its lock type and its rank.
+// What it tells of a good entry: its Size, its lock type and its rank; or that none begins there.
 pub enum Listing {
     Entry { size: u32, lock: u32, rank: u32 },
     NoEntry,
-}
-
-// Begins anew: nothing arrived.
-fn clear(r: &mut [u8])
-    requires { ⌜ length (now r) ≡ readerBytes ⌝ }
-    ensures { λ _. ⌜ now (r .exit) ≡ fresh (now (r .entry)) ⌝ }
-{
-    slices::fill(r, FILTER_AT, READER_BYTES - FILTER_AT, 0);
 }
 
 // A bad entry was met: no more is taken.
@@ -61,15 +57,17 @@ fn stop(r: &mut [u8])
     slices::put16(r, HELD_AT, STOPPED);
 }
 
-// Whether a complete entry stands from byte from up to byte to, or begins there.
-fn is_complete(r: &[u8], from: usize, to: usize) -> bool
+// Whether it is decided what begins at byte from, by the bytes up to byte to: a header is there, and as many bytes as its Size says, or its Size is more than an
+// entry has.
+fn is_decided(r: &[u8], from: usize, to: usize) -> bool
     requires { ⌜ (length (now r) ≡ readerBytes) × (from < 65536) × (to ≤ policyBytes) ⌝ }
-    ensures { λ b. ⌜ b ≡ complete (part from to (now (r .entry))) ⌝ }
+    ensures { λ b. ⌜ b ≡ decided (part from to (now (r .entry))) ⌝ }
 {
     if to < from + limits::ENTRY_HEADER {
         return false;
     }
-    slices::get16(r, from + limits::SIZE_AT) <= to - from
+    let size = slices::get16(r, from + limits::SIZE_AT);
+    (size <= to - from) | (MAX_ENTRY_BYTES < size)
 }
 
 // What a slot of the filter holds after an entry with that fingerprint.
@@ -83,10 +81,10 @@ fn joined(seen: u8, fingerprint: u8) -> u8
 // does not.
 fn repeats(r: &[u8], from: usize, to: usize, seen: u8, fingerprint: u8) -> bool
     requires { ⌜ (from ≤ to) × (to ≤ length (now r)) × (wellFormed (part from to (now r)) ≡ true) ⌝ }
-    ensures { λ b. ⌜ b ≡ ((eqb seen 255 || eqb seen fingerprint) and contains (sameTarget (part from to (now (r .entry)))) (entriesOf (take from (now (r .entry))))) ⌝ }
+    ensures { λ b. ⌜ b ≡ ((eqb seen 255 || eqb seen fingerprint) and contains (repeats (part from to (now (r .entry)))) (statedOf (take from (now (r .entry))))) ⌝ }
 {
     if (seen == 255) | (seen == fingerprint) {
-        return policy::is_listed(&r[..from], &r[from..to]);
+        return policy::has_target(&r[..from], &r[from..to]);
     }
     false
 }
@@ -122,7 +120,7 @@ fn accept(r: &mut [u8], from: usize, to: usize) -> bool
     true
 }
 
-// Takes the good ones of the complete entries that stand from byte from up to byte to, up to the first that is not good, and tells where they end.
+// Takes the good ones of the decided entries that stand from byte from up to byte to, up to the first that is not good, and tells where they end.
 fn take_good(r: &mut [u8], from: usize, to: usize) -> usize
     requires { ⌜ (length (now r) ≡ readerBytes) × (from ≡ good (now r)) × (from ≤ to) × (to ≤ policyBytes) ⌝ }
     ensures after { λ _. ⌜ now (r .exit) ≡ judged (now (r .entry)) (entriesOf (part from to (now (r .entry)))) ⌝ }
@@ -141,28 +139,28 @@ fn take_good(r: &mut [u8], from: usize, to: usize) -> usize
     at
 }
 
-// Judges the complete entries behind the good ones; where one is left, it stops.
+// Judges the decided entries behind the good ones; where one is left, it stops.
 fn judge(r: &mut [u8])
     requires { ⌜ (length (now r) ≡ readerBytes) × (good (now r) ≤ held (now r)) × (held (now r) ≤ policyBytes) ⌝ }
-    ensures { λ _. ⌜ now (r .exit) ≡ settled (now (r .entry)) ⌝ }
+    ensures { λ _. ⌜ now (r .exit) ≡ allJudged (now (r .entry)) ⌝ }
 {
     let to = slices::get16(r, HELD_AT);
     let from = slices::get16(r, GOOD_AT);
     let at = take_good(r, from, to);
-    if is_complete(r, at, to) {
+    if is_decided(r, at, to) {
         stop(r);
     }
 }
 
-// Writes that the bytes up to byte to have arrived, and tells whether a complete entry stands behind the good ones now.
+// Writes that the bytes up to byte to have arrived, and tells whether a decided entry stands behind the good ones now.
 fn hold(r: &mut [u8], to: usize) -> bool
     requires { ⌜ (length (now r) ≡ readerBytes) × (to ≤ policyBytes) ⌝ }
     ensures after { λ _. ⌜ now (r .exit) ≡ put (now (r .entry)) heldAt to ⌝ }
-    ensures answer { λ b. ⌜ b ≡ complete (part (good (now (r .entry))) to (now (r .entry))) ⌝ }
+    ensures answer { λ b. ⌜ b ≡ decided (part (good (now (r .entry))) to (now (r .entry))) ⌝ }
 {
     slices::put16(r, HELD_AT, to);
     let good = slices::get16(r, GOOD_AT);
-    is_complete(r, good, to)
+    is_decided(r, good, to)
 }
 
 // Copies a piece of one byte to index at.
@@ -216,6 +214,14 @@ fn take_byte(r: &mut [u8], piece: &[u8])
     if hold(r, from + 1) {
         judge(r);
     }
+}
+
+// The four calls on the reader's bytes as a slice.
+fn clear(r: &mut [u8])
+    requires { ⌜ length (now r) ≡ readerBytes ⌝ }
+    ensures { λ _. ⌜ now (r .exit) ≡ fresh (now (r .entry)) ⌝ }
+{
+    slices::fill(r, FILTER_AT, READER_BYTES - FILTER_AT, 0);
 }
 
 fn feed_slice(r: &mut [u8], piece: &[u8]) -> Status
@@ -275,7 +281,7 @@ pub fn start(reader: &mut [u8; READER_BYTES])
     clear(reader)
 }
 
-// Feeds a piece.
+// Feeds a piece: 0, or 2 if it has no byte or more than MAX_PIECE; refused, the reader is as it was.
 pub fn feed(reader: &mut [u8; READER_BYTES], piece: &[u8]) -> Status
     ensures answer { λ s. ⌜ s ≡ feedStatus (now (piece .entry)) ⌝ }
     ensures after { λ _. ⌜ now (reader .exit) ≡ afterFeed (now (reader .entry)) (now (piece .entry)) ⌝ }
@@ -290,7 +296,7 @@ pub fn verdict_of(reader: &[u8; READER_BYTES]) -> Verdict
     verdict_in(reader)
 }
 
-// What it tells of the good entry that begins at that byte of the dump.
+// What it tells of the entry that begins at that byte of the dump, within the good ones.
 pub fn listing_at(reader: &[u8; READER_BYTES], at: usize) -> Listing
     ensures { λ l. ⌜ l ≡ listingIn (now (reader .entry)) at ⌝ }
 {

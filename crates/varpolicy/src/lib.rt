@@ -93,8 +93,8 @@ pub struct Quarrelled {
     pub name_length: usize,
 }
 
-// What a reader says of the bytes that it was fed (RULES.md, 10.12): whether they are good entries and nothing else, whether no further piece changes
-// anything, and of the good entries, up to the first that is not, how many they are and how many bytes they take.
+// What a reader says of the bytes that it was fed (RULES.md, 10.12): whether they are good entries and nothing else, whether the reading has ended, so that no further
+// piece changes anything, and of the good entries, up to the first that is not, how many they are and how many bytes they take.
 #[repr(C)]
 pub struct ReaderVerdict {
     pub status: u32,
@@ -365,8 +365,9 @@ pub extern "C" fn varpolicy_quarrels(dump: &[u8], name: &mut [u8; 128]) -> Quarr
     }
 }
 
-// The reader of a dump that arrives in pieces. Not a call on an engine: it is lent a reader alone, with any content.
-// Start: nothing arrived yet.
+// The reader of a dump that arrives in pieces: four calls that are lent a reader alone, with any content, and no part of an engine.
+
+// Start: nothing arrived yet. 0.
 #[no_mangle]
 pub extern "C" fn varpolicy_reader_start(reader: &mut [u8; reader::READER_BYTES]) -> u32
     ensures answer { λ s. ⌜ s ≡ statusNumber Success ⌝ }
@@ -376,7 +377,7 @@ pub extern "C" fn varpolicy_reader_start(reader: &mut [u8; reader::READER_BYTES]
     number(Status::Success)
 }
 
-// Feed: the piece is judged together with what arrived before it. One of another length than a piece may have is refused.
+// Feed: the piece is judged together with what arrived before it. 0, or 2 for one that has no byte or more than MAX_PIECE.
 #[no_mangle]
 pub extern "C" fn varpolicy_reader_feed(
     reader: &mut [u8; reader::READER_BYTES],
@@ -388,7 +389,7 @@ pub extern "C" fn varpolicy_reader_feed(
     number(reader::feed(reader, piece))
 }
 
-// Verdict: what the reader says of the bytes that arrived.
+// Verdict: what the reader says of the bytes that arrived. 0.
 #[no_mangle]
 pub extern "C" fn varpolicy_reader_verdict(reader: &[u8; reader::READER_BYTES]) -> ReaderVerdict
     ensures { λ r. ⌜ r ≡ readerVerdictOf (verdictIn (now (reader .entry))) ⌝ }
@@ -403,7 +404,7 @@ pub extern "C" fn varpolicy_reader_verdict(reader: &[u8; reader::READER_BYTES]) 
     }
 }
 
-// Entry: what the reader tells of the good entry that begins at that byte of the dump.
+// Entry: what the reader tells of the entry that begins at that byte of the dump, within the good ones. 0, or 14 where none does.
 #[no_mangle]
 pub extern "C" fn varpolicy_reader_entry(
     reader: &[u8; reader::READER_BYTES],

@@ -1,7 +1,7 @@
 //! One call of a history, as a value, and what it answers; run by the library or by the reference.
 
 use crate::state::{Guarded, State};
-use reference::{RegisterGround, SetGround};
+use reference::{Fault, RegisterGround, SetGround};
 use varpolicy::{Attributes, Namespace, Report, Status, SwitchBytes, calls};
 
 /// A call with its own arguments. The state is lent beside it.
@@ -114,6 +114,12 @@ pub enum Ground {
     Set(SetGround),
     Quarrel,
     NoQuarrel,
+    NoBytes,
+    ManyBytes,
+    Taken,
+    BehindEnd,
+    WholeDump,
+    BadEntry(Fault),
 }
 
 /// Makes the call through the reference.

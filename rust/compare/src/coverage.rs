@@ -2,16 +2,17 @@
 //! and the inputs that the comparison promises to try.
 
 use crate::call::Ground;
-use crate::inputs::{labels, reports};
+use crate::inputs::{labels, pieces, reports};
 use crate::tallies::{Each, Tallies};
 use crate::{damage, steps};
+use reference::Fault as F;
 use reference::RegisterGround as R;
 use reference::SetGround as S;
 use std::fmt;
 use varpolicy::Status;
 
 /// Every answer that can be hit: the call, the status, what decided it, and that in words.
-const ANSWERS: [(&str, Status, Ground, &str); 53] = [
+const ANSWERS: [(&str, Status, Ground, &str); 66] = [
     ("power-on", Status::VolumeCorrupted, Ground::Status, ""),
     ("power-on", Status::Success, Ground::Status, ""),
     ("restart", Status::VolumeCorrupted, Ground::Status, ""),
@@ -65,6 +66,19 @@ const ANSWERS: [(&str, Status, Ground, &str); 53] = [
     ("quarrels", Status::InvalidParameter, Ground::Status, "no dump"),
     ("quarrels", Status::Success, Ground::Quarrel, "two entries quarrel"),
     ("quarrels", Status::Success, Ground::NoQuarrel, "no two quarrel"),
+    ("reader", Status::Success, Ground::Status, "started"),
+    ("feed", Status::InvalidParameter, Ground::NoBytes, "no bytes"),
+    ("feed", Status::InvalidParameter, Ground::ManyBytes, "over 4,096 bytes"),
+    ("feed", Status::Success, Ground::Taken, ""),
+    ("feed", Status::Success, Ground::BehindEnd, "behind a bad entry"),
+    ("verdict", Status::Success, Ground::WholeDump, "a dump and nothing else"),
+    ("verdict", Status::Success, Ground::BadEntry(F::CutShort), "entry cut short"),
+    ("verdict", Status::Success, Ground::BadEntry(F::Malformed), "entry malformed"),
+    ("verdict", Status::Success, Ground::BadEntry(F::Repeated), "entry repeated"),
+    ("verdict", Status::Success, Ground::BadEntry(F::TooMany), "one entry over the limit"),
+    ("verdict", Status::Success, Ground::BadEntry(F::TooLong), "sum over the limit"),
+    ("entry", Status::NotFound, Ground::Status, "none is good"),
+    ("entry", Status::Success, Ground::Status, "the first good one"),
 ];
 
 /// A group of inputs.
@@ -136,6 +150,18 @@ pub enum Input {
     QuarrelRefused,
     Dump,
     QuarrelRebuilt,
+    PieceLength,
+    PieceEnd,
+    Refused,
+    Pieces,
+    ReadWhole,
+    ReadBad,
+    ReadBehind,
+    ReadEnd,
+    ReadLock,
+    ReadPlace,
+    AnyReader,
+    ReadDamage,
 }
 
 /// Every group of inputs with its title and what is counted in it, in the order of [`Input`].
@@ -278,6 +304,18 @@ fn groups() -> Vec<Group> {
         Group::new(QuarrelRefused, "no dump, for this alone, though two entries quarrel", labels::QUARREL_REFUSED),
         Group::new(Dump, "damage to a dump", damage::DUMP),
         Group::new(QuarrelRebuilt, "rebuild's dump, asked for a quarrel", ["none", "two entries quarrel"]),
+        Group::new(PieceLength, "length of a piece of a dump", pieces::PIECE_LENGTH),
+        Group::new(PieceEnd, "a piece ends, and another follows", pieces::PIECE_END),
+        Group::new(Refused, "piece that is refused, by its length and where it comes", pieces::refused_labels()),
+        Group::new(Pieces, "dump in pieces", pieces::PIECES),
+        Group::new(ReadWhole, "read in pieces: a dump and nothing else", pieces::READ_WHOLE),
+        Group::new(ReadBad, "read in pieces: the first bad entry", pieces::READ_BAD),
+        Group::new(ReadBehind, "read in pieces: what stands behind the bad entry", pieces::READ_BEHIND),
+        Group::new(ReadEnd, "read in pieces: when the reader ended", pieces::READ_END),
+        Group::new(ReadLock, "entry handed out by a reader", pieces::read_lock_labels()),
+        Group::new(ReadPlace, "byte at which an entry of a reader is asked for", pieces::READ_PLACE),
+        Group::new(AnyReader, "piece for a reader of any bytes", pieces::ANY_READER),
+        Group::new(ReadDamage, "damage to a dump in pieces", damage::DUMP),
     ]
 }
 

@@ -335,6 +335,12 @@ fn put_sign_in_a_trigger(random: &mut Random, record: &mut [u8], sizes: &[usize]
     }
 }
 
+/// The Size of the entry with which bytes begin, if it is there.
+pub fn size_field(bytes: &[u8]) -> Option<usize> {
+    let field = bytes.get(4..6)?;
+    Some(usize::from(u16::from_le_bytes([field[0], field[1]])))
+}
+
 /// The Sizes of the entries in a record, as far as they look like entries.
 pub fn entry_sizes(record: &[u8]) -> Vec<usize> {
     let mut sizes = Vec::new();

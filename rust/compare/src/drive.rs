@@ -4,7 +4,7 @@
 //! rebuilds: every answer and every byte of the stores and switches must be the same, and the policy
 //! record, granted dumps and the places in reports may differ only in the order of the entries, and only
 //! after a rebuild in another order (docs/RULES.md, 12.5). The dumps of rebuilds, and random ones beside
-//! each history, are asked for quarrels (10.11).
+//! each history, are asked for quarrels (10.11) and read in pieces (10.12).
 
 use crate::call::{Answer, Call, Ground, Values, by_library};
 use crate::comparison::{Comparison, Sides, check};
@@ -13,22 +13,24 @@ use crate::inputs::reports::ground_place;
 use crate::make::{Pool, packed};
 use crate::quarrels::{OLD_NAME, share_a_target};
 use crate::random::Random;
+use crate::reader::READER_BYTES;
+use crate::reading::{Fed, Watch};
 use crate::state::State;
-use crate::{FORMER_ENTRIES, damage, make};
+use crate::{FORMER_ENTRIES, damage, make, pieces};
 use reference::{Entry, MAX_ENTRIES, POLICY_BYTES, Policy};
 use varpolicy::{MAX_STORE_BYTES, Report, Status, SwitchBytes};
 
 /// Adds at least `calls` calls to a comparison, or tells the first difference in words.
 pub fn run(comparison: &mut Comparison, calls: u64, seed: u64) -> Result<(), String> {
     let enough = comparison.calls + calls;
-    let (random, dumps) = (Random::new(seed), Random::new(!seed));
-    let mut run = Run { random, dumps, pool: Pool::default(), comparison };
+    let (random, dumps, cuts) = (Random::new(seed), Random::new(!seed), Random::new(seed.rotate_left(32)));
+    let mut run = Run { random, dumps, cuts, pool: Pool::default(), comparison };
     let mut number = 0;
     while run.comparison.calls < enough {
         number += 1;
         run.pool = Pool::new(&mut run.random);
         let outcome = if run.random.one_in(5) { run.unrelated_calls() } else { run.history() };
-        let outcome = outcome.and_then(|()| run.random_dumps());
+        let outcome = outcome.and_then(|()| run.random_dumps()).and_then(|()| run.dumps_in_pieces());
         outcome.map_err(|what| format!("seed {seed}, history {number}, {what}"))?;
     }
     Ok(())
@@ -38,6 +40,8 @@ struct Run<'a> {
     random: Random,
     /// For the dumps, so that they change no history.
     dumps: Random,
+    /// For those that are read in pieces, and for the pieces.
+    cuts: Random,
     /// The names that the history at hand uses most.
     pool: Pool,
     comparison: &'a mut Comparison,
@@ -120,6 +124,28 @@ impl Run<'_> {
             self.comparison.quarrels(&dump, &old)?;
         }
         Ok(())
+    }
+
+    /// Random dumps, damaged or not, and random bytes, read in pieces that are cut by chance; and a reader of any bytes.
+    fn dumps_in_pieces(&mut self) -> Result<(), String> {
+        let random = &mut self.cuts;
+        for _ in 0..2 {
+            let entries = make::quarrelsome(random);
+            let (kind, mut dump) = damage::dump(random, &self.pool, entries);
+            if random.one_in(4) {
+                let count = random.pick(&[1, 5, 50, 5000]);
+                dump.extend(random.bytes(count));
+            } else {
+                self.comparison.coverage.input(Input::ReadDamage, kind);
+            }
+            let mut fed = Fed::new(&dump);
+            for _ in 0..2 {
+                self.comparison.read(&mut fed, &pieces::by_chance(random, dump.len()), Watch::Last)?;
+            }
+        }
+        let (content, piece) = (random.bytes(READER_BYTES), random.bytes(200));
+        let end = random.below(piece.len());
+        self.comparison.any_reader(&content, &[&piece[..end], &piece[end..]])
     }
 
     /// Distinct entries of the pool, sometimes behind so many others that they come to the limit or to the former one.
@@ -274,6 +300,7 @@ impl Run<'_> {
             None => self.dump_for_rebuild(history)?,
         };
         let quarrel = self.asked_for_quarrel(&entries)?;
+        self.read_in_pieces(&entries)?;
         let reorder = entries.len() > 1 && self.random.one_in(2) && !quarrel;
         if reorder {
             self.random.shuffle(&mut entries);
@@ -303,6 +330,16 @@ impl Run<'_> {
         check(found == quarrel(entries)?, "entries are unambiguous, and their dump has a quarrel, or neither")?;
         self.comparison.coverage.input(Input::QuarrelRebuilt, found.into());
         Ok(found)
+    }
+
+    /// Reads a dump of the entries in pieces: each of them is good.
+    fn read_in_pieces(&mut self, entries: &[Vec<u8>]) -> Result<(), String> {
+        let dump = entries.concat();
+        let mut fed = Fed::new(&dump);
+        self.comparison.read(&mut fed, &pieces::by_chance(&mut self.cuts, dump.len()), Watch::Last)?;
+        let reading = fed.reading(dump.len());
+        let good = reading.fault.is_none() && reading.entries.len() == entries.len();
+        check(good, "an engine's own dump has a bad entry")
     }
 
     /// The entries of a dump that the rebuild takes itself, into a buffer that is long enough.

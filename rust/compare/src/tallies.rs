@@ -1,6 +1,8 @@
 //! Inputs that are too many to be listed, and of which each must be hit: units of names, and places in names of every
-//! length; what the numbers of reports can be; and what quarrels can be.
+//! length; what the numbers of reports can be; what quarrels can be; and dumps in pieces.
 
+use crate::make::LONGEST;
+use crate::reader::MAX_PIECE;
 use reference::{MAX_ENTRIES, MAX_UNITS};
 use std::fmt;
 
@@ -51,6 +53,14 @@ pub enum Each {
     ApartOther,
     ApartBit,
     ApartNamespace,
+    ReadEntries,
+    ReadBefore,
+    ReadSigns,
+    ReadSize,
+    ReadPieceLength,
+    ReadRefused,
+    ReadPieceEnd,
+    ReadCut,
 }
 
 const UNITS: usize = 1 << 16;
@@ -68,11 +78,12 @@ const PAIRS: usize = 30 + 31 + 30 + 30;
 
 const FIRST_OF_REPORTS: usize = Each::ReportPlace as usize;
 const FIRST_OF_QUARRELS: usize = Each::QuarrelEarlier as usize;
+const FIRST_OF_READINGS: usize = Each::ReadEntries as usize;
 
 /// What is hit, in words, and how many there are of it; in the order of [`Each`]. No pattern and no trigger has the
 /// unit zero, and a name of one unit has no place between two. Names that quarrel have two units at least, at one place
 /// '#' and a digit and at another a digit and '#'.
-const TALLIES: [(Each, &str, usize); 43] = [
+const TALLIES: [(Each, &str, usize); 51] = [
     (Each::UnderSign, "units under '#', which is the whole pattern", UNITS),
     (Each::UnderSignOfFour, "units under '#', one of four units", UNITS),
     (Each::UnderSignOfEight, "units under '#', one of eight units", UNITS),
@@ -116,6 +127,14 @@ const TALLIES: [(Each, &str, usize); 43] = [
     (Each::ApartOther, "places of two units: no quarrel", PLACES),
     (Each::ApartBit, "bits in which they differ: no quarrel", 16),
     (Each::ApartNamespace, "bits in which namespaces differ: no quarrel", 128),
+    (Each::ReadEntries, "numbers of entries in a dump", MAX_ENTRIES + 1),
+    (Each::ReadBefore, "numbers of good entries before a bad one", MAX_ENTRIES + 1),
+    (Each::ReadSigns, "numbers of units with numbers of '#'", PLACES + MAX_UNITS),
+    (Each::ReadSize, "Sizes of entries", (LONGEST - 44) / 2),
+    (Each::ReadPieceLength, "lengths of pieces: 0", MAX_PIECE),
+    (Each::ReadRefused, "lengths of pieces up to twice the most: 2", MAX_PIECE),
+    (Each::ReadPieceEnd, "places in the longest entry where a piece ends", LONGEST - 1),
+    (Each::ReadCut, "places in it where the dump ends", LONGEST - 1),
 ];
 
 /// The number of a place in a name of so many units.
@@ -180,6 +199,7 @@ impl fmt::Display for Tallies {
                 }
                 FIRST_OF_REPORTS => writeln!(out, "\nreports")?,
                 FIRST_OF_QUARRELS => writeln!(out, "\nquarrels, and what is one but for this alone")?,
+                FIRST_OF_READINGS => writeln!(out, "\ndumps read in pieces")?,
                 _ => {}
             }
             writeln!(out, "  {title:<45}{hit:>8} of {count:>5}")?;

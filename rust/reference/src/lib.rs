@@ -12,6 +12,7 @@ mod entry;
 mod name;
 mod policy;
 mod quarrel;
+mod reading;
 mod report;
 mod store;
 mod switches;
@@ -22,6 +23,7 @@ pub use engine::{
 pub use entry::{Entry, LockRule, Trigger};
 pub use policy::Policy;
 pub use quarrel::{Quarrelled, quarrels};
+pub use reading::{Fault, Listed, Reading, read_dump};
 pub use report::{Ground, Report};
 pub use store::{Kind, Pair, Variable};
 pub use switches::{SwitchBytes, Switches, gives_leave};

@@ -1,5 +1,5 @@
 -- `reader::judge` meets its contract. Assumes nothing.
-use Rattle.reader.proofs.Judged.{settled-stopped, settled-going}
+use Rattle.reader.proofs.Judged.{judged-stopped, judged-going}
 use borrow.Author.Needs.{needs}
 use Rattle.reader.proofs.judge.Statement.{statement}
 use Rattle.reader.proofs.judge.Tie as tie
@@ -13,8 +13,8 @@ get16-requires-2 c κs = search needs
 take-good-requires : tie.Need-take-good-requires
 take-good-requires c κs = search needs
 
-is-complete-requires : tie.Need-is-complete-requires
-is-complete-requires c κs = search needs
+is-decided-requires : tie.Need-is-decided-requires
+is-decided-requires c κs = search needs
 
 stop-requires : tie.Need-stop-requires
 stop-requires c κs = search needs
@@ -23,7 +23,7 @@ same-length : tie.Need-same-length
 same-length c = search needs
 
 -- where the good entries were taken, from where it is known whether one is left, and the start
-abbrev Walked : tie.After-is-complete → tie.After-take-good
+abbrev Walked : tie.After-is-decided → tie.After-take-good
 Walked c = c .before .before .before .before
 
 abbrev Start : tie.After-take-good → tie.Start
@@ -36,7 +36,7 @@ returns c =
     let k = i .before in
     let t = Walked k in
     let x = Start t in
-    settled-stopped (x .args .r .now) (t .before .before .get162 .ensures .0) (t .before .before .before .before .get16 .ensures .0) (t .take-good .ensures .0) (t .take-good .ensures .1 .0) (t .take-good .ensures .1 .2) (k .is-complete .ensures) (i .if1 .taken) (s .stop .ensures)
+    judged-stopped (x .args .r .now) (t .before .before .get162 .ensures .0) (t .before .before .before .before .get16 .ensures .0) (t .take-good .ensures .0) (t .take-good .ensures .1 .0) (t .take-good .ensures .1 .2) (k .is-decided .ensures) (i .if1 .taken) (s .stop .ensures)
 
 same-length-2 : tie.Need-same-length-2
 same-length-2 c = search needs
@@ -46,7 +46,7 @@ returns-2 c =
     let k = c .before in
     let t = Walked k in
     let x = Start t in
-    settled-going (x .args .r .now) (t .before .before .get162 .ensures .0) (t .before .before .before .before .get16 .ensures .0) (t .take-good .ensures .0) (t .take-good .ensures .1 .0) (t .take-good .ensures .1 .2) (k .is-complete .ensures) (c .if1 .left)
+    judged-going (x .args .r .now) (t .before .before .get162 .ensures .0) (t .before .before .before .before .get16 .ensures .0) (t .take-good .ensures .0) (t .take-good .ensures .1 .0) (t .take-good .ensures .1 .2) (k .is-decided .ensures) (c .if1 .left)
 
 pub judge-spec : {M : Type 1} → statement M
 judge-spec =
@@ -55,7 +55,7 @@ judge-spec =
     get16-requires
     get16-requires-2
     take-good-requires
-    is-complete-requires
+    is-decided-requires
     stop-requires
     same-length
     returns

@@ -6,7 +6,6 @@ use lib.ListN.{length, set, length-set}
 use Rattle.slices.specs.Bytes.{Bytes, le16Bytes, overwrite}
 use Rattle.reader.specs.Reader.{goodAt, countAt, readerBytes, put}
 use Rattle.reader.specs.ReaderLaws.{length-put}
-use borrow.Author.Needs.{needs}
 use Rattle.reader.proofs.note.Statement.{statement}
 use Rattle.reader.proofs.note.Tie as tie
 

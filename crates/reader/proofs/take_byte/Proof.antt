@@ -6,8 +6,8 @@ use lib.ListN.{length}
 use Rattle.limits.specs.Limits.{policyBytes}
 use Rattle.slices.specs.Bytes.{Bytes}
 use Rattle.slices.specs.OverwriteLaws.{length-overwrite}
-use Rattle.reader.specs.Reader.{heldAt, readerBytes, put, settled, fed}
-use Rattle.reader.proofs.Taken.{ready, unsettled, taken-is, fed-room}
+use Rattle.reader.specs.Reader.{heldAt, readerBytes, put, allJudged, fed}
+use Rattle.reader.proofs.Taken.{ready, none-judged, taken-is, fed-room}
 use borrow.Author.Needs.{needs}
 use Rattle.reader.proofs.take_byte.Statement.{statement}
 use Rattle.reader.proofs.take_byte.Tie as tie
@@ -57,7 +57,7 @@ size c =
     let x = Start c in
     ap length (Copied c .copy-byte .ensures) ∙ length-overwrite (x .args .r .now) (From c) (x .args .piece .now) (omega (arith, x .pre .0, x .pre .1, within c)) ∙ x .pre .0
 
-taken-byte : (c : tie.After-hold) {u : Bytes} → u ≡ settled (c .hold .last .0) → u ≡ fed (Start c .args .r .now) (Start c .args .piece .now)
+taken-byte : (c : tie.After-hold) {u : Bytes} → u ≡ allJudged (c .hold .last .0) → u ≡ fed (Start c .args .r .now) (Start c .args .piece .now)
 taken-byte c e =
     let x = Start c in
     let r = x .args .r .now in
@@ -87,7 +87,7 @@ same-length-3 c = search needs
 returns-3 : tie.Need-returns-3
 returns-3 c =
     let h = c .before .before .before in
-    taken-byte h (unsettled (Copied h .copy-byte .last .0) (To h) (size h) (within h) (h .hold .ensures .0) (h .hold .ensures .1) (c .if2 .left))
+    taken-byte h (none-judged (Copied h .copy-byte .last .0) (To h) (size h) (within h) (h .hold .ensures .0) (h .hold .ensures .1) (c .if2 .left))
 
 pub take-byte-spec : {M : Type 1} → statement M
 take-byte-spec =

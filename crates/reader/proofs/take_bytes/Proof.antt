@@ -6,7 +6,7 @@ use lib.ListN.{length}
 use Rattle.limits.specs.Limits.{policyBytes}
 use Rattle.slices.specs.OverwriteLaws.{length-overwrite}
 use Rattle.reader.specs.Reader.{readerBytes}
-use Rattle.reader.proofs.Taken.{ready, unsettled, taken-is}
+use Rattle.reader.proofs.Taken.{ready, none-judged, taken-is}
 use borrow.Author.Needs.{needs}
 use Rattle.reader.proofs.take_bytes.Statement.{statement}
 use Rattle.reader.proofs.take_bytes.Tie as tie
@@ -60,7 +60,7 @@ returns-2 : tie.Need-returns-2
 returns-2 c =
     let h = c .before .before .before in
     let x = Start h in
-    taken-is (x .args .r .now) (x .args .bytes .now) (x .pre .1) (Copied h .copy-in .ensures) (h .hold .ensures .0) (unsettled (Copied h .copy-in .last .0) (To h) (size h) (within h) (h .hold .ensures .0) (h .hold .ensures .1) (c .if1 .left))
+    taken-is (x .args .r .now) (x .args .bytes .now) (x .pre .1) (Copied h .copy-in .ensures) (h .hold .ensures .0) (none-judged (Copied h .copy-in .last .0) (To h) (size h) (within h) (h .hold .ensures .0) (h .hold .ensures .1) (c .if1 .left))
 
 pub take-bytes-spec : {M : Type 1} → statement M
 take-bytes-spec =

@@ -1,9 +1,12 @@
 //! The bench readings (docs/RULES.md, 13), each run by the library and by the reference. Of those on an engine the last
 //! seven, from the store of 40 bytes on, are not proved, and of those of dumps the last six, from the names of 64 units
-//! on; this program is what checks them.
+//! on; this program is what checks them. Those of dumps in pieces are read in as few pieces as there can be, and byte by
+//! byte.
 
 use compare::call::{Answer, Call, Values, by_library, by_reference};
+use compare::lines;
 use compare::make::{EntryFields, G, entries_of_size, entries_of_sum, entry_of_size, packed, unit_bytes, units};
+use compare::pieces;
 use compare::quarrels::{self, Asked, OLD_NAME};
 use compare::state::{Guarded, State};
 use reference::POLICY_BYTES;
@@ -108,6 +111,43 @@ const DUMP_READINGS: [DumpReading; 21] = [
     ("to 16,386", || entries_of_sum(POLICY_BYTES + 2).concat(), NoDump),
 ];
 
+/// A reading of the reader of dumps: its text, the bytes, and the last lines that are expected.
+type PieceReading = (&'static str, fn() -> Vec<u8>, &'static [&'static str]);
+
+const FIRST_LINE: &str = "0 size 44 lock 1 marks all";
+const SECOND_LINE: &str = "1 size 50 lock 0 marks 1";
+
+const PIECE_READINGS: [PieceReading; 16] = [
+    ("two entries, 94 bytes", two_entries, &[FIRST_LINE, SECOND_LINE, "entries 2 bytes 94"]),
+    ("no bytes", Vec::new, &["entries 0 bytes 0"]),
+    ("the second malformed", || with_byte(44, 1), &[FIRST_LINE, "bad at 44"]),
+    ("the second cut by a byte", || two_entries()[..93].to_vec(), &[FIRST_LINE, "bad at 44"]),
+    ("one byte of the second", || two_entries()[..45].to_vec(), &[FIRST_LINE, "bad at 44"]),
+    ("the first malformed", || with_byte(0, 1), &["bad at 0"]),
+    ("a zero behind both", || [two_entries(), vec![0]].concat(), &[FIRST_LINE, SECOND_LINE, "bad at 94"]),
+    ("both twice", || two_entries().repeat(2), &[FIRST_LINE, SECOND_LINE, "bad at 94"]),
+    ("the first twice, then the second", first_twice, &[FIRST_LINE, "bad at 44"]),
+    ("`A#` with the trigger `T#`", || triggered("T#"), &["bad at 0"]),
+    (
+        "`A#` with the trigger `T0`, `#A`",
+        || triggered("T0"),
+        &["0 size 74 lock 3 marks 1", "1 size 50 lock 0 marks 1", "entries 2 bytes 124"],
+    ),
+    ("64 '#'", || free(&[&"#".repeat(64)]), &["0 size 174 lock 0 marks 64", "entries 1 bytes 174"]),
+    (
+        "128 entries of 44 bytes",
+        || entries_of_size(44, 128).concat(),
+        &["127 size 44 lock 0 marks all", "entries 128 bytes 5632"],
+    ),
+    ("one more", || entries_of_size(44, 129).concat(), &["127 size 44 lock 0 marks all", "bad at 5632"]),
+    (
+        "51 entries that sum to 16,384",
+        || entries_of_sum(POLICY_BYTES).concat(),
+        &["50 size 284 lock 3 marks 0", "entries 51 bytes 16384"],
+    ),
+    ("to 16,386", || entries_of_sum(POLICY_BYTES + 2).concat(), &["49 size 322 lock 3 marks 0", "bad at 16100"]),
+];
+
 fn main() -> ExitCode {
     let mut all_agree = true;
     let mut tell = |text: &str, agrees: bool, library: String, reference: String| {
@@ -127,6 +167,15 @@ fn main() -> ExitCode {
         let reference = quarrels::by_reference(&dump, &OLD_NAME);
         let agrees = library == expected && reference == expected;
         tell(&format!("a dump: {text}"), agrees, told(&library), told(&reference));
+    }
+    for (text, bytes, expected) in PIECE_READINGS {
+        let dump = bytes();
+        let reference = lines::by_reference(&dump);
+        let [library, single] =
+            [pieces::few(dump.len()), pieces::single(dump.len())].map(|pieces| lines::by_library(&dump, &pieces));
+        let agrees = library == reference && single == reference && ends_with(&reference, expected);
+        let last = |lines: &[String]| format!("{:?}", &lines[lines.len().saturating_sub(expected.len())..]);
+        tell(&format!("in pieces: {text}"), agrees, last(&library), last(&reference));
     }
     if all_agree { ExitCode::SUCCESS } else { ExitCode::FAILURE }
 }
@@ -433,6 +482,30 @@ fn told(asked: &Asked) -> String {
     }
     let units = asked.buffer[..name_length].chunks_exact(2).map(|unit| u16::from_le_bytes([unit[0], unit[1]]));
     format!("[{}, {earlier}, {later}] `{}`", status.number(), String::from_utf16_lossy(&units.collect::<Vec<u16>>()))
+}
+
+/// Whether these are the last lines, and all of them where they are numbered from 0.
+fn ends_with(lines: &[String], expected: &[&str]) -> bool {
+    let all = expected.len() == 1 || expected[0].starts_with("0 ");
+    let end = lines.get(lines.len().wrapping_sub(expected.len())..);
+    end.is_some_and(|end| end == expected) && (!all || lines.len() == expected.len())
+}
+
+/// The dump of two entries.
+fn two_entries() -> Vec<u8> {
+    [locked_now(""), entry("A#")].iter().flat_map(EntryFields::pack).collect()
+}
+
+/// That dump with another byte at this place.
+fn with_byte(place: usize, byte: u8) -> Vec<u8> {
+    let mut dump = two_entries();
+    dump[place] = byte;
+    dump
+}
+
+fn first_twice() -> Vec<u8> {
+    let dump = two_entries();
+    [&dump[..44], &dump].concat()
 }
 
 fn dump(entries: &[EntryFields]) -> Vec<u8> {

@@ -283,7 +283,7 @@ pub(super) const CALLS: [&str; 9] =
 const PLACES: [&str; 3] = ["absent", "non-volatile", "volatile"];
 
 /// The labels of `rows` with each of `columns`.
-fn crossed(rows: &[impl Display], columns: &[impl Display]) -> Vec<String> {
+pub(super) fn crossed(rows: &[impl Display], columns: &[impl Display]) -> Vec<String> {
     rows.iter().flat_map(|row| columns.iter().map(move |column| format!("{row}, {column}"))).collect()
 }
 

@@ -3,6 +3,7 @@
 
 mod former;
 pub mod labels;
+pub mod pieces;
 pub mod quarrels;
 pub mod reports;
 mod set;

@@ -24,7 +24,7 @@ fn pair() -> [Vec<u8>; 2] {
 }
 
 /// Nothing, one entry, one of each type, a pair, and a pair with others before, between and behind.
-fn lists() -> Vec<Vec<Vec<u8>>> {
+pub(super) fn lists() -> Vec<Vec<Vec<u8>>> {
     let [one, other] = pair();
     let [a, b, c, d] = one_of_each_type();
     vec![
@@ -80,31 +80,36 @@ fn at_each_place(sweep: &mut Sweep, entry: &[u8]) -> Outcome {
     Ok(())
 }
 
-/// Entries with each field wrong, and with '#' at each place of a trigger's name.
-fn malformed(sweep: &mut Sweep) -> Outcome {
+/// Entries with each field wrong, and with '#' at each place of a trigger's name; among them some that are good.
+pub(super) fn bad_entries() -> Vec<Vec<u8>> {
     let good = [entry("Q"), entry("B#"), entry(""), entry("D").with_trigger(G, &units("T3"), 7)];
+    let mut wrong: Vec<EntryFields> = Vec::new();
     for fields in good {
-        let mut wrong: Vec<EntryFields> = vec![
+        wrong.extend([
             EntryFields { version: 0x0001_0001, ..fields.clone() },
             EntryFields { version: 0, ..fields.clone() },
             EntryFields { min_size: 1, max_size: 0, ..fields.clone() },
             EntryFields { must_have: 5, cant_have: 4, ..fields.clone() },
-        ];
+        ]);
         for off_by in [-44, -4, -2, -1, 1, 2, 4, 18, 44] {
             wrong.push(EntryFields { size_off_by: off_by, ..fields.clone() });
             wrong.push(EntryFields { offset_off_by: off_by, ..fields.clone() });
         }
         wrong.extend((0..=u8::MAX).map(|lock_type| EntryFields { lock_type, ..fields.clone() }));
-        wrong.iter().try_for_each(|fields| at_each_place(sweep, &fields.pack()))?;
     }
     for count in [1, 2, 3, 64] {
         for place in 0..count {
             let mut trigger = vec![0x54; count];
             trigger[place] = 0x23;
-            at_each_place(sweep, &entry("D").with_trigger(G, &trigger, 7).pack())?;
+            wrong.push(entry("D").with_trigger(G, &trigger, 7));
         }
     }
-    Ok(())
+    wrong.iter().map(EntryFields::pack).collect()
+}
+
+/// Those entries at each place.
+fn malformed(sweep: &mut Sweep) -> Outcome {
+    bad_entries().iter().try_for_each(|entry| at_each_place(sweep, entry))
 }
 
 /// Good and bad names of an entry and of its trigger.
@@ -125,7 +130,8 @@ fn bad_names(sweep: &mut Sweep) -> Outcome {
 }
 
 /// Each entry of a list repeated at each place, as it is and with other fields.
-fn repeats(sweep: &mut Sweep) -> Outcome {
+pub(super) fn repeated_lists() -> Vec<Vec<Vec<u8>>> {
+    let mut lists = Vec::new();
     let names = ["Q", "A#", "", "#0", "0", "#"];
     let entries = names.map(|name| entry(name).pack()).to_vec();
     for list in [&entries[..], &entries[2..], &entries[4..]] {
@@ -137,7 +143,7 @@ fn repeats(sweep: &mut Sweep) -> Outcome {
                 for place in 0..=list.len() {
                     let mut entries = list.to_vec();
                     entries.insert(place, repeat.pack());
-                    sweep.quarrels(&entries)?;
+                    lists.push(entries);
                 }
             }
         }
@@ -146,10 +152,15 @@ fn repeats(sweep: &mut Sweep) -> Outcome {
         for repeated in [0, place - 1] {
             let mut entries = entries_of_size(44, MAX_ENTRIES);
             entries[place] = entries[repeated].clone();
-            sweep.quarrels(&entries)?;
+            lists.push(entries);
         }
     }
-    Ok(())
+    lists
+}
+
+/// Those lists.
+fn repeats(sweep: &mut Sweep) -> Outcome {
+    repeated_lists().iter().try_for_each(|entries| sweep.quarrels(entries).map(|_| ()))
 }
 
 /// The list as it is, and with two entries that quarrel for the first two and for the last two.

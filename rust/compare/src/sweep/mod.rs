@@ -7,7 +7,9 @@ mod engine;
 mod entries;
 mod limits;
 mod names;
+mod pieces;
 mod quarrels;
+mod reading;
 mod reports;
 mod sets;
 mod signs;
@@ -33,7 +35,7 @@ type Outcome = Result<(), String>;
 
 type Part = (&'static str, fn(&mut Sweep) -> Outcome);
 
-const PARTS: [Part; 14] = [
+const PARTS: [Part; 16] = [
     ("entries", entries::run),
     ("engine", engine::run),
     ("choices", choices::run),
@@ -48,6 +50,8 @@ const PARTS: [Part; 14] = [
     ("reports", reports::run),
     ("quarrels", quarrels::run),
     ("dumps", dumps::run),
+    ("reading", reading::run),
+    ("pieces", pieces::run),
 ];
 
 struct Sweep<'a> {

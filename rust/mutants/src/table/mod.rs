@@ -19,6 +19,7 @@ mod limits;
 mod name;
 mod policy;
 mod quarrels;
+mod reading;
 mod reports;
 mod set;
 mod signs;
@@ -54,7 +55,7 @@ impl Edit {
 }
 
 /// The edits of each file in `reference/src`.
-const FILES: [(&str, &[Edit]); 25] = [
+const FILES: [(&str, &[Edit]); 26] = [
     ("lib.rs", limits::EDITS),
     ("lib.rs", former::LIMIT_EDITS),
     ("cursor.rs", limits::CURSOR_EDITS),
@@ -80,6 +81,7 @@ const FILES: [(&str, &[Edit]); 25] = [
     ("report.rs", reports::EDITS),
     ("switches.rs", switches::EDITS),
     ("quarrel.rs", quarrels::EDITS),
+    ("reading.rs", reading::EDITS),
 ];
 
 /// All edits, each with its file.

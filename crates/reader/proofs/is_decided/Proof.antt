@@ -1,9 +1,9 @@
--- `reader::is_complete` meets its contract. Assumes nothing.
+-- `reader::is_decided` meets its contract. Assumes nothing.
 use native.Mathlib.Omega.{arith}
 use Rattle.reader.proofs.Parts.{part-short, part-stated}
 use borrow.Author.Needs.{needs}
-use Rattle.reader.proofs.is_complete.Statement.{statement}
-use Rattle.reader.proofs.is_complete.Tie as tie
+use Rattle.reader.proofs.is_decided.Statement.{statement}
+use Rattle.reader.proofs.is_decided.Tie as tie
 
 add-if1 : tie.Need-add-if1
 add-if1 c = search needs
@@ -26,6 +26,6 @@ returns-2 c =
     let a = x .args in
     part-stated (a .from) (a .to) (a .r .now) (omega (arith, c .before .if1 .left)) (omega (arith, x .pre .0, x .pre .2)) (c .get16 .ensures .0)
 
-pub is-complete-spec : {M : Type 1} → statement M
-is-complete-spec =
+pub is-decided-spec : {M : Type 1} → statement M
+is-decided-spec =
     tie.close (tie.spec add-if1 returns add-get16 get16-requires sub-result returns-2)

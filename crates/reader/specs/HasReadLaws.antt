@@ -1,15 +1,15 @@
--- What a reader has that only its own calls write (`Held`), kept by each call: a fresh one has no bytes (`fresh-held`), and bytes fed come behind those that arrived
--- (`fed-held`). What it says of them: `held-verdict`, `held-listing`. Assumes nothing.
+-- What a reader has that only its own calls write (`HasRead`), kept by each call: a fresh one has no bytes (`fresh-read`), and bytes fed come behind those that arrived
+-- (`fed-read`). What it says of them: `read-verdict`, `read-listing`. Assumes nothing.
 use Prim.Native.Nat.{ℕ, _+_, _-_, _≤_, _<_}
 use mathlib.Core.Path.{_≡_, refl, sym, ap, _∙_}
 use mathlib.Core.List.{List, [], _++_, append-assoc}
-use mathlib.Core.Bool.{Bool, true, false, cond, or-true}
+use mathlib.Core.Bool.{Bool, true, false, cond}
 use mathlib.Core.Logic.{inl, inr}
 use native.Mathlib.Omega.{arith}
 use lib.ListN.{length, getD, take, drop, replicate, length-append, length-replicate, getD-replicate, List·getD-append, take-append-drop, drop-of-length-le}
 use lib.Seq.{drop-append-le, length-take-le}
-use lib.Dec.{leb, ltb}
-use borrow.Author.Tests.{le-leb, lt-leb, lt-ltb, le-ltb, ne-eqb, leb-true, leb-false}
+use lib.Dec.{leb}
+use borrow.Author.Tests.{le-leb, lt-leb, le-ltb, ne-eqb, leb-true, leb-false}
 use Rattle.limits.specs.Limits.{policyBytes}
 use Rattle.lists.specs.ListsLaws.{Less, less}
 use Rattle.slices.specs.Test.{_and_}
@@ -21,14 +21,14 @@ use Rattle.slices.specs.Chunks.{flat, chunks, chunksFrom}
 use Rattle.slices.specs.ChunksLaws.{flat-append}
 use Rattle.policy.specs.Filter.{slots}
 use Rattle.policy.specs.FilterLaws.{marks-none}
-use Rattle.reader.specs.Reading.{goodFrom, goodOf, goodBytes, complete, ended, verdictOf, listing}
-use Rattle.reader.specs.ReadingLaws.{behind, good-entries, good-room, good-split, good-more, good-past, good-grows, ended-bad, ended-stays, ended-more}
+use Rattle.reader.specs.Reading.{goodFrom, goodOf, goodBytes, behind, decided, ended, verdictOf, listing}
+use Rattle.reader.specs.ReadingLaws.{good-entries, good-room, good-split, good-more, good-past, good-grows, decided-ended, past-ended, ended-bad, ended-stays, ended-more}
 use Rattle.reader.specs.ListingLaws.{listing-none, listing-more}
 use Rattle.reader.specs.declared.Listing.the-variants.{Entry, NoEntry}
-use Rattle.reader.specs.Reader.{filterAt, heldAt, goodAt, countAt, readerBytes, held, put, stop, fresh, front, stoppedAt, taken, fed, verdictIn, listingIn}
+use Rattle.reader.specs.Reader.{filterAt, heldAt, goodAt, countAt, readerBytes, held, put, stop, fresh, stoppedIfDecided, taken, fed, verdictIn, listingIn}
 use Rattle.reader.specs.ReaderLaws.{drop-written, take-written, take-put, le16-overwrite-behind, length-put, put-same, put-behind, part-put}
-use Rattle.reader.specs.Held.{Tells, Has, Held, going, stopped}
-use Rattle.reader.specs.JudgedLaws.{front-taken, front-is, front-judged}
+use Rattle.reader.specs.HasRead.{Tells, Has, HasRead, going, stopped}
+use Rattle.reader.specs.JudgedLaws.{good-taken, rest-is, rest-judged}
 
 -- ---- a fresh reader
 le16-zeros : (m : ℕ) (s : Bytes) (j : ℕ) → j + 2 ≤ m → le16 (replicate m 0 ++ s) j ≡ 0
@@ -45,9 +45,9 @@ goodOf-none : goodOf [] ≡ []
 unfolding goodOf goodFrom chunks chunksFrom
 goodOf-none = refl
 
-incomplete-nil : complete [] ≡ false
-unfolding complete _and_
-incomplete-nil = refl
+undecided-nil : decided [] ≡ false
+unfolding decided _and_
+undecided-nil = refl
 
 module _ (r : Bytes) (n : length r ≡ readerBytes) where
   length-fresh : length (fresh r) ≡ readerBytes
@@ -66,17 +66,17 @@ module _ (r : Bytes) (n : length r ≡ readerBytes) where
         room = omega arith;
         holds = fresh-number slots (omega arith);
         bytes = refl;
-        tells = record { goods = fresh-number (slots + 2) (omega arith); counts = fresh-number (slots + 4) (omega arith); front = refl };
+        tells = record { goods = fresh-number (slots + 2) (omega arith); counts = fresh-number (slots + 4) (omega arith); bytes = refl };
         marks = marks-none (part filterAt heldAt (fresh r)) (length-part filterAt heldAt (fresh r) (omega (arith, length-fresh)));
       }
 
-  pub fresh-held : Held (fresh r) []
+  pub fresh-read : HasRead (fresh r) []
   unfolding flat
-  fresh-held = going (rw goodOf-none fresh-has) (rw goodOf-none incomplete-nil)
+  fresh-read = going (rw goodOf-none fresh-has) (rw goodOf-none undecided-nil)
 
 -- ---- a reader that stops
-stop-held : {r d : Bytes} → length r ≡ readerBytes → Tells r (goodOf d) → ended d ≡ true → Held (stop r) d
-stop-held {r} {d} n t e =
+stop-read : {r d : Bytes} → length r ≡ readerBytes → Tells r (goodOf d) → ended d ≡ true → HasRead (stop r) d
+stop-read {r} {d} n t e =
     let h : heldAt + 2 ≤ length r = omega arith in
     let k : held (stop r) ≡ 65535 = put-same r heldAt 65535 h (omega arith) in
     stopped
@@ -85,21 +85,17 @@ stop-held {r} {d} n t e =
     (record {
       goods = put-behind r heldAt 65535 h goodAt (omega arith) ∙ t .goods;
       counts = put-behind r heldAt 65535 h countAt (omega arith) ∙ t .counts;
-      front = take-put r heldAt 65535 h (goodBytes d) (omega (arith, good-room d)) ∙ t .front;
+      bytes = take-put r heldAt 65535 h (goodBytes d) (omega (arith, good-room d)) ∙ t .bytes;
     })
     e
 
-complete-ended : (d : Bytes) → complete (behind d) ≡ true → ended d ≡ true
-unfolding ended
-complete-ended d c = rw c (or-true (ltb policyBytes (length d)))
-
--- all good entries were accepted; where a complete one is left, it is bad
-stoppedAt-held : {r d : Bytes} → Has r d (goodOf d) → Held (stoppedAt r) d
-unfolding stoppedAt
-stoppedAt-held {r} {d} h = rw (front-is h (behind d) (sym (good-split d))) (go (complete (behind d)) refl)
+-- all good entries were accepted; where a decided one is left, it is bad
+judged-read : {r d : Bytes} → Has r d (goodOf d) → HasRead (stoppedIfDecided r) d
+unfolding stoppedIfDecided
+judged-read {r} {d} h = rw (rest-is h (behind d) (sym (good-split d))) (go (decided (behind d)) refl)
   where
-    go : (t : Bool) → complete (behind d) ≡ t → Held (cond t (stop r) r) d
-    go true c = stop-held (h .size) (h .tells) (complete-ended d c)
+    go : (t : Bool) → decided (behind d) ≡ t → HasRead (cond t (stop r) r) d
+    go true c = stop-read (h .size) (h .tells) (decided-ended d c)
     go false c = going h c
 
 -- ---- bytes for which there is room
@@ -149,77 +145,73 @@ module _ {r d : Bytes} {es : List Bytes} (h : Has r d es) (p : Bytes) (m : lengt
         tells = record {
           goods = longer-number goodAt (omega arith) ∙ h .tells .goods;
           counts = longer-number countAt (omega arith) ∙ h .tells .counts;
-          front = front-taken longer (d ++ p) es q longer-bytes f;
+          bytes = good-taken longer (d ++ p) es q longer-bytes f;
         };
         marks = rw longer-marks (h .marks);
       }
 
-taken-held : {r d : Bytes} → Has r d (goodOf d) → (p : Bytes) → length d + length p ≤ policyBytes → Held (taken r p) (d ++ p)
+taken-read : {r d : Bytes} → Has r d (goodOf d) → (p : Bytes) → length d + length p ≤ policyBytes → HasRead (taken r p) (d ++ p)
 unfolding taken
-taken-held {r} {d} h p m =
+taken-read {r} {d} h p m =
     let f : flat (goodOf d) ++ (behind d ++ p) ≡ d ++ p = sym (append-assoc (flat (goodOf d)) (behind d) p) ∙ ap (λ (s : Bytes). s ++ p) (sym (good-split d)) in
-    stoppedAt-held (rw (good-more d p) (front-judged (longer-has h p m (behind d ++ p) f) (good-entries d .formed) (behind d ++ p) f))
+    judged-read (rw (good-more d p) (rest-judged (longer-has h p m (behind d ++ p) f) (good-entries d .formed) (behind d ++ p) f))
 
 -- ---- what holds of both
-pub held-size : {r d : Bytes} → Held r d → length r ≡ readerBytes
-held-size (going h c) = h .size
-held-size (stopped n o t e) = n
+pub read-size : {r d : Bytes} → HasRead r d → length r ≡ readerBytes
+read-size (going h c) = h .size
+read-size (stopped n o t e) = n
 
-pub held-tells : {r d : Bytes} → Held r d → Tells r (goodOf d)
-held-tells (going h c) = h .tells
-held-tells (stopped n o t e) = t
+pub read-tells : {r d : Bytes} → HasRead r d → Tells r (goodOf d)
+read-tells (going h c) = h .tells
+read-tells (stopped n o t e) = t
 
 -- ---- more bytes than there is room for
-past-ended : (d : Bytes) → policyBytes < length d → ended d ≡ true
-unfolding ended
-past-ended d l = rw (lt-ltb policyBytes (length d) l)
-
-past-held : {r d : Bytes} → Has r d (goodOf d) → (p : Bytes) (k : ℕ) → length d + k ≡ policyBytes → k < length p → Held (stop (taken r (take k p))) (d ++ p)
-past-held {r} {d} h p k e l =
+past-read : {r d : Bytes} → Has r d (goodOf d) → (p : Bytes) (k : ℕ) → length d + k ≡ policyBytes → k < length p → HasRead (stop (taken r (take k p))) (d ++ p)
+past-read {r} {d} h p k e l =
     let n : length (take k p) ≡ k = length-take-le k p (omega arith) in
-    let t = taken-held h (take k p) (omega arith) in
+    let t = taken-read h (take k p) (omega arith) in
     let s : (d ++ take k p) ++ drop k p ≡ d ++ p = append-assoc d (take k p) (drop k p) ∙ ap (λ (s : Bytes). d ++ s) (take-append-drop k p) in
     let g : goodOf (d ++ p) ≡ goodOf (d ++ take k p) = ap goodOf (sym s) ∙ good-past (d ++ take k p) (drop k p) (rw length-append (omega arith)) in
-    stop-held (held-size t) (rw g (held-tells t)) (past-ended (d ++ p) (rw length-append (omega arith)))
+    stop-read (read-size t) (rw g (read-tells t)) (past-ended (d ++ p) (rw length-append (omega arith)))
 
 -- ---- ANY BYTES
-pub fed-held : {r d : Bytes} → Held r d → (p : Bytes) → Held (fed r p) (d ++ p)
+pub fed-read : {r d : Bytes} → HasRead r d → (p : Bytes) → HasRead (fed r p) (d ++ p)
 unfolding fed
-fed-held {r} {d} (going h c) p = rw (h .holds, le-leb (length d) policyBytes (h .room)) (go (leb (length p) (policyBytes - length d)) refl)
+fed-read {r} {d} (going h c) p = rw (h .holds, le-leb (length d) policyBytes (h .room)) (go (leb (length p) (policyBytes - length d)) refl)
   where
-    go : (t : Bool) → leb (length p) (policyBytes - length d) ≡ t → Held (cond t (taken r p) (stop (taken r (take (policyBytes - length d) p)))) (d ++ p)
-    go true q = taken-held h p (omega (arith, leb-true (length p) (policyBytes - length d) q, h .room))
-    go false q = past-held h p (policyBytes - length d) (omega (arith, h .room)) (leb-false (length p) (policyBytes - length d) q)
-fed-held {r} {d} (stopped n o t e) p = rw o (stopped n o (rw (ended-stays d p e) t) (ended-more d p e))
+    go : (t : Bool) → leb (length p) (policyBytes - length d) ≡ t → HasRead (cond t (taken r p) (stop (taken r (take (policyBytes - length d) p)))) (d ++ p)
+    go true q = taken-read h p (omega (arith, leb-true (length p) (policyBytes - length d) q, h .room))
+    go false q = past-read h p (policyBytes - length d) (omega (arith, h .room)) (leb-false (length p) (policyBytes - length d) q)
+fed-read {r} {d} (stopped n o t e) p = rw o (stopped n o (rw (ended-stays d p e) t) (ended-more d p e))
 
 -- ---- what the reader says
-going-on : (d : Bytes) → length d ≤ policyBytes → complete (behind d) ≡ false → ended d ≡ false
+going-on : (d : Bytes) → length d ≤ policyBytes → decided (behind d) ≡ false → ended d ≡ false
 unfolding ended
 going-on d l c = rw (c, le-ltb policyBytes (length d) l)
 
 -- THE VERDICT is that of the bytes read whole
-pub held-verdict : {r d : Bytes} → Held r d → verdictIn r ≡ verdictOf d
+pub read-verdict : {r d : Bytes} → HasRead r d → verdictIn r ≡ verdictOf d
 unfolding verdictIn verdictOf _and_
-held-verdict {r} {d} (going h c) = rw (h .holds, h .tells .goods, h .tells .counts, le-leb (length d) policyBytes (h .room), going-on d (h .room) c)
-held-verdict {r} {d} (stopped n o t e) = rw (o, t .goods, t .counts, e, ne-eqb (goodBytes d) (length d) (λ q. omega (arith, ended-bad d e)))
+read-verdict {r} {d} (going h c) = rw (h .holds, h .tells .goods, h .tells .counts, le-leb (length d) policyBytes (h .room), going-on d (h .room) c)
+read-verdict {r} {d} (stopped n o t e) = rw (o, t .goods, t .counts, e, ne-eqb (goodBytes d) (length d) (λ q. omega (arith, ended-bad d e)))
 
 -- AN ENTRY is told from the bytes of the good ones
-pub held-listing : {r d : Bytes} → Held r d → (at : ℕ) → listingIn r at ≡ listing (drop at (flat (goodOf d)))
+pub read-listing : {r d : Bytes} → HasRead r d → (at : ℕ) → listingIn r at ≡ listing (drop at (flat (goodOf d)))
 unfolding listingIn
-held-listing {r} {d} h at =
+read-listing {r} {d} h at =
     let n = goodBytes d in
-    let t = held-tells h in
-    ap listing (ap (λ (e : ℕ). part at e r) (t .goods) ∙ sym (part-take at n n r (omega arith)) ∙ ap (part at n) (t .front) ∙ part-rest at n (flat (goodOf d)) (omega arith))
+    let t = read-tells h in
+    ap listing (ap (λ (e : ℕ). part at e r) (t .goods) ∙ sym (part-take at n n r (omega arith)) ∙ ap (part at n) (t .bytes) ∙ part-rest at n (flat (goodOf d)) (omega arith))
 
 -- what is told of a place is told of it when more bytes have arrived
-pub listing-stays : {r s d : Bytes} (x : Bytes) → Held r d → Held s (d ++ x) → (at size lock rank : ℕ) → listingIn r at ≡ Entry size lock rank → listingIn s at ≡ Entry size lock rank
-listing-stays {r} {s} {d} x h k at size lock rank e = held-listing k at ∙ go (less (goodBytes d) at)
+pub listing-stays : {r s d : Bytes} (x : Bytes) → HasRead r d → HasRead s (d ++ x) → (at size lock rank : ℕ) → listingIn r at ≡ Entry size lock rank → listingIn s at ≡ Entry size lock rank
+listing-stays {r} {s} {d} x h k at size lock rank e = read-listing k at ∙ go (less (goodBytes d) at)
   where
     g : flat (goodOf (d ++ x)) ≡ flat (goodOf d) ++ flat (good-grows d x .0)
     g = ap flat (good-grows d x .1) ∙ flat-append (goodOf d) (good-grows d x .0)
 
     t : listing (drop at (flat (goodOf d))) ≡ Entry size lock rank
-    t = sym (held-listing h at) ∙ e
+    t = sym (read-listing h at) ∙ e
 
     go : Less (goodBytes d) at → listing (drop at (flat (goodOf (d ++ x)))) ≡ Entry size lock rank
     go (inl l) =
