@@ -1,17 +1,16 @@
 -- The reader once bytes have arrived. Assumes nothing.
 use Prim.Native.Nat.{ℕ, _+_, _-_, _≤_, _<_}
-use mathlib.Core.Path.{_≡_, sym, ap, ap₂, _∙_}
+use mathlib.Core.Path.{_≡_, refl, sym, ap, ap₂, _∙_}
 use mathlib.Core.List.{[], _∷_}
 use mathlib.Core.Bool.{Bool, true, false}
 use native.Mathlib.Omega.{arith}
-use lib.ListN.{length, getD, take, set}
+use lib.ListN.{length, getD, take}
 use lib.Dec.{leb}
 use borrow.Author.Tests.{le-leb, lt-leb}
 use Rattle.limits.specs.Limits.{policyBytes, maxPiece}
 use Rattle.slices.specs.Test.{_and_}
 use Rattle.slices.specs.TestLaws.{and-no}
 use Rattle.slices.specs.Bytes.{Bytes, le16, part, overwrite}
-use Rattle.slices.specs.OverwriteLaws.{set-overwrites}
 use Rattle.status.specs.declared.Status.the-variants.{Success, InvalidParameter}
 use Rattle.reader.specs.Reading.{decided}
 use Rattle.reader.specs.ReadingLaws.{undecided-entries}
@@ -71,10 +70,10 @@ module _ (r p : Bytes) where
     fed-past l = rw (le-leb (held r) policyBytes h, lt-leb (length p) (policyBytes - held r) l)
 
 -- a piece of one byte
-pub one-byte : (r p : Bytes) (i : ℕ) → i < length r → length p ≡ 1 → set r i (getD p 0 0) ≡ overwrite r i p
-one-byte r [] i h l = absurd (omega arith)
-one-byte r (x ∷ []) i h l = set-overwrites r i x h
-one-byte r (x ∷ y ∷ p) i h l = absurd (omega arith)
+pub one-byte : (p : Bytes) → length p ≡ 1 → getD p 0 0 ∷ [] ≡ p
+one-byte [] l = absurd (omega arith)
+one-byte (x ∷ []) l = refl
+one-byte (x ∷ y ∷ p) l = absurd (omega arith)
 
 -- ---- what a feed answers and leaves: s is the reader where the piece was taken
 module _ (r p : Bytes) where

@@ -3,9 +3,10 @@
 ghost use mathlib.Core.Path.{_≡_};
 ghost use mathlib.Core.Bool.{true, _||_, cond};
 ghost use Prim.Native.Nat.{_+_, _≤_, _<_};
+ghost use mathlib.Core.List.{[], _∷_};
 ghost use lib.ListN.{length, take, set};
 ghost use Rattle.limits.specs.Limits.{policyBytes};
-ghost use lib.Dec.{eqb};
+ghost use lib.Dec.{eqb, ltb};
 ghost use Rattle.slices.specs.Test.{_and_};
 ghost use Rattle.slices.specs.Bytes.{part, overwrite};
 ghost use Rattle.slices.specs.Chunks.{contains};
@@ -163,14 +164,6 @@ fn hold(r: &mut [u8], to: usize) -> bool
     is_decided(r, good, to)
 }
 
-// Copies a piece of one byte to index at.
-fn copy_byte(r: &mut [u8], at: usize, piece: &[u8])
-    requires { ⌜ (at < length (now r)) × (length (now piece) ≡ 1) ⌝ }
-    ensures { λ _. ⌜ now (r .exit) ≡ overwrite (now (r .entry)) at (now (piece .entry)) ⌝ }
-{
-    r[at] = piece[0];
-}
-
 // Takes bytes, for which there is room behind the `from` that are held.
 fn take_bytes(r: &mut [u8], from: usize, bytes: &[u8])
     requires { ⌜ (length (now r) ≡ readerBytes) × (from ≡ held (now r)) × (from + length (now bytes) ≤ policyBytes) ⌝ }
@@ -200,17 +193,29 @@ fn take_piece(r: &mut [u8], piece: &[u8])
     stop(r);
 }
 
-// The same of one byte, in few instructions.
-fn take_byte(r: &mut [u8], piece: &[u8])
-    requires { ⌜ (length (now r) ≡ readerBytes) × (length (now piece) ≡ 1) ⌝ }
-    ensures { λ _. ⌜ now (r .exit) ≡ fed (now (r .entry)) (now (piece .entry)) ⌝ }
+// Writes a byte at index at.
+fn put_byte(r: &mut [u8], at: usize, byte: u8)
+    requires { ⌜ at < length (now r) ⌝ }
+    ensures { λ _. ⌜ now (r .exit) ≡ overwrite (now (r .entry)) at (byte ∷ []) ⌝ }
+{
+    r[at] = byte;
+}
+
+// Whether there is room for a byte.
+fn has_room(r: &[u8]) -> bool
+    requires { ⌜ length (now r) ≡ readerBytes ⌝ }
+    ensures { λ b. ⌜ b ≡ ltb (held (now (r .entry))) policyBytes ⌝ }
+{
+    slices::get16(r, HELD_AT) < limits::POLICY_BYTES
+}
+
+// Takes a piece of one byte, for which there is room, in few instructions.
+fn take_byte(r: &mut [u8], byte: u8)
+    requires { ⌜ (length (now r) ≡ readerBytes) × (held (now r) < policyBytes) ⌝ }
+    ensures { λ _. ⌜ now (r .exit) ≡ fed (now (r .entry)) (byte ∷ []) ⌝ }
 {
     let from = slices::get16(r, HELD_AT);
-    if limits::POLICY_BYTES <= from {
-        take_piece(r, piece);
-        return;
-    }
-    copy_byte(r, from, piece);
+    put_byte(r, from, byte);
     if hold(r, from + 1) {
         judge(r);
     }
@@ -230,7 +235,11 @@ fn feed_slice(r: &mut [u8], piece: &[u8]) -> Status
     ensures after { λ _. ⌜ now (r .exit) ≡ afterFeed (now (r .entry)) (now (piece .entry)) ⌝ }
 {
     if piece.len() == 1 {
-        take_byte(r, piece);
+        if has_room(r) {
+            take_byte(r, piece[0]);
+            return Status::Success;
+        }
+        take_piece(r, piece);
         return Status::Success;
     }
     if piece.len() == 0 {
