@@ -79,12 +79,16 @@ fn joined(seen: u8, fingerprint: u8) -> u8
 }
 
 // Whether the entry from byte from up to byte to repeats one of those before it, where the filter has `seen` in its slot. Most often the filter tells that it
-// does not.
+// does not. The search is called in two places, since the compiler puts a function that is called in one into the loop over the entries, which then takes 18
+// instructions more for each.
 fn repeats(r: &[u8], from: usize, to: usize, seen: u8, fingerprint: u8) -> bool
     requires { ⌜ (from ≤ to) × (to ≤ length (now r)) × (wellFormed (part from to (now r)) ≡ true) ⌝ }
     ensures { λ b. ⌜ b ≡ ((eqb seen 255 || eqb seen fingerprint) and contains (repeats (part from to (now (r .entry)))) (statedOf (take from (now (r .entry))))) ⌝ }
 {
-    if (seen == 255) | (seen == fingerprint) {
+    if seen == 255 {
+        return policy::has_target(&r[..from], &r[from..to]);
+    }
+    if seen == fingerprint {
         return policy::has_target(&r[..from], &r[from..to]);
     }
     false

@@ -3,13 +3,16 @@
 use crate::calls::Call;
 use crate::lent::{Answer, Lent};
 use crate::parts::Part;
+use crate::reading::Reading;
 
-/// What is measured: a whole call, or a part of one.
+/// What is measured: a whole call, a part of one, or the calls that read a dump.
 pub enum Work {
     /// A whole call.
     Call(Call),
     /// A part.
     Part(Part),
+    /// The calls that read a dump.
+    Reading(Reading),
 }
 
 impl Work {
@@ -18,6 +21,7 @@ impl Work {
         match self {
             Work::Call(call) => call.is_refused(answer),
             Work::Part(part) => part.is_refused(answer),
+            Work::Reading(reading) => reading.is_refused(answer),
         }
     }
 }
@@ -32,6 +36,10 @@ pub struct Case {
     pub without: Option<Work>,
     /// What is lent.
     pub lent: Lent,
+    /// The function of the library whose instructions are counted, if it is not all that is measured.
+    pub counted: Option<&'static str>,
+    /// By what the figures are divided: how many bytes a dump has, where they are of each byte.
+    pub each: usize,
     /// What the library is held to.
     pub bar: Option<Bar>,
 }
@@ -39,7 +47,7 @@ pub struct Case {
 impl Case {
     /// A case whose work is measured whole.
     pub fn new(name: String, work: Work, lent: Lent) -> Case {
-        Case { name, work, without: None, lent, bar: None }
+        Case { name, work, without: None, lent, counted: None, each: 1, bar: None }
     }
 
     /// The work and, if there is one, what is subtracted.
@@ -53,8 +61,12 @@ impl Case {
 pub enum Bar {
     /// At most so many times the best of the ordinary versions.
     AtMost(f64),
+    /// At most so many times the first and so many times the second of the ordinary versions.
+    AtMostEach([f64; 2]),
     /// Less than the first of the ordinary versions.
     UnderFirst,
+    /// At most so many instructions.
+    Number(f64),
 }
 
 /// Cases with the same versions.

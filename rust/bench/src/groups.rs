@@ -5,7 +5,10 @@ use crate::case::{Bar, Case, Group, Growth, Work};
 use crate::inputs::{self, Policy, VOLATILE, variable};
 use crate::lent::{Lent, OURS};
 use crate::parts::Part;
-use varpolicy::{Attributes, Entry, Ground, Lock, MAX_ENTRIES, MAX_STORE_BYTES, MIN_ENTRY_SIZE, Name, POLICY_BYTES};
+use crate::reading::Reading;
+use varpolicy::{
+    Attributes, Entry, Ground, Lock, MAX_ENTRIES, MAX_PIECE, MAX_STORE_BYTES, MIN_ENTRY_SIZE, Name, POLICY_BYTES,
+};
 
 /// How many entries a policy record holds, from a quarter of the most to the most.
 const COUNTS: [usize; 4] = [MAX_ENTRIES / 4, MAX_ENTRIES / 2, MAX_ENTRIES / 4 * 3, MAX_ENTRIES];
@@ -137,14 +140,88 @@ pub fn quarrels() -> Group {
     Group { title, columns: &["library", "ordinary"], ratios: &["to ord."], cases, growth: Vec::new() }
 }
 
+/// A dump to read: what it is, and its entries.
+type Dump = (String, Vec<Entry>);
+
+/// Dumps of `count` entries. With triggers of the second length fewer fit.
+fn to_read(count: usize) -> Vec<Dump> {
+    let named = UNITS.map(|units| (format!("names of {units} units"), inputs::numbered(count, units)));
+    let by_chance = ("names by chance".into(), inputs::by_chance(count));
+    let triggered = |(units, _)| (format!("triggers of {units} units"), inputs::with_triggers(count, units));
+    let triggered = TRIGGERS.into_iter().filter(|(_, counts)| count <= counts[1]).map(triggered);
+    named.into_iter().chain([by_chance]).chain(triggered).collect()
+}
+
+/// A dump in pieces of so many bytes.
+fn in_pieces(piece: usize, what: String, entries: &[Entry]) -> Case {
+    Case::new(what, Work::Reading(Reading::Pieces(piece)), inputs::with_entries(entries))
+}
+
+/// A dump read in the largest pieces, beside ordinary Rust and the check of a record with the same entries. The library is
+/// held to bars where the entries are most. Where names have one slot there are none: its search is then quadratic.
+pub fn reading() -> Group {
+    let case = |count: usize, (what, entries): Dump| {
+        let bar = (count == MAX_ENTRIES).then_some(Bar::AtMostEach([1.25, 1.5]));
+        Case { bar, ..in_pieces(MAX_PIECE, format!("read, {count} entries, {what}"), &entries) }
+    };
+    let crafted = |count: usize| {
+        let what = format!("read, {count} entries, names of one slot");
+        in_pieces(MAX_PIECE, what, &inputs::entries_of_one_slot(count))
+    };
+    let of_count = |count: usize| to_read(count).into_iter().map(move |dump| (count, dump));
+    let cases = COUNTS.into_iter().flat_map(of_count).map(|(count, dump)| case(count, dump));
+    Group {
+        title: "a dump read in the largest pieces",
+        columns: &["library", "one pass", "ordinary", "check"],
+        ratios: &["to ord.", "to check"],
+        cases: cases.chain([COUNTS[1], COUNTS[3]].map(crafted)).collect(),
+        growth: Vec::new(),
+    }
+}
+
+/// The instructions of each byte of the longest dumps, read in small pieces.
+pub fn small_pieces() -> Group {
+    let case = |piece: usize, (what, entries): Dump| {
+        let case = in_pieces(piece, format!("each byte, pieces of {piece}, {what}"), &entries);
+        Case { each: case.lent.policy_end, ..case }
+    };
+    let of_piece = |piece: usize| to_read(MAX_ENTRIES).into_iter().map(move |dump| (piece, dump));
+    let cases = [1, 16, 64].into_iter().flat_map(of_piece).map(|(piece, dump)| case(piece, dump)).collect();
+    let title = "a dump read in small pieces";
+    let columns = &["library", "one pass", "ordinary"];
+    Group { title, columns, ratios: &["to ord."], cases, growth: Vec::new() }
+}
+
+/// The same byte by byte, and the instructions of the function of the library alone: without the loop that calls it, and
+/// without the crate varpolicy between the two.
+pub fn single_bytes() -> Group {
+    let case = |(what, entries): Dump| {
+        let case = in_pieces(1, format!("each byte, the calls alone, {what}"), &entries);
+        let (counted, bar) = (Some("varpolicy_reader_feed"), Some(Bar::Number(40.0)));
+        Case { counted, each: case.lent.policy_end, bar, ..case }
+    };
+    let cases = to_read(MAX_ENTRIES).into_iter().map(case).collect();
+    let title = "a dump read byte by byte, the calls alone";
+    Group { title, columns: &["library"], ratios: &[], cases, growth: Vec::new() }
+}
+
+/// The list of the entries of a dump that was read: the same with it, less the same without.
+pub fn listing() -> Group {
+    let case = |(what, entries): Dump| {
+        let case = in_pieces(MAX_PIECE, format!("list, {} entries, {what}", entries.len()), &entries);
+        Case { without: Some(case.work), work: Work::Reading(Reading::List), ..case }
+    };
+    let cases = [COUNTS[1], COUNTS[3]].into_iter().flat_map(to_read).map(case).collect();
+    let title = "the list of a dump's entries";
+    Group { title, columns: &["library", "ordinary"], ratios: &["to ord."], cases, growth: Vec::new() }
+}
+
 /// The choice and what the chosen entry says: a set, less the same set with the engine disabled.
 pub fn choice_in_set() -> Group {
-    let case = |count: usize, (what, entries, name): Policy| Case {
-        name: format!("choice in a set, {count} entries, {what}"),
-        work: Work::Call(set_under(name, true)),
-        without: Some(Work::Call(set_under(name, false))),
-        lent: inputs::with_short_stores(&entries),
-        bar: Some(Bar::AtMost(1.0)),
+    let case = |count: usize, (what, entries, name): Policy| {
+        let case_name = format!("choice in a set, {count} entries, {what}");
+        let case = call(case_name, set_under(name, true), &inputs::with_short_stores(&entries), 1.0);
+        Case { without: Some(Work::Call(set_under(name, false))), ..case }
     };
     let title = "the choice, with what the chosen entry says";
     Group { title, columns: VERSIONS, ratios: RATIOS, cases: over_policies(case), growth: Vec::new() }
@@ -300,7 +377,7 @@ mod tests {
     fn each_refused_set_has_its_report() {
         let answer = |case: Case| match case.work {
             Work::Call(call) => call.run(0, &mut case.lent.clone()),
-            Work::Part(_) => panic!("a part"),
+            _ => panic!("not a call"),
         };
         let answers: Vec<Answer> = refused(64).into_iter().map(answer).collect();
         assert_eq!(answers, [[2, 1, 63, 0, 0, 0, 0], [2, 2, 63, 0, 1, 1, 1], [8, 3, 63, 0, 0, 0, 0]]);

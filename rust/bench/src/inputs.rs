@@ -1,7 +1,7 @@
 //! The bytes that are lent: stores, policy records, names.
 
 use crate::archive;
-use crate::lent::{Lent, OURS};
+use crate::lent::{Lent, OURS, Readers};
 use varpolicy::{Entry, Lock, MAX_STORE_BYTES, Name, POLICY_BYTES};
 
 /// No variables and no entries.
@@ -12,6 +12,7 @@ pub fn empty() -> Lent {
         policy: vec![0; POLICY_BYTES],
         policy_end: 0,
         buffer: vec![0; POLICY_BYTES],
+        readers: Readers::new(),
         calls: 0,
     }
 }
@@ -164,7 +165,7 @@ pub fn dumps(count: usize) -> Vec<(&'static str, Vec<Entry>)> {
 
 /// `count` entries by chance, of which no two target one variable: names of 4 to 20 units in three namespaces, a quarter
 /// of them with one to four '#'.
-fn by_chance(count: usize) -> Vec<Entry> {
+pub fn by_chance(count: usize) -> Vec<Entry> {
     let mut seed = 1_u64;
     let mut below = |most: usize| {
         seed = seed.wrapping_mul(6_364_136_223_846_793_005).wrapping_add(1);

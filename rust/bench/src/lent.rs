@@ -1,6 +1,7 @@
 //! What every version of a call or of a part is lent, and what it answers.
 
-use varpolicy::Namespace;
+use crate::plain::reader::Reader;
+use varpolicy::{Namespace, READER_BYTES};
 
 /// The namespace of all variables here, and of most entries.
 pub const OURS: Namespace = [7; 16];
@@ -31,6 +32,37 @@ pub struct Lent {
     pub policy_end: usize,
     /// What a dump, a copy or a move is written to.
     pub buffer: Vec<u8>,
+    /// What a reader of a dump is kept in.
+    pub readers: Readers,
     /// How many calls were made.
     pub calls: usize,
+}
+
+/// Readers of a dump: the bytes lent to the library, and those of ordinary Rust. Each is the version's own, so that they are
+/// not compared.
+#[derive(Clone)]
+pub struct Readers {
+    /// Lent to the library.
+    pub library: Box<[u8; READER_BYTES]>,
+    /// Ordinary Rust that goes over a name once.
+    pub one_pass: Box<Reader<true>>,
+    /// Ordinary Rust with what the check of a policy record has.
+    pub ordinary: Box<Reader<false>>,
+}
+
+impl Readers {
+    /// Readers that were not started.
+    pub fn new() -> Readers {
+        Readers {
+            library: Box::new([0; READER_BYTES]),
+            one_pass: Box::new(Reader::new()),
+            ordinary: Box::new(Reader::new()),
+        }
+    }
+}
+
+impl PartialEq for Readers {
+    fn eq(&self, _: &Readers) -> bool {
+        true
+    }
 }

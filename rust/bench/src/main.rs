@@ -16,10 +16,10 @@
 //!
 //! | File | What it holds |
 //! |---|---|
-//! | `lent` | what every version is lent, and what it answers |
 //! | `archive`, `plain` | the parts in the proved archive; the calls and their parts in ordinary Rust |
+//! | `lent` | what every version is lent, and what it answers |
 //! | `inputs` | the bytes that are lent |
-//! | `calls`, `parts` | a whole call, and a part, by the version of a column |
+//! | `calls`, `parts`, `reading` | a whole call, a part, and the calls that read a dump, by the version of a column |
 //! | `case` | what is measured, and the bars |
 //! | `groups` | which cases |
 //! | `measure`, `report` | how they are measured; the tables |
@@ -34,6 +34,7 @@ mod measure;
 mod parts;
 #[allow(missing_docs)]
 mod plain;
+mod reading;
 mod report;
 
 use case::Group;
@@ -48,19 +49,28 @@ first unit first. Every call checks all it is lent: two stores of 32,768 bytes w
 are named, one of 256 bytes. Names of one slot share a slot of the filter in the library's check. In rows of triggers
 all entries have the same one, and names of 8 units. In those of quarrels the entries are one dump; where '#' is named,
 all have it in one namespace, as often and in names of one length.
+A dump is read by a reader that is started, fed in pieces of 4,096 bytes or of as many as are named, and asked for its
+verdict. check: the check of a record with the same entries, in libbench_parts.a. ordinary: with what the ordinary check
+has. one pass: with one pass over a name for the test and the hash. The calls alone are the instructions of
+varpolicy_reader_feed, without the loop that calls it; by time there are none.
 A choice or a search trusts the check before it, so it is the difference of two calls of one function, with and without
 it: a set with the engine enabled and disabled, or a name and an empty one. Both run the same machine code, whatever the
 compiler inlined; the count of a function by its name would depend on that. The checks are calls that stop behind them.
 A comparison of two names is the difference to that of two empty ones, so that what a call itself costs does not count.
-The bars are for instructions. A number: at most so many times the best ordinary version of the row. under: less than
-pairwise. (memset and memmove are then told to use vector instructions: of `rep stosb` every byte would be counted.)
+The bars are for instructions. A number: at most so many times the best ordinary version of the row. Two: so many times
+ordinary and so many times check. 40: so many instructions for each byte. under: less than pairwise. (memset and memmove
+are then told to use vector instructions: of `rep stosb` every byte would be counted.)
 ";
 
 /// The groups of cases. Each is made by itself, so that a run under valgrind makes only its own.
-const GROUPS: [fn(&[u32]) -> Group; 11] = [
+const GROUPS: [fn(&[u32]) -> Group; 15] = [
     |_| groups::whole(),
     |_| groups::register(),
     |_| groups::quarrels(),
+    |_| groups::reading(),
+    |_| groups::small_pieces(),
+    |_| groups::single_bytes(),
+    |_| groups::listing(),
     |_| groups::choice_in_set(),
     |_| groups::choice(),
     |_| groups::comparison(),
@@ -102,7 +112,8 @@ fn bench(time: bool, instructions: bool, must_hold: bool, word: &str) -> ExitCod
     println!("{ABOUT}");
     if time {
         println!("NANOSECONDS of a call, the least in 60 rounds run in turn\n");
-        for group in groups.iter().filter(|group| group.title.contains(word)) {
+        let has_time = |group: &&Group| group.cases.iter().all(|case| case.counted.is_none());
+        for group in groups.iter().filter(|group| group.title.contains(word)).filter(has_time) {
             report::print(group, None, |case, _| Some(case.time(group.columns.len())));
         }
     }

@@ -45,23 +45,28 @@ impl Case {
                 *least = least.min(time_of_call(work, *column, lent));
             }
         }
-        least.chunks(runs.len() / columns).map(|with| with[0] - with.get(1).unwrap_or(&0.0)).collect()
+        let figure = |with: &[f64]| (with[0] - with.get(1).unwrap_or(&0.0)) / self.each as f64;
+        least.chunks(runs.len() / columns).map(figure).collect()
     }
 
-    /// One call that is not counted, and one that is.
+    /// One call that is not counted, and one that is. Where a function is counted by its name, the first would be too.
     pub fn one_call(&self, column: usize, with: bool) {
         let Some(work) = self.works().nth(usize::from(!with)) else { return };
         let mut lent = self.lent.clone();
-        black_box(run(work, column, &mut lent));
+        if self.counted.is_none() {
+            black_box(run(work, column, &mut lent));
+        }
         black_box(measured_call(work, column, &mut lent));
     }
 
     /// The instructions of a call in each column. The program runs itself under valgrind, once for each count;
     /// `place` are the words by which it then finds the case.
     pub fn instructions(&self, columns: usize, place: &[String]) -> Option<Vec<f64>> {
+        let counted = self.counted.unwrap_or("measured_call");
+        let count = |with: &str, column: usize| count_call(counted, with, column, place);
         let figure = |column: usize| {
-            let without = if self.without.is_some() { count_call("without", column, place)? } else { 0.0 };
-            Some(count_call("with", column, place)? - without)
+            let without = if self.without.is_some() { count("without", column)? } else { 0.0 };
+            Some((count("with", column)? - without) / self.each as f64)
         };
         (0..columns).map(figure).collect()
     }
@@ -86,10 +91,11 @@ fn time_of_call(work: &Work, column: usize, lent: &mut Lent) -> f64 {
     least
 }
 
-/// The instructions of one call.
-fn count_call(with: &str, column: usize, place: &[String]) -> Option<f64> {
+/// The instructions of a function in one call.
+fn count_call(counted: &str, with: &str, column: usize, place: &[String]) -> Option<f64> {
     let output = Command::new("valgrind")
-        .args(["--tool=callgrind", "--callgrind-out-file=/dev/null", "--toggle-collect=measured_call"])
+        .args(["--tool=callgrind", "--callgrind-out-file=/dev/null"])
+        .arg(format!("--toggle-collect={counted}"))
         .arg(std::env::current_exe().ok()?)
         .args(["one", &column.to_string(), with])
         .args(place)
@@ -115,5 +121,6 @@ fn run(work: &Work, column: usize, lent: &mut Lent) -> Answer {
     match work {
         Work::Call(call) => call.run(column, lent),
         Work::Part(part) => part.run(column, lent),
+        Work::Reading(reading) => reading.run(column, lent),
     }
 }

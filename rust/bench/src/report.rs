@@ -30,6 +30,11 @@ impl Verdict {
                 let best = ordinary.iter().copied().fold(f64::INFINITY, f64::min);
                 self.judge(&format!("{most:.2}"), library <= most * best)
             }
+            Bar::AtMostEach([first, second]) => {
+                let holds = library <= first * ordinary[0] && library <= second * ordinary[1];
+                self.judge(&format!("{first:.2} and {second:.2}"), holds)
+            }
+            Bar::Number(most) => self.judge(&format!("{most:.0}"), library <= most),
             Bar::UnderFirst => self.judge("under", library < ordinary[0]),
         }
     }
@@ -51,7 +56,8 @@ pub fn print(
         let judged = verdict.as_deref_mut().zip(case.bar);
         let judged = judged.map(|(verdict, bar)| verdict.judge_case(bar, library, ordinary));
         let ratios = ordinary.iter().map(|ordinary| format!("{:.2}", library / ordinary)).collect();
-        let cells = figures.iter().map(|figure| format!("{figure:.0}")).collect();
+        let digits = if case.each == 1 { 0 } else { 2 };
+        let cells = figures.iter().map(|figure| format!("{figure:.digits$}")).collect();
         print_row(&case.name, cells, ratios, &judged.unwrap_or_default());
         all.push(figures);
     }

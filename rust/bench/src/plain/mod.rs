@@ -12,6 +12,7 @@ pub mod parts;
 mod pattern;
 mod policy;
 mod quarrels;
+pub mod reader;
 mod stores;
 
 use varpolicy::MAX_NAME_UNITS;

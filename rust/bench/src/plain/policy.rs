@@ -15,7 +15,7 @@ pub fn is_entry(bytes: &[u8]) -> bool {
 
 /// The same, with the test of a name, if there is one, that begins at a place.
 #[inline(always)]
-fn is_entry_with(bytes: &[u8], has_name: impl FnOnce(usize) -> bool) -> bool {
+pub fn is_entry_with(bytes: &[u8], has_name: impl FnOnce(usize) -> bool) -> bool {
     if bytes.len() < ENTRY_HEADER {
         return false;
     }
@@ -47,7 +47,7 @@ fn ends_in_trigger(bytes: &[u8]) -> bool {
 
 /// The units from a place to the end of an entry, or to its name: 1 to 64 and then a zero unit.
 #[inline(always)]
-fn closed_units(bytes: &[u8], at: usize) -> Option<&[u8]> {
+pub fn closed_units(bytes: &[u8], at: usize) -> Option<&[u8]> {
     let len = bytes.len();
     if len < at + 2 || le16(bytes, len - 2) != 0 {
         return None;
