@@ -43,10 +43,11 @@ module _ (r e : Bytes) {n : ℕ} (c : n ≡ count r) where
     pub admitted : b ≡ false → true ≡ admits r e
     admitted z = ap not (sym z) ∙ judgement
 
-    -- the reader with it: it ends at byte h, its slot is i, and m is what the slot then holds
-    pub with-it : {i h m : ℕ} → i ≡ filterAt + slotOf e → m ≡ joined s f → h ≡ g + length e → put (put (set r i m) goodAt h) countAt (n + 1) ≡ accepted r e
+    -- z is the reader with it: it ends at byte h, its slot is i, m is what the slot then holds, and x the number of entries
+    pub with-it : {z : Bytes} {i h m x : ℕ} → z ≡ put (put (set r i m) goodAt h) countAt x → i ≡ filterAt + slotOf e → m ≡ joined s f → h ≡ g + length e → x ≡ n + 1
+        → z ≡ accepted r e
     unfolding accepted
-    with-it u v w = rw (u, v, w, q, k, o, c)
+    with-it a u v w y = a ∙ rw (u, v, w, y, q, k, o, c)
 
 -- ---- the entry of n bytes that stands from byte at on, of the bytes up to byte to
 pub record Hand (r : Bytes) (at to n : ℕ) : Type 0 where

@@ -3,19 +3,20 @@ use Prim.Native.Nat.{ℕ, _+_, _-_, _≤_, _<_}
 use mathlib.Core.Path.{_≡_, refl, sym, ap, ap₂, _∙_}
 use mathlib.Core.List.{[], _∷_}
 use mathlib.Core.Bool.{Bool, true, false}
+use mathlib.Core.Logic.{_⊎_}
 use native.Mathlib.Omega.{arith}
 use lib.ListN.{length, getD, take}
-use lib.Dec.{leb}
 use borrow.Author.Tests.{le-leb, lt-leb}
 use Rattle.limits.specs.Limits.{policyBytes, maxPiece}
-use Rattle.slices.specs.Test.{_and_}
-use Rattle.slices.specs.TestLaws.{and-no}
+use Rattle.slices.specs.TestLaws.{and-intro}
 use Rattle.slices.specs.Bytes.{Bytes, le16, part, overwrite}
 use Rattle.status.specs.declared.Status.the-variants.{Success, InvalidParameter}
 use Rattle.reader.specs.Reading.{decided}
 use Rattle.reader.specs.ReadingLaws.{undecided-entries}
 use Rattle.reader.specs.Reader.{heldAt, goodAt, readerBytes, held, good, put, stop, rest, judged, stoppedIfDecided, allJudged, taken, fed, isPiece, feedStatus, afterFeed}
 use Rattle.reader.specs.ReaderLaws.{length-put, put-same, put-behind, part-put}
+use Rattle.reader.specs.PiecesLaws.{stopped-stays}
+use Rattle.reader.specs.Claim.{piece-refused}
 use Rattle.reader.proofs.Parts.{part-order}
 
 -- what stands behind the good entries once the bytes up to byte to are held, whose number the code writes first
@@ -57,8 +58,7 @@ taken-is r p a b c d = d ∙ rw (c, b, a)
 -- ---- the reader after a piece, as the code goes
 module _ (r p : Bytes) where
   pub fed-stopped : policyBytes < held r → r ≡ fed r p
-  unfolding fed
-  fed-stopped h = rw (lt-leb (held r) policyBytes h)
+  fed-stopped h = sym (stopped-stays r p (lt-leb (held r) policyBytes h))
 
   module _ (h : held r ≤ policyBytes) where
     pub fed-room : length p ≤ policyBytes - held r → taken r p ≡ fed r p
@@ -77,16 +77,11 @@ one-byte (x ∷ y ∷ p) l = absurd (omega arith)
 
 -- ---- what a feed answers and leaves: s is the reader where the piece was taken
 module _ (r p : Bytes) where
-  pub fed-piece : {s : Bytes} → 1 ≤ length p → length p ≤ maxPiece → s ≡ fed r p → (Success ≡ feedStatus p) × (s ≡ afterFeed r p)
-  unfolding feedStatus afterFeed _and_
-  fed-piece a b e = (rw (le-leb 1 (length p) a, le-leb (length p) maxPiece b), e ∙ rw (le-leb 1 (length p) a, le-leb (length p) maxPiece b))
-
-  pub refused-empty : length p ≡ 0 → (InvalidParameter ≡ feedStatus p) × (r ≡ afterFeed r p)
-  unfolding feedStatus afterFeed _and_
-  refused-empty z = (rw z, rw z)
-
-  pub refused-long : maxPiece < length p → (InvalidParameter ≡ feedStatus p) × (r ≡ afterFeed r p)
+  pub fed-piece : {s : Bytes} → (length p ≡ 0 → ⊥) → length p ≤ maxPiece → s ≡ fed r p → (Success ≡ feedStatus p) × (s ≡ afterFeed r p)
   unfolding feedStatus afterFeed
-  refused-long h =
-      let k : isPiece p ≡ false = rw (lt-leb (length p) maxPiece h) (and-no (leb 1 (length p))) in
-      (rw k, rw k)
+  fed-piece a b e =
+      let k : isPiece p ≡ true = and-intro _ _ (le-leb 1 (length p) (omega arith)) (le-leb (length p) maxPiece b) in
+      (rw k, e ∙ rw k)
+
+  pub refused : (length p ≡ 0) ⊎ (maxPiece < length p) → (InvalidParameter ≡ feedStatus p) × (r ≡ afterFeed r p)
+  refused h = let k = piece-refused r p h in (sym (k .0), sym (k .1))

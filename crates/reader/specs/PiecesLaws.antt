@@ -58,7 +58,7 @@ refused-struck r (p ∷ ps) = go (isPiece p) refl (λ s. refused-struck s ps)
     go false q ih = ih r
 
 -- one that has stopped takes no bytes
-stopped-stays : (r p : Bytes) → isOpen r ≡ false → fed r p ≡ r
+pub stopped-stays : (r p : Bytes) → isOpen r ≡ false → fed r p ≡ r
 unfolding fed
 stopped-stays r p o = rw o
 

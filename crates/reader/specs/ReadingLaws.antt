@@ -28,6 +28,14 @@ use Rattle.policy.specs.DumpLaws.{dump-flat, dump-entries, entriesOf-flat, entr
 use Rattle.reader.specs.Reading.{mayFollow, goodFrom, goodOf, goodBytes, behind, decided, ended, verdictOf}
 
 -- ---- an entry that may stand behind others
+pub entries-follow : (es : List Bytes) (e : Bytes) (l : List Bytes) → Entries (es ++ (e ∷ l)) → mayFollow es e ≡ true
+unfolding mayFollow flat
+entries-follow es e l a =
+    let n = simp length-append at (a .few) in
+    let m = simp (flat-append, length-append) at (a .room) in
+    let c = forced-off (contains (sameTarget e) es) (λ t. sym (distinct-repeated sameTarget sameTarget-sym es e l t) ∙ a .apart) in
+    and-intro _ _ (lt-ltb (length es) maxEntries (omega arith)) (and-intro _ _ (le-leb (length (flat es) + length e) policyBytes (omega arith)) (rw c))
+
 pub record Follows (es : List Bytes) (e : Bytes) : Type 0 where
   pub few : length es < maxEntries
   pub room : length (flat es) + length e ≤ policyBytes
@@ -47,14 +55,6 @@ pub follows-entries : (es : List Bytes) (e : Bytes) → Entries es → WellForme
 follows-entries es e a w j =
     let k = follows-is es e j in
     entries-append es e a w (k .apart) (k .few) (k .room)
-
-pub entries-follow : (es : List Bytes) (e : Bytes) (l : List Bytes) → Entries (es ++ (e ∷ l)) → mayFollow es e ≡ true
-unfolding mayFollow flat
-entries-follow es e l a =
-    let n = simp length-append at (a .few) in
-    let m = simp (flat-append, length-append) at (a .room) in
-    let c = forced-off (contains (sameTarget e) es) (λ t. sym (distinct-repeated sameTarget sameTarget-sym es e l t) ∙ a .apart) in
-    and-intro _ _ (lt-ltb (length es) maxEntries (omega arith)) (and-intro _ _ (le-leb (length (flat es) + length e) policyBytes (omega arith)) (rw c))
 
 -- ---- of entries behind others those up to the first that may not stand there
 pub goodFrom-entries : (es l : List Bytes) → Entries es → All WellFormed l → Entries (es ++ goodFrom es l)

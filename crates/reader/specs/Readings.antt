@@ -12,7 +12,7 @@ use Rattle.lists.specs.ListsLaws.{all-map}
 use Rattle.slices.specs.Test.{_and_}
 use Rattle.slices.specs.Bytes.{Bytes, le16, le32, pairwise, same}
 use Rattle.slices.specs.Chunks.{flat, chunks, chunksFrom, contains}
-use Rattle.names.specs.Name.{units, each, isName, isTerminated, isPlainTerminated, named, isHexDigit, unitMatches, wildcards}
+use Rattle.names.specs.Name.{units, each, isName, isTerminated, isPlainTerminated, wildcards}
 use Rattle.entry.specs.Entry.{lockPolicyType, headerOk, lockOk, nameOk, wellFormed, nameOf, rank, sameTarget}
 use Rattle.policy.specs.Policy.{lengthBy}
 use Rattle.reader.specs.declared.Verdict.{Verdict}
@@ -118,7 +118,7 @@ readings =
 
 -- THE READINGS HOLD
 pub readings-hold : All Holds readings
-unfolding _and_ le16 le32 pairwise flat chunks chunksFrom contains units each isName isTerminated isPlainTerminated named isHexDigit unitMatches wildcards headerOk lockOk nameOk wellFormed nameOf rank sameTarget lengthBy mayFollow goodFrom goodOf decided ended verdictOf arrived
+unfolding _and_ le16 le32 pairwise flat chunks chunksFrom contains units each isName isTerminated isPlainTerminated wildcards headerOk lockOk nameOk wellFormed nameOf rank sameTarget lengthBy mayFollow goodFrom goodOf decided ended verdictOf arrived
 readings-hold = more refl (more refl (more refl (more refl (more refl (more refl (more refl (more refl (more refl (more refl (more refl (more refl (more refl nil))))))))))))
 
 -- ---- the same of the reader itself, which says what the rule says of the bytes that arrived (`in-pieces`)

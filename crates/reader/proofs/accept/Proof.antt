@@ -1,6 +1,6 @@
 -- `reader::accept` meets its contract. Assumes nothing.
 use Prim.Native.Nat.{ℕ, _+_, _<_}
-use mathlib.Core.Path.{_≡_, refl, ap, _∙_}
+use mathlib.Core.Path.{_≡_, refl, ap}
 use native.Mathlib.Omega.{arith}
 use lib.ListN.{length, getD}
 use Rattle.limits.specs.Limits.{maxEntries}
@@ -26,7 +26,7 @@ E x = part (x .args .from) (x .args .to) (x .args .r .now)
 returns : tie.Need-returns
 returns c =
     let x = c .before .before .before .before in
-    (full (x .args .r .now) (E x) (c .before .get16 .ensures .0) (c .if1 .taken), refl)
+    (full (x .args .r .now) (E x) (c .before .get16 .ensures .0) (omega (arith, c .if1 .taken)), refl)
 
 sub-mark-of : tie.Need-sub-mark-of
 sub-mark-of c = search needs
@@ -113,7 +113,7 @@ returns-3 c =
     let i = n .before .before .before in
     let k = i .before in (
       admitted (R k) (Own k) (counted k) (few k) (slot-seen k) (printed k) (own-start k) (k .repeats .ensures) (i .if2 .left),
-      n .note .ensures ∙ with-it (R k) (Own k) (counted k) (few k) (slot-seen k) (printed k) (own-start k) (k .repeats .ensures) (slot-is k) (n .before .joined .ensures) (ends k),
+      with-it (R k) (Own k) (counted k) (few k) (slot-seen k) (printed k) (own-start k) (k .repeats .ensures) (n .note .ensures) (slot-is k) (n .before .joined .ensures) (ends k) refl,
     )
 
 pub accept-spec : {M : Type 1} → statement M

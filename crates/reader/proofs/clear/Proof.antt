@@ -15,7 +15,7 @@ same-length c = search needs
 
 returns : tie.Need-returns
 unfolding fresh
-returns c = search needs
+returns c = c .before .before .fill .ensures
 
 pub clear-spec : {M : Type 1} → statement M
 clear-spec = tie.close (tie.spec sub-fill fill-requires same-length returns)

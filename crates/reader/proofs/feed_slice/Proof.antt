@@ -1,10 +1,11 @@
 -- `reader::feed_slice` meets its contract. Assumes nothing.
 use mathlib.Core.Path.{sym, ap, _∙_}
+use mathlib.Core.Logic.{inl, inr}
 use native.Mathlib.Omega.{arith}
 use borrow.Author.Tests.{ltb-true}
 use Rattle.limits.specs.Limits.{policyBytes}
 use Rattle.reader.specs.Reader.{held, fed}
-use Rattle.reader.proofs.Taken.{one-byte, fed-piece, refused-empty, refused-long}
+use Rattle.reader.proofs.Taken.{one-byte, fed-piece, refused}
 use borrow.Author.Needs.{needs}
 use Rattle.reader.proofs.feed_slice.Statement.{statement}
 use Rattle.reader.proofs.feed_slice.Tie as tie
@@ -30,7 +31,7 @@ returns c =
     let i = b .before .before .before .before .before .before in
     let x = i .before .before .before in
     let p = x .args .piece .now in
-    fed-piece (x .args .r .now) p (omega (arith, i .if1 .taken)) (omega (arith, i .if1 .taken)) (b .take-byte .ensures ∙ ap (fed (x .args .r .now)) (one-byte p (i .if1 .taken)))
+    fed-piece (x .args .r .now) p (λ z. omega (arith, i .if1 .taken)) (omega (arith, i .if1 .taken)) (b .take-byte .ensures ∙ ap (fed (x .args .r .now)) (one-byte p (i .if1 .taken)))
 
 take-piece-requires : tie.Need-take-piece-requires
 take-piece-requires c κs = search needs
@@ -43,13 +44,13 @@ returns-2 c =
     let b = c .before .before in
     let i = b .before .before .before .before .before in
     let x = i .before .before .before in
-    fed-piece (x .args .r .now) (x .args .piece .now) (omega (arith, i .if1 .taken)) (omega (arith, i .if1 .taken)) (b .take-piece .ensures)
+    fed-piece (x .args .r .now) (x .args .piece .now) (λ z. omega (arith, i .if1 .taken)) (omega (arith, i .if1 .taken)) (b .take-piece .ensures)
 
 returns-3 : tie.Need-returns-3
-returns-3 c = let x = c .before .before .before .before in refused-empty (x .args .r .now) (x .args .piece .now) (c .if3 .taken)
+returns-3 c = let x = c .before .before .before .before in refused (x .args .r .now) (x .args .piece .now) (inl (c .if3 .taken))
 
 returns-4 : tie.Need-returns-4
-returns-4 c = let x = c .before .before .before .before .before in refused-long (x .args .r .now) (x .args .piece .now) (c .if4 .taken)
+returns-4 c = let x = c .before .before .before .before .before in refused (x .args .r .now) (x .args .piece .now) (inr (omega (arith, c .if4 .taken)))
 
 take-piece-requires-2 : tie.Need-take-piece-requires-2
 take-piece-requires-2 c κs = search needs
@@ -63,7 +64,7 @@ returns-5 c =
     let i = b .before .before in
     let j = i .before in
     let x = j .before .before .before .before in
-    fed-piece (x .args .r .now) (x .args .piece .now) (omega (arith, j .if3 .left)) (omega (arith, i .if4 .left)) (b .take-piece2 .ensures)
+    fed-piece (x .args .r .now) (x .args .piece .now) (j .if3 .left) (i .if4 .left) (b .take-piece2 .ensures)
 
 pub feed-slice-spec : {M : Type 1} → statement M
 feed-slice-spec =

@@ -12,7 +12,7 @@ same-length c = search needs
 
 returns : tie.Need-returns
 unfolding put
-returns c = search needs
+returns c = c .before .before .put16 .ensures
 
 pub stop-spec : {M : Type 1} → statement M
 stop-spec = tie.close (tie.spec put16-requires same-length returns)
