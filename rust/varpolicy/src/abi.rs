@@ -66,7 +66,7 @@ pub(crate) struct Verdict {
 }
 
 #[repr(C)]
-pub(crate) struct Listed {
+pub(crate) struct Listing {
     pub(crate) status: u32,
     pub(crate) size: u32,
     pub(crate) lock: u32,
@@ -145,7 +145,7 @@ unsafe extern "C" {
 
     pub(crate) fn varpolicy_reader_verdict(reader: *const [u8; READER_BYTES]) -> Verdict;
 
-    pub(crate) fn varpolicy_reader_entry(reader: *const [u8; READER_BYTES], at: usize) -> Listed;
+    pub(crate) fn varpolicy_reader_entry(reader: *const [u8; READER_BYTES], at: usize) -> Listing;
 }
 
 // The layout that the C declarations have.
@@ -159,5 +159,5 @@ const _: () = {
     assert!(size_of::<Written>() == 28);
     assert!(size_of::<Quarrel>() == 24);
     assert!(size_of::<Verdict>() == 16);
-    assert!(size_of::<Listed>() == 16);
+    assert!(size_of::<Listing>() == 16);
 };

@@ -95,7 +95,7 @@ fn header_and_crate_have_the_same_records() {
         ("written", "Written"),
         ("quarrel", "Quarrel"),
         ("verdict", "Verdict"),
-        ("listed", "Listed"),
+        ("listing", "Listing"),
     ];
     // A reader is its bytes alone, which the crate passes as an array.
     assert_eq!(header_fields("reader"), ["bytes[VARPOLICY_READER_BYTES]: u8"]);
