@@ -339,6 +339,7 @@ pub fn reader_start(reader: &mut [u8; READER_BYTES]) -> Status {
 /// Feeds a reader the next bytes of a dump, whatever they are. After a bad entry they change nothing.
 ///
 /// * INVALID_PARAMETER: `piece` has not 1 to [`MAX_PIECE`](crate::MAX_PIECE) bytes. The reader stands as before.
+#[inline]
 pub fn reader_feed(reader: &mut [u8; READER_BYTES], piece: &[u8]) -> Status {
     // SAFETY: each pointer is of one live array or slice, the mutable one apart from the other.
     Status::answered(unsafe { abi::varpolicy_reader_feed(reader, piece.as_ptr(), piece.len()) })

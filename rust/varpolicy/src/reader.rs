@@ -54,6 +54,7 @@ impl Reader {
     /// what is wrong with it, the verdict tells.
     ///
     /// * INVALID_PARAMETER: it has another length, and the reader stands as before.
+    #[inline]
     pub fn feed(&mut self, piece: &[u8]) -> Result<(), Status> {
         calls::reader_feed(&mut self.bytes, piece).ok()
     }

@@ -64,6 +64,7 @@ impl Status {
     }
 
     /// `Ok` for SUCCESS, and any other status as the error.
+    #[inline]
     pub fn ok(self) -> Result<(), Status> {
         match self {
             Status::Success => Ok(()),
@@ -72,7 +73,11 @@ impl Status {
     }
 
     /// The status that the library answered.
+    #[inline]
     pub(crate) fn answered(number: u32) -> Status {
+        if number == Status::Success.number() {
+            return Status::Success;
+        }
         Status::from_number(number).expect("libvarpolicy.a answers no other number")
     }
 }
