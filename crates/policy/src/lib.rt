@@ -99,7 +99,7 @@ fn stated_length(p: &[u8]) -> usize
     n
 }
 
-// Whether f is a well-formed entry with the namespace and the name of e: the namespaces first, since entries that share a slot of the filter differ there most often.
+// Whether f is a well-formed entry with the namespace and the name of e: that first, since most are another's, and whether it is well formed last.
 fn repeats(e: &[u8], f: &[u8]) -> bool
     requires { ⌜ (wellFormed (now e) ≡ true) × (entryHeader ≤ length (now f)) ⌝ }
     ensures { λ r. ⌜ r ≡ repeats (now (e .entry)) (now (f .entry)) ⌝ }
@@ -110,10 +110,11 @@ fn repeats(e: &[u8], f: &[u8]) -> bool
     ) {
         return false;
     }
-    if !entry::well_formed(f) {
+    let name = slices::part(f, slices::get16(f, limits::OFFSET_TO_NAME_AT), f.len() - 2);
+    if !names::same_name(entry::name_bytes(e), name) {
         return false;
     }
-    names::same_name(entry::name_bytes(e), entry::name_bytes(f))
+    entry::well_formed(f)
 }
 
 // Whether one of the entries that the bytes begin with, whatever they are, has the namespace and the name of e.

@@ -1,33 +1,34 @@
 -- `policy::repeats` meets its contract. Assumes nothing.
-use mathlib.Core.Path.{_≡_, sym, _∙_}
+use Prim.Native.Nat.{ℕ, _-_}
+use mathlib.Core.Path.{_≡_, sym, ap, _∙_}
 use mathlib.Core.Bool.{Bool, true, false}
+use native.Mathlib.Omega.{arith}
+use lib.ListN.{length}
 use borrow.Author.Tests.{not-true, not-false}
 use Rattle.slices.specs.Test.{_and_}
-use Rattle.slices.specs.TestLaws.{and-no}
-use Rattle.slices.specs.Bytes.{Bytes, same}
+use Rattle.slices.specs.TestLaws.{and-no, and-yes}
+use Rattle.slices.specs.Bytes.{Bytes, part, same}
 use Rattle.entry.specs.Entry.{wellFormed, namespaceOf, nameOf, sameTarget}
-use Rattle.policy.specs.Stated.{repeats}
-use native.Mathlib.Omega.{arith}
 use Rattle.entry.specs.EntryLaws.{sized}
+use Rattle.policy.specs.Stated.{repeats}
 use borrow.Author.Needs.{needs}
 use Rattle.policy.proofs.repeats.Statement.{statement}
 use Rattle.policy.proofs.repeats.Tie as tie
 
--- s says whether the namespaces are the same, w whether f is well formed, t whether the names are the same
+-- s says whether the namespaces are the same, t whether the names are, which are m and n
 module _ (e f : Bytes) where
   other-namespace : {s : Bool} → s ≡ same (namespaceOf e) (namespaceOf f) → s ≡ false → false ≡ repeats e f
   unfolding repeats sameTarget _and_
   other-namespace q z = sym (rw (← q, z, and-no (wellFormed f)))
 
-  module _ {w : Bool} (q : w ≡ wellFormed f) where
-    unformed : w ≡ false → false ≡ repeats e f
-    unfolding repeats _and_
-    unformed z = rw (← q, z)
+  module _ {t : Bool} {m n : Bytes} (k : t ≡ same m n) (u : m ≡ nameOf e) (v : n ≡ nameOf f) where
+    other-name : t ≡ false → false ≡ repeats e f
+    unfolding repeats sameTarget
+    other-name z = sym (rw (← u, ← v, ← k, z, and-no (same (namespaceOf e) (namespaceOf f)), and-no (wellFormed f)))
 
-    -- the same namespace too, and the names are m and n
-    same-entry : {s t : Bool} {m n : Bytes} → w ≡ true → s ≡ same (namespaceOf e) (namespaceOf f) → s ≡ true → t ≡ same m n → m ≡ nameOf e → n ≡ nameOf f → t ≡ repeats e f
-    unfolding repeats sameTarget _and_
-    same-entry z a y k u v = k ∙ rw (u, v, ← q, z, ← a, y)
+    same-entry : {s w : Bool} → t ≡ true → s ≡ same (namespaceOf e) (namespaceOf f) → s ≡ true → w ≡ wellFormed f → w ≡ repeats e f
+    unfolding repeats sameTarget
+    same-entry z a y q = q ∙ sym (rw (← u, ← v, ← k, z, ← a, y, and-yes true, and-yes (wellFormed f)))
 
 sub-same-namespace : tie.Need-sub-same-namespace
 sub-same-namespace c = search needs
@@ -56,33 +57,51 @@ returns c =
     let x = s .before .before .before .before .before in
     other-namespace (x .args .e .now) (x .args .f .now) (s .same-namespace .ensures) (not-true _ (c .if1 .taken))
 
-well-formed-requires : tie.Need-well-formed-requires
-well-formed-requires c κs = search needs
+get16-requires : tie.Need-get16-requires
+get16-requires c κs = search needs
 
-returns-2 : tie.Need-returns-2
-returns-2 c =
-    let w = c .before in
-    let x = w .before .before .before .before .before .before .before in
-    unformed (x .args .e .now) (x .args .f .now) (w .well-formed .ensures) (not-true _ (c .if2 .taken))
+sub-part : tie.Need-sub-part
+sub-part c = search needs
+
+part-requires : tie.Need-part-requires
+part-requires c κs = search needs
 
 name-bytes-requires : tie.Need-name-bytes-requires
-name-bytes-requires c κs = let s = c .before .before .before in s .before .before .before .before .before .pre .0
-
-name-bytes-requires-2 : tie.Need-name-bytes-requires-2
-name-bytes-requires-2 c κs = let i = c .before in sym (i .before .well-formed .ensures) ∙ not-false _ (i .if2 .left)
+name-bytes-requires c κs = search needs
 
 same-name-requires : tie.Need-same-name-requires
 same-name-requires c κs = search needs
 
+-- where the namespaces are the same, from where the names are compared, and the start; and that the second is the entry's name
+abbrev Same : tie.After-same-name → tie.Else1
+Same c = c .before .before .before .before
+
+abbrev Start : tie.Else1 → tie.Start
+Start c = c .before .before .before .before .before .before
+
+named : (c : tie.After-same-name) → c .before .before .part .result .now ≡ nameOf (Start (Same c) .args .f .now)
+unfolding nameOf
+named c =
+    let p = c .before .before in
+    let f = Start (Same c) .args .f .now in
+    p .part .ensures ∙ ap (λ (k : ℕ). part k (length f - 2) f) (p .before .get16 .ensures .0)
+
+returns-2 : tie.Need-returns-2
+returns-2 c =
+    let m = c .before in
+    let x = Start (Same m) in
+    other-name (x .args .e .now) (x .args .f .now) (m .same-name .ensures) (m .before .name-bytes .ensures) (named m) (not-true _ (c .if2 .taken))
+
+well-formed-requires : tie.Need-well-formed-requires
+well-formed-requires c κs = search needs
+
 returns-3 : tie.Need-returns-3
 returns-3 c =
-    let n = c .before in
-    let m = n .before in
-    let i = m .before in
-    let w = i .before in
-    let s = w .before .before in
-    let x = s .before .before .before .before .before in
-    same-entry (x .args .e .now) (x .args .f .now) (w .well-formed .ensures) (not-false _ (i .if2 .left)) (s .same-namespace .ensures) (not-false _ (w .before .if1 .left)) (c .same-name .ensures) (m .name-bytes .ensures) (n .name-bytes2 .ensures)
+    let i = c .before in
+    let m = i .before in
+    let s = Same m in
+    let x = Start s in
+    same-entry (x .args .e .now) (x .args .f .now) (m .same-name .ensures) (m .before .name-bytes .ensures) (named m) (not-false _ (i .if2 .left)) (s .before .same-namespace .ensures) (not-false _ (s .if1 .left)) (c .well-formed .ensures)
 
 pub repeats-spec : {M : Type 1} → statement M
 repeats-spec =
@@ -96,9 +115,11 @@ repeats-spec =
     part-same-namespace-end-2
     same-namespace-requires
     returns
-    well-formed-requires
-    returns-2
+    get16-requires
+    sub-part
+    part-requires
     name-bytes-requires
-    name-bytes-requires-2
     same-name-requires
+    returns-2
+    well-formed-requires
     returns-3)
