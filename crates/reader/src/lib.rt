@@ -1,12 +1,12 @@
 // The reader of a dump that arrives in pieces (RULES.md, 10.12). A reader is READER_BYTES that the caller lends: the bytes that arrived, the filter over
 // the entries that were found good, and three numbers. Any bytes of that length are a reader.
 ghost use mathlib.Core.Path.{_≡_};
+ghost use mathlib.Core.List.{[], _∷_};
 ghost use mathlib.Core.Bool.{true, _||_, cond};
 ghost use Prim.Native.Nat.{_+_, _≤_, _<_};
-ghost use mathlib.Core.List.{[], _∷_};
 ghost use lib.ListN.{length, take, set};
-ghost use Rattle.limits.specs.Limits.{policyBytes};
 ghost use lib.Dec.{eqb, ltb};
+ghost use Rattle.limits.specs.Limits.{policyBytes};
 ghost use Rattle.slices.specs.Test.{_and_};
 ghost use Rattle.slices.specs.Bytes.{part, overwrite};
 ghost use Rattle.slices.specs.Chunks.{contains};
@@ -125,7 +125,7 @@ fn accept(r: &mut [u8], from: usize, to: usize) -> bool
     true
 }
 
-// Takes the good ones of the decided entries that stand from byte from up to byte to, up to the first that is not good, and tells where they end.
+// Takes the entries that stand from byte from up to byte to among the good ones, up to the first that is not good, and tells where they end.
 fn take_good(r: &mut [u8], from: usize, to: usize) -> usize
     requires { ⌜ (length (now r) ≡ readerBytes) × (from ≡ good (now r)) × (from ≤ to) × (to ≤ policyBytes) ⌝ }
     ensures after { λ _. ⌜ now (r .exit) ≡ judged (now (r .entry)) (entriesOf (part from to (now (r .entry)))) ⌝ }
@@ -144,7 +144,7 @@ fn take_good(r: &mut [u8], from: usize, to: usize) -> usize
     at
 }
 
-// Judges the decided entries behind the good ones; where one is left, it stops.
+// Judges the entries behind the good ones. Where it is decided what is left, that is a bad one, and no more is taken.
 fn judge(r: &mut [u8])
     requires { ⌜ (length (now r) ≡ readerBytes) × (good (now r) ≤ held (now r)) × (held (now r) ≤ policyBytes) ⌝ }
     ensures { λ _. ⌜ now (r .exit) ≡ allJudged (now (r .entry)) ⌝ }
@@ -157,7 +157,7 @@ fn judge(r: &mut [u8])
     }
 }
 
-// Writes that the bytes up to byte to have arrived, and tells whether a decided entry stands behind the good ones now.
+// Writes that the bytes up to byte to have arrived, and tells whether it is now decided what stands behind the good entries.
 fn hold(r: &mut [u8], to: usize) -> bool
     requires { ⌜ (length (now r) ≡ readerBytes) × (to ≤ policyBytes) ⌝ }
     ensures after { λ _. ⌜ now (r .exit) ≡ put (now (r .entry)) heldAt to ⌝ }
@@ -233,6 +233,7 @@ fn clear(r: &mut [u8])
     slices::fill(r, FILTER_AT, READER_BYTES - FILTER_AT, 0);
 }
 
+// A byte by itself has a way of its own. That take_piece is called in two places keeps the compiler from putting it here, where that way would save its registers.
 fn feed_slice(r: &mut [u8], piece: &[u8]) -> Status
     requires { ⌜ length (now r) ≡ readerBytes ⌝ }
     ensures answer { λ s. ⌜ s ≡ feedStatus (now (piece .entry)) ⌝ }
