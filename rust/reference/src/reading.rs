@@ -225,7 +225,7 @@ mod tests {
     }
 
     #[test]
-    fn bytes_end_with_a_bad_entry_that_is_complete_or_over_the_limit() {
+    fn a_reading_ends_where_the_bad_entry_is_decided_or_at_the_limit() {
         let good = dump(&[entry(7, ""), entry(8, "A")]);
         let ended = |bytes: &[u8]| read_dump(bytes).has_ended(bytes);
         for length in 0..=good.len() {
