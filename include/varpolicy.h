@@ -6,7 +6,7 @@
   - a non-volatile and a volatile store of variables, 0 to 32,768 bytes each: records with EDK2's
     variable header (0x55AA, state 0x3F) end to end, then 0xFF;
   - a policy record of VARPOLICY_POLICY_BYTES bytes: packed entries end to end, then zeros;
-  - three switches, varpolicy_switches, in each byte of which every value has a meaning.
+  - four switches, varpolicy_switches, in each byte of which every value has a meaning.
 
   varpolicy_quarrels and the calls of a reader, varpolicy_reader_.., are lent none of these and concern no
   engine. The one is given the bytes of a dump, from wherever they come, and a buffer for a name; the
@@ -39,7 +39,8 @@
   Linking: a function whose parameters or answer an edition changed has another name in the archive,
   with the edition behind it, and this header gives it the name that is used here. An object file that
   was compiled with an older header then does not link, in place of passing memory that is taken for
-  something else.
+  something else. E10 gave the switches a fourth byte, and so every function that is lent them, is given
+  them or hands them back another name; varpolicy_dump and varpolicy_read are given them since.
 
   Stack: the deepest call, varpolicy_set, takes 9,464 bytes with its return address (read off the
   machine code); read, restart and power-on take nearly as much. The red zone and what memcpy, memmove
@@ -64,8 +65,16 @@ extern "C" {
 #define VARPOLICY_CALL
 #endif
 
-/* The names in the archive of functions that have changed. */
-#define varpolicy_set varpolicy_set_e1 /* before E1 it answered the status alone */
+/* The names in the archive of functions that have changed: varpolicy_switches has four bytes since E10. */
+#define varpolicy_power_on varpolicy_power_on_e10
+#define varpolicy_restart  varpolicy_restart_e10
+#define varpolicy_register varpolicy_register_e10
+#define varpolicy_dump     varpolicy_dump_e10 /* and it is given the switches */
+#define varpolicy_lock     varpolicy_lock_e10
+#define varpolicy_disable  varpolicy_disable_e10
+#define varpolicy_query    varpolicy_query_e10
+#define varpolicy_read     varpolicy_read_e10 /* and it is given the switches */
+#define varpolicy_set      varpolicy_set_e10  /* before E1 it answered the status alone */
 
 /* Statuses. */
 #define VARPOLICY_SUCCESS           0U
@@ -117,13 +126,14 @@ extern "C" {
   The switches of an engine: kept by the caller, lent to the calls.
 
   Each of the 256 values of each byte has a meaning, and what is proved of the calls is proved of all. A
-  byte that is neither 0 nor 1 is read on the safe side: the engine is enabled, is locked, and may not
-  be disabled. The calls themselves write and hand back 0 and 1.
+  byte that is neither 0 nor 1 is read on the safe side: the engine is enabled, is locked, may not be
+  disabled, and has exited. The calls themselves write and hand back 0 and 1.
 **/
 typedef struct {
   uint8_t enabled;           /* entries are enforced: any value but 0 */
   uint8_t locked;            /* no more entries are registered: any value but 0 */
   uint8_t disabling_allowed; /* the engine may be disabled: 1, and no other value */
+  uint8_t exited;            /* the operating system has started: any value but 0 */
 } varpolicy_switches;
 
 /** What varpolicy_power_on and varpolicy_restart answer. **/
@@ -158,7 +168,7 @@ typedef struct {
   succeeded, or something else than an entry refused it. The last three numbers are those of
   VARPOLICY_GROUND_ATTRIBUTES, and 0 beside every other ground.
 
-  A refused set changes nothing, so varpolicy_dump still hands out the entry at that place.
+  A refused set changes nothing, so varpolicy_dump, before exit, still hands out the entry at that place.
 **/
 typedef struct {
   uint32_t ground;     /* VARPOLICY_GROUND_.., the first that holds */
@@ -244,7 +254,7 @@ typedef struct {
 
 /**
   Powers an engine on: the policy record becomes all zeros, the volatile store all 0xFF. The engine is
-  then enabled, unlocked and empty.
+  then enabled, unlocked and empty, and has not exited.
 
   @param[in]  nv                 The non-volatile store.
   @param[in]  nv_len             Its length.
@@ -256,8 +266,8 @@ typedef struct {
 
   @retval VARPOLICY_VOLUME_CORRUPTED  The non-volatile store is unsound, the volatile one has more than
                                       VARPOLICY_MAX_STORE_BYTES bytes, or the policy record is of another
-                                      length. The switches handed back are the strictest: enabled, locked,
-                                      disabling not allowed. A running engine goes on with those it had.
+                                      length. The switches handed back are enabled, locked, disabling not
+                                      allowed, not exited. A running engine goes on with those it had.
   @retval VARPOLICY_SUCCESS           The engine is on, with the switches handed back.
 **/
 VARPOLICY_CALL varpolicy_started
@@ -310,6 +320,7 @@ varpolicy_restart (
   @retval VARPOLICY_VOLUME_CORRUPTED   The policy record is not valid: VARPOLICY_POLICY_BYTES bytes, of them
                                        at most VARPOLICY_MAX_ENTRIES well-formed entries, no two for one
                                        namespace and name, and then zeros.
+  @retval VARPOLICY_UNSUPPORTED        The engine has exited (varpolicy_exit).
   @retval VARPOLICY_WRITE_PROTECTED    The engine is locked.
   @retval VARPOLICY_INVALID_PARAMETER  The entry is malformed. One cause that is easily overlooked: a
                                        '#' in the name of its trigger.
@@ -333,20 +344,23 @@ varpolicy_register (
 
   @param[in]     policy      The policy record.
   @param[in]     policy_len  Its length.
+  @param[in]     switches    The switches.
   @param[in,out] buffer      The buffer.
   @param[in]     buffer_len  Its length.
 
   @retval VARPOLICY_VOLUME_CORRUPTED  The policy record is bad, as in varpolicy_register.
+  @retval VARPOLICY_UNSUPPORTED       The engine has exited. The length is 0.
   @retval VARPOLICY_BUFFER_TOO_SMALL  The buffer is shorter than the sum of Sizes, which is the length.
   @retval VARPOLICY_SUCCESS           The entries are written; the length is the sum of Sizes. Without
                                       entries it is 0, even for an empty buffer.
 **/
 VARPOLICY_CALL varpolicy_dumped
 varpolicy_dump (
-  const uint8_t *policy,
-  size_t         policy_len,
-  uint8_t       *buffer,
-  size_t         buffer_len
+  const uint8_t     *policy,
+  size_t             policy_len,
+  varpolicy_switches switches,
+  uint8_t           *buffer,
+  size_t             buffer_len
   );
 
 /**
@@ -354,6 +368,7 @@ varpolicy_dump (
 
   @param[in,out] switches  The switches. Of a refused call they may lie in read-only memory.
 
+  @retval VARPOLICY_UNSUPPORTED      The engine has exited. Nothing is stored.
   @retval VARPOLICY_WRITE_PROTECTED  The engine is locked already. Nothing is stored.
   @retval VARPOLICY_SUCCESS          The engine is locked: locked is 1, and no other byte is changed.
 **/
@@ -367,6 +382,7 @@ varpolicy_lock (
 
   @param[in,out] switches  The switches. Of a refused call they may lie in read-only memory.
 
+  @retval VARPOLICY_UNSUPPORTED      The engine has exited. Nothing is stored.
   @retval VARPOLICY_ALREADY_STARTED  The engine is disabled already. Nothing is stored.
   @retval VARPOLICY_WRITE_PROTECTED  The engine is locked, or disabling is not allowed. Nothing is stored.
   @retval VARPOLICY_SUCCESS          The engine is disabled: enabled is 0, and no other byte is changed.
@@ -377,7 +393,23 @@ varpolicy_disable (
   );
 
 /**
-  Tells whether entries are enforced.
+  Tells the engine that the operating system starts and boot services are gone. Until the next power-on
+  or restart the policy can be neither added to, handed out, locked nor disabled; reads show variables with
+  RT alone; a set needs NV, BS and RT; and volatile variables are neither written nor deleted. The policy
+  itself still sees both stores whole: a lock may hang on a variable that can no longer be read.
+
+  @param[in,out] switches  The switches. Of a refused call they may lie in read-only memory.
+
+  @retval VARPOLICY_UNSUPPORTED  The engine has exited already. Nothing is stored.
+  @retval VARPOLICY_SUCCESS      The engine has exited: exited is 1, and no other byte is changed.
+**/
+VARPOLICY_CALL uint32_t
+varpolicy_exit (
+  varpolicy_switches *switches
+  );
+
+/**
+  Tells whether entries are enforced, after exit too.
 
   @param[in] switches  The switches.
 
@@ -395,24 +427,26 @@ varpolicy_query (
   @param[in] nv_len              Its length.
   @param[in] vol                 The volatile store.
   @param[in] vol_len             Its length.
+  @param[in] switches            The switches.
   @param[in] variable_namespace  The 16 bytes of the variable's namespace.
   @param[in] name                The bytes of the 16-bit units of its name, without a closing zero.
   @param[in] name_len            How many bytes: two for each unit.
 
   @retval VARPOLICY_VOLUME_CORRUPTED   The stores are unsound.
   @retval VARPOLICY_INVALID_PARAMETER  The name is not 1 to 64 units, none of them zero, or name_len is odd.
-  @retval VARPOLICY_NOT_FOUND          No such variable.
+  @retval VARPOLICY_NOT_FOUND          No such variable; or the engine has exited, and the variable has no RT.
   @retval VARPOLICY_SUCCESS            The variable is as told.
 **/
 VARPOLICY_CALL varpolicy_found
 varpolicy_read (
-  const uint8_t *nv,
-  size_t         nv_len,
-  const uint8_t *vol,
-  size_t         vol_len,
-  const uint8_t  variable_namespace[VARPOLICY_NAMESPACE_BYTES],
-  const uint8_t *name,
-  size_t         name_len
+  const uint8_t     *nv,
+  size_t             nv_len,
+  const uint8_t     *vol,
+  size_t             vol_len,
+  varpolicy_switches switches,
+  const uint8_t      variable_namespace[VARPOLICY_NAMESPACE_BYTES],
+  const uint8_t     *name,
+  size_t             name_len
   );
 
 /**
@@ -449,6 +483,8 @@ varpolicy_read (
                                        or the payload is longer than VARPOLICY_MAX_PAYLOAD.
   @retval VARPOLICY_UNSUPPORTED        An attribute bit outside 0x47.
   @retval VARPOLICY_INVALID_PARAMETER  RT or APPEND without BS.
+  @retval VARPOLICY_INVALID_PARAMETER  The engine has exited, the request is no deletion, and its attributes
+                                       are without NV, BS or RT.
   @retval VARPOLICY_INVALID_PARAMETER  The engine is enabled, an entry is chosen, the request is no
                                        deletion, and the payload as it would be afterwards is shorter
                                        than MinSize or longer than MaxSize: VARPOLICY_GROUND_SIZE.
@@ -457,7 +493,10 @@ varpolicy_read (
                                        prohibited one: VARPOLICY_GROUND_ATTRIBUTES.
   @retval VARPOLICY_WRITE_PROTECTED    The engine is enabled and the chosen entry locks the variable, be
                                        the request a deletion or not: VARPOLICY_GROUND_LOCK.
-  @retval VARPOLICY_NOT_FOUND          A deletion, and there is no such variable.
+  @retval VARPOLICY_NOT_FOUND          A deletion, and there is no such variable; or the engine has exited,
+                                       and the variable has no RT.
+  @retval VARPOLICY_WRITE_PROTECTED    A deletion, the engine has exited, and the variable is volatile:
+                                       VARPOLICY_GROUND_NONE.
   @retval VARPOLICY_INVALID_PARAMETER  The variable is stored with a different NV, BS or RT.
   @retval VARPOLICY_OUT_OF_RESOURCES   An append would make the payload longer than VARPOLICY_MAX_PAYLOAD,
                                        or the records would be longer than their store.

@@ -17,8 +17,9 @@ static const uint8_t Boot[VARPOLICY_NAMESPACE_BYTES] = {0x61, 0xDF, 0xE4, 0x8B, 
                                                         0xAA, 0x0D, 0x00, 0xE0, 0x98, 0x03, 0x2B, 0x8C};
 
 /* What the engine is lent: no store is needed to register entries. */
-static uint8_t Store[1];
-static uint8_t Policy[VARPOLICY_POLICY_BYTES];
+static uint8_t            Store[1];
+static uint8_t            Policy[VARPOLICY_POLICY_BYTES];
+static varpolicy_switches Switches;
 
 /* Packs an entry of type 0 for the variables of this name, which is ASCII, and answers its length. */
 static size_t pack_entry(uint8_t entry[VARPOLICY_MAX_ENTRY_SIZE], const char *name) {
@@ -43,11 +44,12 @@ static bool start(const char *one, const char *other) {
   varpolicy_started started = varpolicy_power_on(Store, 0, Store, 0, Policy, sizeof Policy, 0);
   size_t            size    = pack_entry(entry, one);
 
-  if (varpolicy_register(Policy, sizeof Policy, started.switches, entry, size) != VARPOLICY_SUCCESS) {
+  Switches = started.switches;
+  if (varpolicy_register(Policy, sizeof Policy, Switches, entry, size) != VARPOLICY_SUCCESS) {
     return false;
   }
   size = pack_entry(entry, other);
-  return varpolicy_register(Policy, sizeof Policy, started.switches, entry, size) == VARPOLICY_SUCCESS;
+  return varpolicy_register(Policy, sizeof Policy, Switches, entry, size) == VARPOLICY_SUCCESS;
 }
 
 /* Tells of a dump whether two of its entries quarrel, and over which name. */
@@ -79,12 +81,12 @@ int main(void) {
   if (!start("Boot00##", "Boot##01")) {
     return 1;
   }
-  dumped = varpolicy_dump(Policy, sizeof Policy, buffer, sizeof buffer);
+  dumped = varpolicy_dump(Policy, sizeof Policy, Switches, buffer, sizeof buffer);
   tell(buffer, dumped.length);
   if (!start("Boot00##", "Boot#001")) {
     return 1;
   }
-  dumped = varpolicy_dump(Policy, sizeof Policy, buffer, sizeof buffer);
+  dumped = varpolicy_dump(Policy, sizeof Policy, Switches, buffer, sizeof buffer);
   tell(buffer, dumped.length);
   tell(buffer, sizeof buffer); /* the zeros behind the entries are no entry */
   return 0;

@@ -11,7 +11,7 @@
 
 #include "varpolicy.h"
 
-static_assert(sizeof(varpolicy_switches) == 3, "layout of the switches");
+static_assert(sizeof(varpolicy_switches) == 4, "layout of the switches");
 static_assert(sizeof(varpolicy_started) == 8, "layout of a start's answer");
 static_assert(sizeof(varpolicy_dumped) == 16, "layout of a dump's answer");
 static_assert(sizeof(varpolicy_state) == 8, "layout of a query's answer");
@@ -116,7 +116,8 @@ int main(void) {
   if (set_rail("3.3 V", kept) != VARPOLICY_WRITE_PROTECTED) {
     return 1;
   }
-  found = varpolicy_read(NonVolatile, sizeof NonVolatile, Volatile, sizeof Volatile, Board, Rail, sizeof Rail);
+  found = varpolicy_read(NonVolatile, sizeof NonVolatile, Volatile, sizeof Volatile, Switches, Board, Rail,
+                         sizeof Rail);
   if (found.status != VARPOLICY_SUCCESS || !found.non_volatile) {
     return 1;
   }

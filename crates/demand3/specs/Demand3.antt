@@ -7,7 +7,7 @@ use mathlib.Core.Option.{none}
 use Prim.Native.Nat.{_≤_}
 use lib.ListN.{length}
 use Rattle.slices.specs.Bytes.{Bytes}
-use Rattle.policy.specs.Policy.{entriesOf, sizesSum}
+use Rattle.policy.specs.Policy.{entriesOf}
 use Rattle.status.specs.Status.{isSuccess}
 use Rattle.rules.specs.Engine as rules
 use Rattle.rules.specs.Engine.{State, Call}
@@ -20,7 +20,7 @@ use Rattle.history.specs.StandingOrder.{NoneRestarts, registeredSince}
 use Rattle.history.specs.HistoryLaws as general
 use Rattle.history.specs.AnyMoment as moment
 use Rattle.history.specs.AnyMoment.{NoneOutdates, OneRebuild, pastAfter}
-use Rattle.demand3.specs.Machine.{machine}
+use Rattle.demand3.specs.Machine.{HasRoom, machine}
 use Rattle.demand3.specs.MachineLaws.{Reached, laws, never-cut}
 
 -- where a history begins (RULES.md, 12.1): the state that the power-on left
@@ -30,7 +30,7 @@ poweredOn s allowed = rules.step s (powerOn allowed) .1
 start : (s : State) (allowed : Bool) → isSuccess (rules.step s (powerOn allowed) .0 .status) ≡ true → Reached false (poweredOn s allowed)
 start s allowed h = record { uncut = refl; sound = power-on-sound s allowed h }
 
--- THE CLAIM: of every list of all nine kinds of calls with any arguments, refused ones included, with rebuilds at any
+-- THE CLAIM: of every list of all ten kinds of calls with any arguments, refused ones included, with rebuilds at any
 -- places, each from a complete dump and in order or in a permitted other order
 pub demand-3 : (s : State) (allowed : Bool) → isSuccess (rules.step s (powerOn allowed) .0 .status) ≡ true
     → (is : Items machine) → Proper machine false [] (poweredOn s allowed) is → Demand3 machine (poweredOn s allowed) is
@@ -77,9 +77,9 @@ module _ (s : State) (allowed : Bool) (answered0 : isSuccess (rules.step s (powe
       → ProperFrom (xs ++ (rebuild (entriesAt xs) none ∷ ys))
   insert-rebuild xs ys p d = moment.insert-rebuild machine Reached laws begun reached xs ys p (uncut xs) d
 
-  -- and so may, without any condition but room for the sum of Sizes, an own dump and the rebuild from it
+  -- and so may before exit, without any condition but room for the sum of Sizes, an own dump and the rebuild from it
   pub insert-dump-rebuild : (xs ys : Items machine) (buffer : Bytes) → ProperFrom (xs ++ ys)
-      → sizesSum (endWith machine begun xs .policy) ≤ length buffer
+      → HasRoom (endWith machine begun xs) buffer
       → ProperFrom (xs ++ (ownDump buffer ∷ rebuild (entriesAt xs) none ∷ ys))
   insert-dump-rebuild xs ys buffer p room =
       moment.insert-dump-rebuild machine Reached laws begun reached xs ys buffer p (uncut xs) room
@@ -94,7 +94,7 @@ module _ (s : State) (allowed : Bool) (answered0 : isSuccess (rules.step s (powe
   -- an own dump with room serves a rebuild at any later moment, in order or in any permitted other order, unless a granted
   -- call of the history outdates it
   pub dump-now-rebuild-later : (xs ys : Items machine) (buffer : Bytes) (x : Order machine) → ProperFrom (xs ++ ys)
-      → sizesSum (endWith machine begun xs .policy) ≤ length buffer
+      → HasRoom (endWith machine begun xs) buffer
       → NoneOutdates machine (endWith machine begun xs) ys → Permitted machine (entriesAt xs) x
       → ProperFrom ((xs ++ (ownDump buffer ∷ ys)) ++ (rebuild (entriesAt xs) x ∷ []))
   dump-now-rebuild-later xs ys buffer x p room n m =
@@ -103,7 +103,7 @@ module _ (s : State) (allowed : Bool) (answered0 : isSuccess (rules.step s (powe
 
   -- a dump of the history with room is complete as well, and holds the entries of the policy record
   pub history-dump : (xs : Items machine) (buffer : Bytes) → ProperFrom xs
-      → sizesSum (endWith machine begun xs .policy) ≤ length buffer
+      → HasRoom (endWith machine begun xs) buffer
       → Complete machine (entriesAt xs) (pastAt (xs ++ (call (dump buffer) ∷ [])))
   history-dump xs buffer p room = moment.history-dump machine Reached laws begun reached xs buffer p (uncut xs) room
 

@@ -8,3 +8,4 @@ pub mod OldEntries
 pub mod OldEntriesLaws
 pub mod OldDumps
 pub mod AnyOrder
+pub mod AfterExit

@@ -2,8 +2,9 @@
 -- what the words "granted", "registration", "dump", "entry", "targets", "rank" and "rebuild" are of it, and what another order
 -- of the entries changes. Assumes nothing: these are definitions.
 use Prim.Native.Nat.{ℕ, _≤_}
+use mathlib.Core.Path.{_≡_}
 use mathlib.Core.List.{List, [], _∷_, _++_}
-use mathlib.Core.Bool.{Bool, true, cond}
+use mathlib.Core.Bool.{Bool, true, false, cond}
 use mathlib.Core.Option.{Option, none, some}
 use lib.ListN.{length, getD, take}
 use Rattle.lists.specs.Lists.{over}
@@ -18,7 +19,7 @@ use Rattle.rules.specs.declared.Ground.the-variants.{NoGround, SizeGround, Attr
 use Rattle.rules.specs.declared.Report.{Report}
 use Rattle.rules.specs.Report.{reportOf}
 use Rattle.rules.specs.Engine.{State, Answer, Call, stateOf, step}
-use Rattle.rules.specs.Engine.Call.{powerOn, restart, register, dump, lock, disable, query, read, set}
+use Rattle.rules.specs.Engine.Call.{powerOn, restart, register, dump, lock, disable, exit, query, read, set}
 use Rattle.history.specs.History.{Outcome, Kind, Machine}
 use Rattle.history.specs.History.Outcome.{granted, refused}
 use Rattle.history.specs.History.Kind.{starts, registers, dumps, keeps}
@@ -34,6 +35,7 @@ kindOf (register e) = registers e
 kindOf (dump buffer) = dumps
 kindOf lock = keeps
 kindOf disable = keeps
+kindOf exit = keeps
 kindOf query = keeps
 kindOf (read v) = keeps
 kindOf (set r) = keeps
@@ -75,9 +77,15 @@ answerIn c es o a =
 abbrev pub restartOf : State → Call
 restartOf k = restart (k .switches .«disabling_allowed»)
 
--- disable if the engine was disabled, and then lock if it was locked
+-- disable if the engine was disabled, then lock if it was locked, and exit last if it had exited
 abbrev pub closingOf : State → List Call
-closingOf k = cond (k .switches .enabled) [] (disable ∷ []) ++ cond (k .switches .locked) (lock ∷ []) []
+closingOf k =
+    cond (k .switches .enabled) [] (disable ∷ []) ++ (cond (k .switches .locked) (lock ∷ []) [] ++ cond (k .switches .exited) (exit ∷ []) [])
+
+-- where a dump is granted: before exit, into a buffer with room for the sum of Sizes
+pub record HasRoom (s : State) (buffer : Bytes) : Type 0 where
+  pub before : s .switches .exited ≡ false
+  pub room : sizesSum (s .policy) ≤ length buffer
 
 -- THE MACHINE
 abbrev pub machine : Machine
@@ -103,8 +111,7 @@ machine =
       restart = restartOf;
       register = register;
       closing = closingOf;
-      -- the buffer has room for the sum of Sizes
-      CanDump = λ s buffer. sizesSum (s .policy) ≤ length buffer;
+      CanDump = HasRoom;
       -- no call of this engine is cut
       startsAfterCut = λ c. true;
     }

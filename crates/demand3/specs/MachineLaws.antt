@@ -25,7 +25,7 @@ use Rattle.status.specs.declared.Status.{Status}
 use Rattle.status.specs.declared.Status.the-variants.{Success}
 use Rattle.status.specs.Status.{isSuccess}
 use Rattle.switches.specs.declared.Switches.{Switches}
-use Rattle.switches.specs.Switches.{freshSwitches}
+use Rattle.switches.specs.Switches.{freshSwitches, unlessExited}
 use Rattle.rules.specs.declared.Ground.{Ground}
 use Rattle.rules.specs.declared.Ground.the-variants.{NoGround, SizeGround, AttributeGround, LockGround}
 use Rattle.rules.specs.declared.Decision.{Decision}
@@ -36,14 +36,14 @@ use Rattle.rules.specs.DecisionLaws.{taken-named}
 use Rattle.rules.specs.Report.{reportFor, decisionReport}
 use Rattle.rules.specs.ReportLaws.{ground-given, chosen-stands}
 use Rattle.rules.specs.Engine.{State, Call, Answer, stateOf, uses, answerOf, setDecision, setReport, reportOn, onlyStatus, powerOnStatus, restartStatus, registerStatus, dumpStatus, speaking, decisionBy, decisionIn, status, given, refusal, answer, after, effect, step}
-use Rattle.rules.specs.Engine.Call.{powerOn, restart, register, dump, lock, disable, query, read, set}
+use Rattle.rules.specs.Engine.Call.{powerOn, restart, register, dump, lock, disable, exit, query, read, set}
 use Rattle.rules.specs.EngineLaws.{step-status, refused-changes-nothing, granted-effect}
 use Rattle.rules.specs.StateLaws.{Sound, power-on-lists, restart-lists, register-lists, step-sound, restart-done}
 use Rattle.history.specs.History.{Outcome, Kind, entriesAfter, outcomeOf, cutAfter, AllGranted, end, rebuilding}
 use Rattle.history.specs.History.Outcome.{granted, refused, cut}
 use Rattle.history.specs.History.Kind.{starts, registers, dumps, keeps}
 use Rattle.history.specs.HistoryLaws.{granted-refused, SameChoice, Laws}
-use Rattle.demand3.specs.Machine.{stateIn, reportIn, answerIn, outcomeBy, kindOf, restartOf, closingOf, machine}
+use Rattle.demand3.specs.Machine.{stateIn, reportIn, answerIn, outcomeBy, kindOf, restartOf, closingOf, HasRoom, machine}
 use Rattle.demand3.specs.OrderLaws.{flat-length, length-flat, contains-perm, entries-perm, entries-left, entries-new, over-pack, overwrite-perm, overwrite-take}
 
 -- ---- another order of the entries: a state of the rules with the record of the entries o
@@ -59,18 +59,18 @@ unfolding dumpStatus
 dump-same es o buffer d = rw (length-flat d)
 
 -- a set of a name that step 1 does not take never comes to the choice
-set-unnamed : (x y : Option Bytes) (nv vol : Bytes) (r : Request) → named (r .variable) ≡ false → decision x nv vol r ≡ decision y nv vol r
+set-unnamed : (exited : Bool) (x y : Option Bytes) (nv vol : Bytes) (r : Request) → named (r .variable) ≡ false → decision exited x nv vol r ≡ decision exited y nv vol r
 unfolding decision requestStatus badRequest
-set-unnamed x y nv vol r h = rw h
+set-unnamed exited x y nv vol r h = rw h
 
-set-same : (es o : List Bytes) (enabled : Bool) (nv vol : Bytes) (r : Request) → SameChoice machine es o
-    → decisionBy (chosen o) enabled nv vol r ≡ decisionBy (chosen es) enabled nv vol r
+set-same : (es o : List Bytes) (w : Switches) (nv vol : Bytes) (r : Request) → SameChoice machine es o
+    → decisionBy (chosen o) w nv vol r ≡ decisionBy (chosen es) w nv vol r
 unfolding decisionBy chosen
-set-same es o enabled nv vol r l = go (named (r .variable)) refl
+set-same es o w nv vol r l = go (named (r .variable)) refl
   where
-    go : (b : Bool) → named (r .variable) ≡ b → decisionBy (chosen o) enabled nv vol r ≡ decisionBy (chosen es) enabled nv vol r
-    go true e = ap (λ (x : Option Bytes). decision (speaking enabled x) nv vol r) (sym (l .choice (r .variable) e))
-    go false e = set-unnamed _ _ nv vol r e
+    go : (b : Bool) → named (r .variable) ≡ b → decisionBy (chosen o) w nv vol r ≡ decisionBy (chosen es) w nv vol r
+    go true e = ap (λ (x : Option Bytes). decision (w .exited) (speaking (w .enabled) x) nv vol r) (sym (l .choice (r .variable) e))
+    go false e = set-unnamed (w .exited) _ _ nv vol r e
 
 module _ (s : State) (w : Sound s) (o : List Bytes) where
   abbrev es : List Bytes
@@ -104,7 +104,7 @@ module _ (s : State) (w : Sound s) (o : List Bytes) where
       effect : effect (withEntries s o) c ≡ stateIn (entriesAfter machine (kindOf c) granted o) (effect s c)
 
     decision-same : (r : Request) → decisionIn (withEntries s o) r ≡ decisionIn s r
-    decision-same r = rw (lists-o (l .perm)) (set-same es o (s .switches .enabled) (s .nv) (s .vol) r l)
+    decision-same r = rw (lists-o (l .perm)) (set-same es o (s .switches) (s .nv) (s .vol) r l)
 
     -- what is decided of a set in any state
     decides-same : (r : Request) → setDecision (withEntries s o) r ≡ setDecision s r
@@ -124,7 +124,7 @@ module _ (s : State) (w : Sound s) (o : List Bytes) where
     decided-same r (Refuse n) e = refl
     decided-same r (Block g) e =
         let k = ground-given s r g e in
-        rw (← l .choice (r .variable) (taken-named r (k .asked)), k .choice) (moved g (k .entry) (r .attributes) (chosen-stands s r g k))
+        rw (← l .choice (r .variable) (taken-named (s .switches .exited) r (k .asked)), k .choice) (moved g (k .entry) (r .attributes) (chosen-stands s r g k))
     decided-same r Delete e = refl
     decided-same r Keep e = refl
     decided-same r Store e = refl
@@ -140,19 +140,20 @@ module _ (s : State) (w : Sound s) (o : List Bytes) where
     same (restart allowed) = record { status = rw (policyValid-length (packPolicy o) (valid-o (l .perm)), policyValid-length (s .policy) (w .policy)); given = refl; effect = refl }
     same (register e) =
         record {
-          status = rw (valid-o (l .perm), lists-o (l .perm), w .policy) (register-same (s .switches .locked) es o e (l .perm));
+          status = rw (valid-o (l .perm), lists-o (l .perm), w .policy) (ap (unlessExited (s .switches)) (register-same (s .switches .locked) es o e (l .perm)));
           given = refl;
           effect = rw (lists-o (l .perm)) (ap (λ (p : Bytes). stateOf (s .nv) (s .vol) p (s .switches)) (sym (over-pack (Permᴰ·append-right (e ∷ []) (l .perm)))));
         }
     same (dump buffer) =
         record {
-          status = rw (valid-o (l .perm), lists-o (l .perm), w .policy) (dump-same es o buffer (l .perm));
+          status = rw (valid-o (l .perm), lists-o (l .perm), w .policy) (ap (unlessExited (s .switches)) (dump-same es o buffer (l .perm)));
           given = rw (lists-o (l .perm))
               (ap₂ (λ (m : ℕ) (b : Bytes). answerOf Success m b none) (length-flat (l .perm)) (overwrite-perm (l .perm) buffer));
           effect = kept (l .perm) _ _ _;
         }
     same lock = record { status = refl; given = refl; effect = kept (l .perm) _ _ _ }
     same disable = record { status = refl; given = refl; effect = kept (l .perm) _ _ _ }
+    same exit = record { status = refl; given = refl; effect = kept (l .perm) _ _ _ }
     same query = record { status = refl; given = refl; effect = kept (l .perm) _ _ _ }
     same (read v) = record { status = refl; given = refl; effect = kept (l .perm) _ _ _ }
     same (set r) =
@@ -242,6 +243,7 @@ does s (register e) h = register-lists s e h
 does s (dump buffer) h = (refl, overwrite-take (entriesOf (s .policy)) buffer)
 does s lock h = refl
 does s disable h = refl
+does s exit h = refl
 does s query h = refl
 does s (read v) h = refl
 does s (set r) h = refl
@@ -285,11 +287,11 @@ dump-leaves s buffer = go (isSuccess (status s (dump buffer)))
     go true = refl
     go false = refl
 
-dump-granted : (s : State) (buffer : Bytes) → Sound s → sizesSum (s .policy) ≤ length buffer → outcomeOf machine s (dump buffer) ≡ granted
+dump-granted : (s : State) (buffer : Bytes) → Sound s → HasRoom s buffer → outcomeOf machine s (dump buffer) ≡ granted
 unfolding dumpStatus
 dump-granted s buffer w h =
-    let k : length (flat (entriesOf (s .policy))) ≤ length buffer = omega (arith, sizesSum-flat (s .policy)) in
-    outcome-status s (dump buffer) ∙ rw (w .policy, le-leb (length (flat (entriesOf (s .policy)))) (length buffer) k)
+    let k : length (flat (entriesOf (s .policy))) ≤ length buffer = omega (arith, sizesSum-flat (s .policy), h .room) in
+    outcome-status s (dump buffer) ∙ rw (w .policy, h .before, le-leb (length (flat (entriesOf (s .policy)))) (length buffer) k)
 
 pub dump-holds : (s : State) (c : Call) → kindOf c ≡ dumps → outcomeOf machine s c ≡ granted
     → flat (entriesOf (s .policy)) ≡ take (step s c .0 .number) (step s c .0 .bytes)
@@ -345,42 +347,51 @@ register-done es e fs a =
       le-leb (length (flat es) + length e) policyBytes room,
     )
 
-pub register-granted : (k : State) (es : List Bytes) (e : Bytes) (fs : List Bytes) → k .switches .locked ≡ false → Entries (es ++ (e ∷ fs))
+pub register-granted : (k : State) (es : List Bytes) (e : Bytes) (fs : List Bytes) → k .switches .locked ≡ false → k .switches .exited ≡ false → Entries (es ++ (e ∷ fs))
     → step (withEntries k es) (register e) ≡ (onlyStatus Success, withEntries k (es ++ (e ∷ [])))
 unfolding step
-register-granted k es e fs u a =
+register-granted k es e fs u x a =
     let b = entries-left es (e ∷ fs) a in
-    rw (entries-policy es b, entriesOf-pack es (b .formed), u, register-done es e fs a)
+    rw (entries-policy es b, entriesOf-pack es (b .formed), x, u, register-done es e fs a)
 
-pub registers-run : (k : State) (es fs : List Bytes) → k .switches .locked ≡ false → Entries (es ++ fs) → Runs (withEntries k es) (map register fs) (withEntries k (es ++ fs))
-registers-run k es [] u a = rw (append-nil es) (runs-nil (withEntries k es))
-registers-run k es (e ∷ fs) u a =
+pub registers-run : (k : State) (es fs : List Bytes) → k .switches .locked ≡ false → k .switches .exited ≡ false → Entries (es ++ fs)
+    → Runs (withEntries k es) (map register fs) (withEntries k (es ++ fs))
+registers-run k es [] u x a = rw (append-nil es) (runs-nil (withEntries k es))
+registers-run k es (e ∷ fs) u x a =
     let j : (es ++ (e ∷ [])) ++ fs ≡ es ++ (e ∷ fs) = append-assoc es (e ∷ []) fs in
     runs-step (withEntries k es) (register e) (onlyStatus Success) (withEntries k (es ++ (e ∷ []))) (map register fs) (withEntries k (es ++ (e ∷ fs)))
-    (register-granted k es e fs u a) refl
+    (register-granted k es e fs u x a) refl
     (subst (λ (l : List Bytes). Runs (withEntries k (es ++ (e ∷ []))) (map register fs) (withEntries k l)) j
-    (registers-run k (es ++ (e ∷ [])) fs u (subst⁻¹ Entries j a)))
+    (registers-run k (es ++ (e ∷ [])) fs u x (subst⁻¹ Entries j a)))
 
-abbrev switchesOf : Bool → Bool → Bool → Switches
-switchesOf e l m = record { enabled = e; locked = l; «disabling_allowed» = m }
+abbrev switchesOf : Bool → Bool → Bool → Bool → Switches
+switchesOf e l m x = record { enabled = e; locked = l; «disabling_allowed» = m; exited = x }
 
--- disable, then lock, each only if the old engine was: the fresh engine gets its switches, and each call answers 0
+-- disable, then lock, then exit, each only if the old engine was so: the fresh engine gets its switches, and each call answers 0
 module _ (nv vol p : Bytes) (o : List Bytes) where
-  closing-ends : (e l m : Bool) → (e ≡ false → m ≡ true)
-      → end machine (stateOf nv vol (packPolicy o) (freshSwitches m)) (closingOf (stateOf nv vol p (switchesOf e l m))) ≡ stateOf nv vol (packPolicy o) (switchesOf e l m)
+  closing-ends : (e l m x : Bool) → (e ≡ false → m ≡ true)
+      → end machine (stateOf nv vol (packPolicy o) (freshSwitches m)) (closingOf (stateOf nv vol p (switchesOf e l m x))) ≡ stateOf nv vol (packPolicy o) (switchesOf e l m x)
   unfolding step
-  closing-ends true true m h = refl
-  closing-ends true false m h = refl
-  closing-ends false true m h = rw (h refl)
-  closing-ends false false m h = rw (h refl)
+  closing-ends true true m true h = refl
+  closing-ends true true m false h = refl
+  closing-ends true false m true h = refl
+  closing-ends true false m false h = refl
+  closing-ends false true m true h = rw (h refl)
+  closing-ends false true m false h = rw (h refl)
+  closing-ends false false m true h = rw (h refl)
+  closing-ends false false m false h = rw (h refl)
 
-  closing-done : (e l m : Bool) → (e ≡ false → m ≡ true)
-      → AllGranted machine (stateOf nv vol (packPolicy o) (freshSwitches m)) (closingOf (stateOf nv vol p (switchesOf e l m)))
+  closing-done : (e l m x : Bool) → (e ≡ false → m ≡ true)
+      → AllGranted machine (stateOf nv vol (packPolicy o) (freshSwitches m)) (closingOf (stateOf nv vol p (switchesOf e l m x)))
   unfolding step
-  closing-done true true m h = (refl, tt)
-  closing-done true false m h = tt
-  closing-done false true m h = rw (h refl) (refl, (refl, tt))
-  closing-done false false m h = rw (h refl) (refl, tt)
+  closing-done true true m true h = (refl, (refl, tt))
+  closing-done true true m false h = (refl, tt)
+  closing-done true false m true h = (refl, tt)
+  closing-done true false m false h = tt
+  closing-done false true m true h = rw (h refl) (refl, (refl, (refl, tt)))
+  closing-done false true m false h = rw (h refl) (refl, (refl, tt))
+  closing-done false false m true h = rw (h refl) (refl, (refl, tt))
+  closing-done false false m false h = rw (h refl) (refl, tt)
 
 rebuild-run : (s : State) (o : List Bytes) → Sound s → List·Permᴰ (entriesOf (s .policy)) o → Runs s (rebuilding machine s o) (withEntries s o)
 rebuild-run s o w d =
@@ -389,10 +400,10 @@ rebuild-run s o w d =
     runs-cons s (restartOf s) (withEntries fresh []) (map register o ++ closingOf s) (withEntries s o)
     (restart-done s (x .«disabling_allowed») w) refl
     (runs-append (withEntries fresh []) (map register o) (withEntries fresh o) (closingOf s) (withEntries s o)
-    (registers-run fresh [] o refl (entries-o s w o d))
+    (registers-run fresh [] o refl refl (entries-o s w o d))
     (record {
-      done = closing-done (s .nv) (s .vol) (s .policy) o (x .enabled) (x .locked) (x .«disabling_allowed») (w .leave);
-      ends = closing-ends (s .nv) (s .vol) (s .policy) o (x .enabled) (x .locked) (x .«disabling_allowed») (w .leave);
+      done = closing-done (s .nv) (s .vol) (s .policy) o (x .enabled) (x .locked) (x .«disabling_allowed») (x .exited) (w .leave);
+      ends = closing-ends (s .nv) (s .vol) (s .policy) o (x .enabled) (x .locked) (x .«disabling_allowed») (x .exited) (w .leave);
     }))
 
 -- the entries in one order over the record of another

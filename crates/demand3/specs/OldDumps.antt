@@ -67,29 +67,29 @@ abbrev pub DumpsBack : State → List Bytes → Type 0
 DumpsBack t es = (buffer : Bytes) → length (flat es) ≤ length buffer
     → step t (dump buffer) .0 ≡ answerOf Success (length (flat es)) (overwrite buffer 0 (flat es)) none
 
-dumps-back : (t : State) (es : List Bytes) → PolicyEntries (t .policy) es → DumpsBack t es
+dumps-back : (t : State) (es : List Bytes) → t .switches .exited ≡ false → PolicyEntries (t .policy) es → DumpsBack t es
 unfolding step dumpStatus
-dumps-back t es w buffer room =
+dumps-back t es x w buffer room =
     let k = entries-packs (t .policy) es w in
-    rw (packs-policy es (t .policy) k, packs-only es (t .policy) k, le-leb (length (flat es)) (length buffer) room)
+    rw (packs-policy es (t .policy) k, x, packs-only es (t .policy) k, le-leb (length (flat es)) (length buffer) room)
 
--- an engine without entries that is not locked
-module _ (k : State) (u : k .switches .locked ≡ false) (es : List Bytes) (formed : Formed es) (valid : Entries (withoutSigns es)) where
+-- an engine without entries that is not locked and has not exited
+module _ (k : State) (u : k .switches .locked ≡ false) (x : k .switches .exited ≡ false) (es : List Bytes) (formed : Formed es) (valid : Entries (withoutSigns es)) where
   module _ (xs ys : List Bytes) (q : es ≡ xs ++ ys) where
     part-valid : Entries (withoutSigns xs)
     part-valid = entries-left (withoutSigns xs) (withoutSigns ys) (subst Entries (ap withoutSigns q ∙ without-append xs ys) valid)
 
     part-keeps : end machine (withEntries k []) (map register xs) ≡ withEntries k (withoutSigns xs)
-    part-keeps = registers k u [] xs (all-left xs ys (subst Formed q formed)) part-valid .ends
+    part-keeps = registers k u x [] xs (all-left xs ys (subst Formed q formed)) part-valid .ends
 
   registrations : Registrations (withEntries k []) es
   registrations =
       record {
-        answered = registers k u [] es formed valid .answered;
+        answered = registers k u x [] es formed valid .answered;
         untouched = λ xs e ys q h.
             let w : firstWellFormed e ≡ true = all-here (all-right xs (e ∷ ys) (subst Formed q formed)) in
             subst⁻¹ (λ (z : State). step z (register e) .1 ≡ z) (part-keeps xs (e ∷ ys) q)
-            (ap (λ (p : Answer × State). p .1) (register-refused k (withoutSigns xs) e u (part-valid xs (e ∷ ys) q) (formed-since e w ∙ ap not h)));
+            (ap (λ (p : Answer × State). p .1) (register-refused k (withoutSigns xs) e u x (part-valid xs (e ∷ ys) q) (formed-since e w ∙ ap not h)));
         holds = λ xs ys q.
             subst⁻¹ (λ (z : State). PolicyEntries (z .policy) (withoutSigns xs)) (part-keeps xs ys q)
             (packs-entries (packPolicy (withoutSigns xs)) (withoutSigns xs) (record { entries = part-valid xs ys q; packs = refl }));
@@ -97,23 +97,27 @@ module _ (k : State) (u : k .switches .locked ≡ false) (es : List Bytes) (form
       }
 
 module _ (s : State) (allowed : Bool) (answered0 : isSuccess (step s (powerOn allowed) .0 .status) ≡ true) where
+  not-exited : {z : State} {p : Bytes} → z ≡ stateOf (poweredOn s allowed .nv) (poweredOn s allowed .vol) p (poweredOn s allowed .switches) → z .switches .exited ≡ false
+  not-exited e = ap (λ (t : State). t .switches .exited) e ∙ ap (λ (t : State). t .switches .exited) (granted-effect s (powerOn allowed) answered0)
+
   module _ (most bytes : ℕ) (edition : Earlier most bytes) (old : Bytes) (es : List Bytes) (held : OldEntries most bytes old es) where
     -- EXACTLY THE ENTRIES WITH '#' IN THE TRIGGER'S NAME ARE REFUSED
     pub old-dumps-register : Registrations (poweredOn s allowed) es
     old-dumps-register =
         subst⁻¹ (λ (t : State). Registrations t es) (granted-effect s (powerOn allowed) answered0)
-        (registrations (effect s (powerOn allowed)) refl es (held .formed) (without-entries es edition (entries-packs old es held .entries)))
+        (registrations (effect s (powerOn allowed)) refl refl es (held .formed) (without-entries es edition (entries-packs old es held .entries)))
 
     -- A DUMP HANDS OUT THE OTHERS, BYTE FOR BYTE
     pub old-dumps-come-back : DumpsBack (end machine (poweredOn s allowed) (map register es)) (withoutSigns es)
-    old-dumps-come-back = dumps-back (end machine (poweredOn s allowed) (map register es)) (withoutSigns es) (old-dumps-register .holds es [] (sym (append-nil es)))
+    old-dumps-come-back = dumps-back (end machine (poweredOn s allowed) (map register es)) (withoutSigns es)
+        (not-exited (old-dumps-register .keeps es [] (sym (append-nil es)))) (old-dumps-register .holds es [] (sym (append-nil es)))
 
     -- IF NO TRIGGER'S NAME HAS A '#', ALL REGISTER, AND THE OLD DUMP COMES BACK
     module _ (none-has : All (λ e. signInTrigger e ≡ false) es) where
       pub old-dumps-whole : AllRegister (poweredOn s allowed) es
       old-dumps-whole =
           let valid = subst Entries (without-all es none-has) (without-entries es edition (entries-packs old es held .entries)) in
-          let r = registers-run (effect s (powerOn allowed)) [] es refl valid in
+          let r = registers-run (effect s (powerOn allowed)) [] es refl refl valid in
           subst⁻¹ (λ (t : State). AllRegister t es) (granted-effect s (powerOn allowed) answered0)
           (record {
             granted = r .done;
@@ -122,7 +126,7 @@ module _ (s : State) (allowed : Bool) (answered0 : isSuccess (step s (powerOn al
           })
 
       pub old-dumps-whole-come-back : DumpsBack (end machine (poweredOn s allowed) (map register es)) es
-      old-dumps-whole-come-back = dumps-back (end machine (poweredOn s allowed) (map register es)) es (old-dumps-whole .holds)
+      old-dumps-whole-come-back = dumps-back (end machine (poweredOn s allowed) (map register es)) es (not-exited (old-dumps-whole .keeps)) (old-dumps-whole .holds)
 
     -- however the bytes of the dump are cut into entries that were well formed, it is these that are registered
     pub old-dumps-cut : (ds : List Bytes) → All (λ e. firstWellFormed e ≡ true) ds → flat ds ≡ flat es → Registrations (poweredOn s allowed) ds

@@ -124,17 +124,17 @@ registered-cons t e y es z q r =
       ends = ap (λ (p : Answer × State). end machine (p .1) (map register es)) q ∙ r .ends;
     }
 
--- with the entries xs in an engine that is not locked a malformed one
-pub register-refused : (k : State) (xs : List Bytes) (e : Bytes) → k .switches .locked ≡ false → Entries xs → wellFormed e ≡ false
+-- with the entries xs in an engine that is not locked and has not exited a malformed one
+pub register-refused : (k : State) (xs : List Bytes) (e : Bytes) → k .switches .locked ≡ false → k .switches .exited ≡ false → Entries xs → wellFormed e ≡ false
     → step (withEntries k xs) (register e) ≡ (onlyStatus InvalidParameter, withEntries k xs)
 unfolding step registerStatus
-register-refused k xs e u a w = rw (entries-policy xs a, u, w)
+register-refused k xs e u x a w = rw (entries-policy xs a, x, u, w)
 
 -- '#' in the trigger's name is 2 and leaves everything as it was; the others stand behind those before them
-pub registers : (k : State) (u : k .switches .locked ≡ false) (xs ys : List Bytes) → Formed ys → Entries (xs ++ withoutSigns ys)
+pub registers : (k : State) (u : k .switches .locked ≡ false) (x : k .switches .exited ≡ false) (xs ys : List Bytes) → Formed ys → Entries (xs ++ withoutSigns ys)
     → Registered (withEntries k xs) ys (withEntries k (xs ++ withoutSigns ys))
-registers k u xs [] nil a = record { answered = refl; ends = rw (append-nil xs) }
-registers k u xs (y ∷ ys) (more w f) a = go (signInTrigger y) refl a (λ b. registers k u xs ys f b) (λ b. registers k u (xs ++ (y ∷ [])) ys f b)
+registers k u x xs [] nil a = record { answered = refl; ends = rw (append-nil xs) }
+registers k u x xs (y ∷ ys) (more w f) a = go (signInTrigger y) refl a (λ b. registers k u x xs ys f b) (λ b. registers k u x (xs ++ (y ∷ [])) ys f b)
   where
     go : (b : Bool) → signInTrigger y ≡ b → Entries (xs ++ cond b (withoutSigns ys) (y ∷ withoutSigns ys))
         → (Entries (xs ++ withoutSigns ys) → Registered (withEntries k xs) ys (withEntries k (xs ++ withoutSigns ys)))
@@ -142,10 +142,10 @@ registers k u xs (y ∷ ys) (more w f) a = go (signInTrigger y) refl a (λ b. re
         → Registered (withEntries k xs) (y ∷ ys) (withEntries k (xs ++ cond b (withoutSigns ys) (y ∷ withoutSigns ys)))
     go true q c same behind =
         registered-cons (withEntries k xs) y (withEntries k xs) ys (withEntries k (xs ++ withoutSigns ys))
-        (rw q (register-refused k xs y u (entries-left xs (withoutSigns ys) c) (formed-since y w ∙ ap not q)))
+        (rw q (register-refused k xs y u x (entries-left xs (withoutSigns ys) c) (formed-since y w ∙ ap not q)))
         (same c)
     go false q c same behind =
         let j : (xs ++ (y ∷ [])) ++ withoutSigns ys ≡ xs ++ (y ∷ withoutSigns ys) = append-assoc xs (y ∷ []) (withoutSigns ys) in
         registered-cons (withEntries k xs) y (withEntries k (xs ++ (y ∷ []))) ys (withEntries k (xs ++ (y ∷ withoutSigns ys)))
-        (rw q (register-granted k xs y (withoutSigns ys) u c))
+        (rw q (register-granted k xs y (withoutSigns ys) u x c))
         (subst (λ (l : List Bytes). Registered (withEntries k (xs ++ (y ∷ []))) ys (withEntries k l)) j (behind (subst⁻¹ Entries j c)))

@@ -29,7 +29,7 @@ use Rattle.rules.specs.declared.Report.{Report}
 use Rattle.rules.specs.Report.{reportOf}
 use Rattle.rules.specs.Engine as rules
 use Rattle.rules.specs.Engine.{State, Answer, Call, step}
-use Rattle.rules.specs.Engine.Call.{powerOn, restart, register, dump, lock, disable, read, set}
+use Rattle.rules.specs.Engine.Call.{powerOn, restart, register, dump, lock, disable, exit, read, set}
 use Rattle.rules.specs.Opened.{rulesOpened}
 use Rattle.history.specs.History.{Items, Order, Complete, Demand3, Permitted, Past, answers, end, answersWith, endWith, history, stateBy, standingOrder, struck}
 use Rattle.history.specs.AnyMoment.{pastAfter}
@@ -74,9 +74,12 @@ e₃ = entry G 0 (name 0x23 0x41)
 abbrev variable : Bytes → ℕ → ℕ → Variable
 variable space a b = record { namespace = space; name = name a b }
 
--- a set with NV and BS
+-- a set with NV and BS, and one with RT beside them
 abbrev setting : Variable → Bytes → Call
 setting v payload = set (record { variable = v; attributes = 3; payload = payload })
+
+abbrev settingRT : Variable → Bytes → Call
+settingRT v payload = set (record { variable = v; attributes = 7; payload = payload })
 
 -- before the power-on: an erased non-volatile store, a volatile one and a policy record that hold anything
 abbrev board : rules.State
@@ -94,6 +97,13 @@ d₂₁₃ = e₂ ∷ e₁ ∷ e₃ ∷ []
 
 abbrev d₃ : List Bytes
 d₃ = e₃ ∷ []
+
+-- behind a restart: the third and then the second, and in another order
+abbrev d₃₂ : List Bytes
+d₃₂ = e₃ ∷ e₂ ∷ []
+
+abbrev d₂₃ : List Bytes
+d₂₃ = e₂ ∷ e₃ ∷ []
 
 -- THE LIST, part by part: each time a rebuild, then calls of the history
 abbrev andThen : Items machine → List Bytes → Order machine → List Call → Items machine
@@ -149,9 +159,28 @@ calls₆ = setting (variable G 0x41 0x31) (7 ∷ []) ∷ restart false ∷ regis
 abbrev items₆ : Items machine
 items₆ = andThen items₅ d₂₁₃ none calls₆
 
--- 7. After the last call, from the history's dump, in order
+-- 7. From the history's dump, in order. A registration
+abbrev items₇ : Items machine
+items₇ = andThen items₆ d₃ none (register e₂ ∷ [])
+
+-- An own dump, and the exit of the history; a dump of the history, which is refused now
+abbrev dumped₇ : Items machine
+dumped₇ = items₇ ++ (ownDump (replicate 100 6) ∷ [])
+
+abbrev exited₇ : Items machine
+exited₇ = dumped₇ ++ map call (exit ∷ dump (replicate 100 2) ∷ [])
+
+-- 8. After exit, from the dump before it, in another order. A registration that is refused now; a read of a variable without RT, which is hidden; a set
+-- with RT
+abbrev calls₈ : List Call
+calls₈ = register e₁ ∷ read (variable H 0x41 0x31) ∷ settingRT (variable H 0x41 0x32) (5 ∷ []) ∷ []
+
+abbrev items₈ : Items machine
+items₈ = andThen exited₇ d₃₂ (some d₂₃) calls₈
+
+-- 9. After exit again, from the same dump, in order. A read of the variable with RT; a lock that is refused; the next power-on
 abbrev items : Items machine
-items = andThen items₆ d₃ none []
+items = andThen items₈ d₃₂ none (read (variable H 0x41 0x32) ∷ lock ∷ powerOn false ∷ [])
 
 abbrev start : State
 start = poweredOn board true
@@ -185,7 +214,8 @@ reportAt (suc n) (a ∷ l) = reportAt n l
 -- WHAT THE CALLS ANSWER, computed
 pub record Answers : Type 0 where
   pub powered : isSuccess (step board (powerOn true) .0 .status) ≡ true
-  pub statuses : statusNumbers answersGot ≡ 0 ∷ 0 ∷ 8 ∷ 0 ∷ 0 ∷ 5 ∷ 0 ∷ 0 ∷ 0 ∷ 8 ∷ 0 ∷ 0 ∷ 0 ∷ 8 ∷ 0 ∷ 0 ∷ 0 ∷ 0 ∷ []
+  pub statuses : statusNumbers answersGot ≡ 0 ∷ 0 ∷ 8 ∷ 0 ∷ 0 ∷ 5 ∷ 0 ∷ 0 ∷ 0 ∷ 8 ∷ 0 ∷ 0 ∷ 0 ∷ 8 ∷ 0 ∷ 0 ∷ 0 ∷ 0
+      ∷ 0 ∷ 0 ∷ 3 ∷ 3 ∷ 14 ∷ 0 ∷ 0 ∷ 3 ∷ 0 ∷ []
   -- the read's attributes and payload
   pub attributes : numberOf 4 answersGot ≡ 3
   pub payload : bytesOf 4 answersGot ≡ 1 ∷ 2 ∷ []
@@ -223,18 +253,31 @@ answered = record {
   reportedPlain = refl;
 }
 
+-- and after exit: the refused dump, whose buffer is as it was, with no length; the hidden read, which tells nothing; the read of the variable with RT
+pub record AnswersAfterExit : Type 0 where
+  pub undumped : bytesOf 20 answersGot ≡ replicate 100 2
+  pub unneeded : numberOf 20 answersGot ≡ 0
+  pub untold : bytesOf 22 answersGot ≡ []
+  pub told : bytesOf 24 answersGot ≡ 5 ∷ []
+
+pub answered-after-exit : AnswersAfterExit
+unfolding rulesOpened
+answered-after-exit = record { undumped = same-eq (bytesOf 20 answersGot) (replicate 100 2) refl; unneeded = refl; untold = refl; told = refl }
+
 -- THE ORDER THAT STANDS, computed
 pub record Orders : Type 0 where
   -- after the third part: the older dump's
   pub older : standingOrder machine none start items₃ ≡ some d₁₂
   -- after the fifth: the other, the entry registered since behind it
   pub other : standingOrder machine none start items₅ ≡ some d₂₁₃
-  -- at the end, a restart and a rebuild in order later: none
+  -- after the eighth, behind a restart of the history and exit: another again
+  pub exited : standingOrder machine none start items₈ ≡ some d₂₃
+  -- at the end, a power-on of the history later: none
   pub last : standingOrder machine none start items ≡ none
 
 pub orders : Orders
 unfolding rulesOpened
-orders = record { older = refl; other = refl; last = refl }
+orders = record { older = refl; other = refl; exited = refl; last = refl }
 
 -- THE REFUSED CALLS STRUCK, computed
 abbrev notRefused : Items machine
@@ -247,11 +290,14 @@ notRefused =
     ∷ call (register e₃) ∷ call (dump (replicate 152 9)) ∷ rebuild d₂₁₃ none
     ∷ call disable ∷ call lock ∷ rebuild d₂₁₃ none
     ∷ call (setting (variable G 0x41 0x31) (7 ∷ [])) ∷ call (restart false) ∷ call (register e₃) ∷ call (dump (replicate 51 4))
-    ∷ rebuild d₃ none ∷ []
+    ∷ rebuild d₃ none
+    ∷ call (register e₂) ∷ ownDump (replicate 100 6) ∷ call exit ∷ rebuild d₃₂ (some d₂₃)
+    ∷ call (settingRT (variable H 0x41 0x32) (5 ∷ [])) ∷ rebuild d₃₂ none
+    ∷ call (read (variable H 0x41 0x32)) ∷ call (powerOn false) ∷ []
 
 pub record Struck : Type 0 where
   pub list : struck machine start items ≡ notRefused
-  pub statuses : statusNumbers (answersWith machine start notRefused) ≡ replicate 14 0
+  pub statuses : statusNumbers (answersWith machine start notRefused) ≡ replicate 19 0
 
 pub strikes : Struck
 unfolding rulesOpened
@@ -316,6 +362,18 @@ complete-last : Complete machine d₃ (past items₆)
 unfolding rulesOpened
 complete-last = complete-here d₃ (past items₆) (refl, refl, refl)
 
+-- the own dump before exit; the exit, a refused dump, a rebuild in another order, a refused registration, a read and a set do not outdate it
+complete-before : Complete machine d₃₂ (past dumped₇)
+unfolding rulesOpened
+complete-before = complete-here d₃₂ (past dumped₇) (refl, refl, refl)
+
+complete-exited : Complete machine d₃₂ (past exited₇)
+complete-exited = inr (refl, inr (refl, complete-before))
+
+complete-again : Complete machine d₃₂ (past items₈)
+unfolding rulesOpened
+complete-again = inr (refl, inr (refl, inr (refl, complete-exited)))
+
 -- WHAT THE CHECKER OF A DUMP ANSWERS (RULES.md, 10.11), computed. No quarrel in the first dump, and so it can be rebuilt in every order
 no-quarrel : quarrelsOf (flat d₁₂) ≡ NoQuarrel
 unfolding checkerOpened
@@ -323,6 +381,10 @@ no-quarrel = refl
 
 other-order : List·Permᴰ d₁₂ d₂₁
 other-order = List·Permᴰ·swap refl refl
+
+no-quarrel₃₂ : quarrelsOf (flat d₃₂) ≡ NoQuarrel
+unfolding checkerOpened
+no-quarrel₃₂ = refl
 
 -- with the third entry behind it a pair, at the places 1 and 2, with the name "AA", and so no other order is permitted
 one-quarrel : quarrelsOf (flat d₂₁₃) ≡ Found 1 2 4
@@ -383,8 +445,17 @@ proper₆ : ProperHere items₆
 proper₆ =
     then-proper items₅ d₂₁₃ none calls₆ (then-proper items₄ d₂₁₃ none calls₅ proper₄ complete-new tt) complete-old tt
 
+proper₇ : ProperHere exited₇
+proper₇ =
+    append-calls board true (answered .powered) dumped₇ (exit ∷ dump (replicate 100 2) ∷ [])
+    (insert-dump board true (answered .powered) items₇ [] (replicate 100 6) (then-proper items₆ d₃ none (register e₂ ∷ []) proper₆ complete-last tt))
+
+proper₈ : ProperHere items₈
+proper₈ =
+    any-order board true (answered .powered) exited₇ d₃₂ proper₇ complete-exited no-quarrel₃₂ d₂₃ (List·Permᴰ·swap refl refl) .properOn calls₈
+
 pub proper : ProperHere items
-proper = then-proper items₆ d₃ none [] proper₆ complete-last tt
+proper = then-proper items₈ d₃₂ none (read (variable H 0x41 0x32) ∷ lock ∷ powerOn false ∷ []) proper₈ complete-again tt
 
 -- AND SO THE CLAIM HOLDS OF IT
 pub holds : Demand3 machine start items

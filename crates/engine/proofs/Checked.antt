@@ -16,7 +16,9 @@ use Rattle.entry.specs.declared.Entry.{Entry}
 use Rattle.entry.specs.declared.Parsed.the-variants.{WellFormed, Malformed}
 use Rattle.policy.specs.Policy.{policyValid}
 use Rattle.status.specs.declared.Status.{Status}
-use Rattle.status.specs.declared.Status.the-variants.{Success, InvalidParameter, BufferTooSmall, WriteProtected, OutOfResources, VolumeCorrupted, AlreadyStarted}
+use Rattle.status.specs.declared.Status.the-variants.{Success, InvalidParameter, Unsupported, BufferTooSmall, WriteProtected, OutOfResources, VolumeCorrupted, AlreadyStarted}
+use Rattle.switches.specs.declared.Switches.{Switches}
+use Rattle.switches.specs.Switches.{unlessExited}
 use Rattle.rules.specs.Engine.{registerStatus, dumpStatus}
 
 -- what reading an entry tells
@@ -42,6 +44,13 @@ lent-invalid p n h = ap (λ b. cond b n VolumeCorrupted) h
 
 pub lent-valid : (p : Bytes) (n m : Status) → policyValid p ≡ true → n ≡ m → cond (policyValid p) n VolumeCorrupted ≡ m
 lent-valid p n m h k = ap (λ b. cond b n VolumeCorrupted) h ∙ k
+
+-- a call that is not to be had after exit, by the switch
+pub lent-exited : (w : Switches) (n : Status) → w .exited ≡ true → unlessExited w n ≡ Unsupported
+lent-exited w n h = ap (λ b. cond b Unsupported n) h
+
+pub lent-before : (w : Switches) (n m : Status) → w .exited ≡ false → n ≡ m → unlessExited w n ≡ m
+lent-before w n m h k = ap (λ b. cond b Unsupported n) h ∙ k
 
 -- the statuses of register, in their order
 module _ (locked : Bool) (es : List Bytes) (e : Bytes) where

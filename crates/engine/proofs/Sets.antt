@@ -43,10 +43,10 @@ module _ {a : SetAnswer} (nv vol p : Bytes) (w : Switches) (r : Request) (k : a 
 -- ---- over sound stores and a valid record
 
 -- what is decided is a decision of the rules
-pub decides : {d : Decided} (es : List Bytes) (enabled : Bool) (nv vol : Bytes) (r : Request) → d ≡ decidedBy es enabled nv vol r
-    → d .decision ≡ decision (speaking enabled (chosen es (r .variable))) nv vol r
+pub decides : {d : Decided} (es : List Bytes) (w : Switches) (nv vol : Bytes) (r : Request) → d ≡ decidedBy es w nv vol r
+    → d .decision ≡ decision (w .exited) (speaking (w .enabled) (chosen es (r .variable))) nv vol r
 unfolding decisionBy
-decides es enabled nv vol r e = ap (λ x. x .decision) e
+decides es w nv vol r e = ap (λ x. x .decision) e
 
 module _ (nv vol p : Bytes) (w : Switches) (r : Request) where
   abbrev before : State
@@ -73,7 +73,7 @@ module _ (nv vol p : Bytes) (w : Switches) (r : Request) where
   leaves Store = refl
 
   pub set-done : {d : Decided} {n : Status} {nv′ vol′ : Bytes} → sound nv vol ≡ true → policyValid p ≡ true
-      → d ≡ decidedBy (entriesOf p) (w .enabled) nv vol r → n ≡ decisionStatus (d .decision)
+      → d ≡ decidedBy (entriesOf p) w nv vol r → n ≡ decisionStatus (d .decision)
       → nv′ ≡ decisionStore (d .decision) true nv (lookup nv vol (r .variable)) r → vol′ ≡ decisionStore (d .decision) false vol (lookup nv vol (r .variable)) r
       → step before (set r) ≡ (withReport n (d .report), stateOf nv′ vol′ p w)
   unfolding decisionBy _and_

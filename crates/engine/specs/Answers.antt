@@ -3,17 +3,18 @@
 use Prim.Native.Nat.{ℕ, _+_, _≤_}
 use mathlib.Core.Path.{_≡_}
 use mathlib.Core.List.{[]}
-use mathlib.Core.Bool.{false, cond}
+use mathlib.Core.Bool.{Bool, false, cond}
 use mathlib.Core.Option.{none}
 use lib.ListN.{length}
 use Rattle.slices.specs.Bytes.{Bytes, part}
 use Rattle.names.specs.Name.{Variable, named}
 use Rattle.store.specs.Record.{hasNV}
-use Rattle.stores.specs.Pair.{sound}
+use Rattle.stores.specs.Pair.{sound, lookup}
 use Rattle.stores.specs.declared.Place.{Place}
-use Rattle.stores.specs.Place.{placeIn, isSomewhere, attributesAt, boundsAt}
+use Rattle.stores.specs.Place.{placeIn, attributesAt, boundsAt}
 use Rattle.status.specs.declared.Status.{Status}
 use Rattle.status.specs.declared.Status.the-variants.{Success, InvalidParameter, VolumeCorrupted, NotFound}
+use Rattle.rules.specs.Set.{exists, shown}
 use Rattle.rules.specs.Engine.{State, Answer, answerOf, step}
 use Rattle.rules.specs.Engine.Call.{read}
 use Rattle.engine.specs.declared.DumpAnswer.{DumpAnswer}
@@ -45,11 +46,11 @@ readingAt nv vol p =
       to = boundsAt nv vol p .to;
     }
 
--- what a read tells: 10, 2, 14, or the record where the variable stands
-unfoldable pub readingOf : Bytes → Bytes → Variable → Reading
-readingOf nv vol v =
+-- what a read tells, before exit or after it: 10, 2, 14, or the record where the variable stands
+unfoldable pub readingOf : Bool → Bytes → Bytes → Variable → Reading
+readingOf exited nv vol v =
     cond (sound nv vol)
-    (cond (named v) (cond (isSomewhere (placeIn nv vol v)) (readingAt nv vol (placeIn nv vol v)) (refusedReading NotFound)) (refusedReading InvalidParameter))
+    (cond (named v) (cond (exists (shown exited (lookup nv vol v))) (readingAt nv vol (placeIn nv vol v)) (refusedReading NotFound)) (refusedReading InvalidParameter))
     (refusedReading VolumeCorrupted)
 
 -- the store that a reading names, and the bytes of it that it names

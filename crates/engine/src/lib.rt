@@ -14,7 +14,7 @@ ghost use Rattle.switches.specs.Switches.{freshSwitches, refusedSwitches};
 ghost use Rattle.rules.specs.Set.{requestOf};
 ghost use Rattle.rules.specs.Report.{noReport};
 ghost use Rattle.rules.specs.Engine.{stateOf, step, onlyStatus, handBack, withReport};
-ghost use Rattle.rules.specs.Engine.Call.{powerOn, restart, register, dump, lock, disable, query, read, set};
+ghost use Rattle.rules.specs.Engine.Call.{powerOn, restart, register, dump, lock, disable, exit, query, read, set};
 ghost use Rattle.engine.specs.Answers.{dumpAnswer, queryAnswer, refusedReading, readingAt, readingOf, ReadStep, payloadPlace};
 use entry::Parsed;
 use policy::PolicyCheck;
@@ -61,6 +61,7 @@ fn refused_start() -> SwitchAnswer
         enabled: true,
         locked: true,
         disabling_allowed: false,
+        exited: false,
     };
     SwitchAnswer {
         status: Status::VolumeCorrupted,
@@ -76,6 +77,7 @@ fn fresh_start(disabling_allowed: bool) -> SwitchAnswer
         enabled: true,
         locked: false,
         disabling_allowed,
+        exited: false,
     };
     SwitchAnswer {
         status: Status::Success,
@@ -136,9 +138,9 @@ pub fn restart(nv: &[u8], vol: &[u8], policy: &mut [u8], disabling_allowed: bool
 }
 
 // Registers a policy entry behind those of the lent policy record.
-// VOLUME_CORRUPTED where the record is not valid; WRITE_PROTECTED where the engine is locked; INVALID_PARAMETER for a malformed
-// entry; ALREADY_STARTED where an entry of the same namespace and name is registered; OUT_OF_RESOURCES where there are as many
-// entries as the limit, or the sum of Sizes would be over it.
+// VOLUME_CORRUPTED where the record is not valid; UNSUPPORTED after exit; WRITE_PROTECTED where the engine is locked; INVALID_PARAMETER
+// for a malformed entry; ALREADY_STARTED where an entry of the same namespace and name is registered; OUT_OF_RESOURCES where there are
+// as many entries as the limit, or the sum of Sizes would be over it.
 pub fn register(policy: &mut [u8], switches: Switches, entry: &[u8]) -> Status
     ensures { λ r.
         ⌜ ((nv vol : Bytes) → step (stateOf nv vol (now (policy .entry)) switches) (register (now (entry .entry)))
@@ -148,6 +150,9 @@ pub fn register(policy: &mut [u8], switches: Switches, entry: &[u8]) -> Status
     let PolicyCheck::Valid { count, used } = checked else {
         return Status::VolumeCorrupted;
     };
+    if switches.exited {
+        return Status::Unsupported;
+    }
     if switches.locked {
         return Status::WriteProtected;
     }
@@ -169,12 +174,12 @@ pub fn register(policy: &mut [u8], switches: Switches, entry: &[u8]) -> Status
 }
 
 // Writes the entries in the order registered from the start of the buffer; its later bytes stay.
-// VOLUME_CORRUPTED where the record is not valid; BUFFER_TOO_SMALL, with the needed length, where the buffer is shorter than
-// the sum of Sizes.
-pub fn dump(policy: &[u8], buffer: &mut [u8]) -> DumpAnswer
+// VOLUME_CORRUPTED where the record is not valid; UNSUPPORTED after exit; BUFFER_TOO_SMALL, with the needed length, where the buffer
+// is shorter than the sum of Sizes.
+pub fn dump(policy: &[u8], switches: Switches, buffer: &mut [u8]) -> DumpAnswer
     ensures { λ r.
-        ⌜ ((nv vol : Bytes) (w : Switches) → step (stateOf nv vol (now (policy .entry)) w) (dump (now (buffer .entry)))
-        ≡ (dumpAnswer r (now (buffer .exit)), stateOf nv vol (now (policy .entry)) w)) ⌝ }
+        ⌜ ((nv vol : Bytes) → step (stateOf nv vol (now (policy .entry)) switches) (dump (now (buffer .entry)))
+        ≡ (dumpAnswer r (now (buffer .exit)), stateOf nv vol (now (policy .entry)) switches)) ⌝ }
 {
     let checked = policy::check(policy);
     let PolicyCheck::Valid { count: _, used } = checked else {
@@ -183,6 +188,12 @@ pub fn dump(policy: &[u8], buffer: &mut [u8]) -> DumpAnswer
             length: 0,
         };
     };
+    if switches.exited {
+        return DumpAnswer {
+            status: Status::Unsupported,
+            length: 0,
+        };
+    }
     if buffer.len() < used {
         return DumpAnswer {
             status: Status::BufferTooSmall,
@@ -197,7 +208,7 @@ pub fn dump(policy: &[u8], buffer: &mut [u8]) -> DumpAnswer
 }
 
 // Locks the engine: no entry is registered until the next power-on or restart.
-// WRITE_PROTECTED where it is locked already.
+// UNSUPPORTED after exit; WRITE_PROTECTED where it is locked already.
 pub fn lock(switches: Switches) -> SwitchAnswer
     ensures { λ r.
         ⌜ ((nv vol policy : Bytes) → step (stateOf nv vol policy switches) lock
@@ -207,13 +218,23 @@ pub fn lock(switches: Switches) -> SwitchAnswer
 }
 
 // Disables the engine: sets are no longer held to the entries, until the next power-on or restart.
-// ALREADY_STARTED where it is disabled; WRITE_PROTECTED where it is locked or disabling is not allowed.
+// UNSUPPORTED after exit; ALREADY_STARTED where it is disabled; WRITE_PROTECTED where it is locked or disabling is not allowed.
 pub fn disable(switches: Switches) -> SwitchAnswer
     ensures { λ r.
         ⌜ ((nv vol policy : Bytes) → step (stateOf nv vol policy switches) disable
         ≡ (onlyStatus (r .status), stateOf nv vol policy (r .switches))) ⌝ }
 {
     switches::disable(switches)
+}
+
+// Tells the engine that the operating system starts: until the next power-on or restart, what RULES.md, 8.1, says of exited.
+// UNSUPPORTED where it has exited already.
+pub fn exit(switches: Switches) -> SwitchAnswer
+    ensures { λ r.
+        ⌜ ((nv vol policy : Bytes) → step (stateOf nv vol policy switches) exit
+        ≡ (onlyStatus (r .status), stateOf nv vol policy (r .switches))) ⌝ }
+{
+    switches::exit(switches)
 }
 
 // Tells the enabled switch.
@@ -257,12 +278,12 @@ fn reading_at(nv: &[u8], vol: &[u8], place: Place) -> Reading
 }
 
 // The first call of the read pair: the status, the attributes, and where the payload stands. VOLUME_CORRUPTED where the stores are
-// unsound; INVALID_PARAMETER for a bad name; NOT_FOUND where the variable is absent.
-pub fn read(nv: &[u8], vol: &[u8], namespace: [u8; 16], name: &[u8]) -> Reading
-    ensures is { λ r. ⌜ r ≡ readingOf (now (nv .entry)) (now (vol .entry)) (variable namespace (now (name .entry))) ⌝ }
+// unsound; INVALID_PARAMETER for a bad name; NOT_FOUND where the variable is absent or, after exit, has no RT.
+pub fn read(nv: &[u8], vol: &[u8], switches: Switches, namespace: [u8; 16], name: &[u8]) -> Reading
+    ensures is { λ r. ⌜ r ≡ readingOf (switches .exited) (now (nv .entry)) (now (vol .entry)) (variable namespace (now (name .entry))) ⌝ }
     ensures answers { λ r.
-        ⌜ ((policy : Bytes) (w : Switches)
-        → ReadStep (stateOf (now (nv .entry)) (now (vol .entry)) policy w) (variable namespace (now (name .entry))) r) ⌝ }
+        ⌜ ((policy : Bytes)
+        → ReadStep (stateOf (now (nv .entry)) (now (vol .entry)) policy switches) (variable namespace (now (name .entry))) r) ⌝ }
 {
     let checked = stores::check(nv, vol);
     let PairCheck::Sound(ends) = checked else {
@@ -272,21 +293,27 @@ pub fn read(nv: &[u8], vol: &[u8], namespace: [u8; 16], name: &[u8]) -> Reading
         return refused_reading(Status::InvalidParameter);
     }
     let place = stores::locate(nv, vol, ends, &namespace, name);
-    if !stores::is_somewhere(place) {
+    if !set::is_shown(switches.exited, nv, vol, place) {
         return refused_reading(Status::NotFound);
     }
     reading_at(nv, vol, place)
 }
 
 // The second call of the read pair (RULES.md, 10.8): the payload as a subslice of its store, and of length 0 where the read is refused.
-pub fn payload<'a>(nv: &'a [u8], vol: &'a [u8], namespace: [u8; 16], name: &[u8]) -> &'a [u8]
+pub fn payload<'a>(
+    nv: &'a [u8],
+    vol: &'a [u8],
+    switches: Switches,
+    namespace: [u8; 16],
+    name: &[u8],
+) -> &'a [u8]
     ensures { λ r.
-        ⌜ ((policy : Bytes) (w : Switches)
-        → now r ≡ step (stateOf (now (nv .entry)) (now (vol .entry)) policy w) (read (variable namespace (now (name .entry)))) .0 .bytes) ⌝ }
+        ⌜ ((policy : Bytes)
+        → now r ≡ step (stateOf (now (nv .entry)) (now (vol .entry)) policy switches) (read (variable namespace (now (name .entry)))) .0 .bytes) ⌝ }
     ensures { λ r.
-        ⌜ ptr r ≡ payloadPlace (ptr (nv .entry)) (ptr (vol .entry)) (readingOf (now (nv .entry)) (now (vol .entry)) (variable namespace (now (name .entry)))) ⌝ }
+        ⌜ ptr r ≡ payloadPlace (ptr (nv .entry)) (ptr (vol .entry)) (readingOf (switches .exited) (now (nv .entry)) (now (vol .entry)) (variable namespace (now (name .entry)))) ⌝ }
 {
-    let reading = read(nv, vol, namespace, name);
+    let reading = read(nv, vol, switches, namespace, name);
     let from = reading.from;
     let to = reading.to;
     if reading.nonvolatile {
@@ -309,10 +336,11 @@ fn corrupted_set() -> SetAnswer
 // Creates, rewrites, appends to or deletes a variable.
 // VOLUME_CORRUPTED where the stores are unsound or the policy record is not valid; then the first of:
 // 1. INVALID_PARAMETER for a bad name or a payload over 1,024 bytes; 2. UNSUPPORTED for an attribute bit outside 0x47;
-// 3. INVALID_PARAMETER for RT or append without BS; 4. what the chosen entry gives: INVALID_PARAMETER for the size that the payload
-// would have afterwards or for the attributes, WRITE_PROTECTED for a lock; 5. NOT_FOUND for the deletion of an absent variable;
-// 6. INVALID_PARAMETER for other attributes than the stored ones; 8. OUT_OF_RESOURCES for an append that would exceed 1,024 bytes;
-// 9. OUT_OF_RESOURCES for no room.
+// 3. INVALID_PARAMETER for RT or append without BS, and after exit for a set that is no deletion without one of NV, BS and RT;
+// 4. what the chosen entry gives: INVALID_PARAMETER for the size that the payload would have afterwards or for the attributes,
+// WRITE_PROTECTED for a lock; 5. NOT_FOUND for the deletion of a variable that is absent or, after exit, has no RT, and WRITE_PROTECTED,
+// after exit, for that of a volatile one; 6. INVALID_PARAMETER for other attributes than the stored ones; 8. OUT_OF_RESOURCES for an
+// append that would exceed 1,024 bytes; 9. OUT_OF_RESOURCES for no room.
 pub fn set(
     nv: &mut [u8],
     vol: &mut [u8],
@@ -342,7 +370,7 @@ pub fn set(
     let decided = set::decide(
         policy,
         &entry_ends,
-        switches.enabled,
+        switches,
         nv,
         vol,
         known,

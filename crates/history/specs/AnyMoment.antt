@@ -76,7 +76,7 @@ module _ (M : Machine) where
   proper-append (ownDump b ∷ xs) ys t past s p q = (p .0, proper-append xs ys _ _ _ (p .1) q)
   proper-append (rebuild ds x ∷ xs) ys t past s p q = (p .0, p .1, p .2, proper-append xs ys _ _ _ (p .3) q)
 
-  past-append : (xs ys : Items M) (past : Past M) (s : State)
+  pub past-append : (xs ys : Items M) (past : Past M) (s : State)
       → pastAfter past s (xs ++ ys) ≡ pastAfter (pastAfter past s xs) (endWith M s xs) ys
   past-append [] ys past s = refl
   past-append (call c ∷ xs) ys past s = past-append xs ys _ _

@@ -27,8 +27,9 @@ use Rattle.entry.specs.Entry.{namespaceOf, nameIsEmpty, nameOf, targets, rank}
 use Rattle.policy.specs.Choice.{chosen, placeOf}
 use Rattle.policy.specs.PlaceLaws.{chosen-place}
 use Rattle.store.specs.Record.{hasNV, hasBS, hasRT, hasAppend}
-use Rattle.rules.specs.Set.{Request, isEmpty, isDeletion, unsupportedBit, needsBS, isEmptyAppend}
-use Rattle.rules.specs.Grounds.{Not, Bit, NV, BS, RT, Append, knownBits, Name, Named, UnitMatches, Matches, Targets, Signs, Ranks, IsChosen, Deletion, EmptyAppend}
+use Rattle.rules.specs.Set.{Request, isEmpty, isDeletion, unsupportedBit, needsBS, needsRuntime, isEmptyAppend}
+use Rattle.rules.specs.Engine.{State}
+use Rattle.rules.specs.Grounds.{Not, Bit, NV, BS, RT, Append, knownBits, Name, Named, UnitMatches, Matches, Targets, Signs, Ranks, IsChosen, Exited, Deletion, EmptyAppend}
 
 -- ---- a test and its proposition
 
@@ -244,6 +245,14 @@ tells-nothing r = tells-and _ _ (tells-append (r .attributes)) (tells-empty (r .
 pub tells-needs-bs : (a : ℕ) → Tells (needsBS a) ((RT a ⊎ Append a) × Not (BS a))
 unfolding needsBS
 tells-needs-bs a = tells-and _ _ (tells-or _ _ (tells-rt a) (tells-append a)) (tells-not _ (tells-bs a))
+
+pub tells-runtime : (s : State) (r : Request) → Tells (needsRuntime (s .switches .exited) (r .attributes) (r .payload))
+    (Exited s × (Not (Deletion r) × Not (NV (r .attributes) × (BS (r .attributes) × RT (r .attributes)))))
+unfolding needsRuntime
+tells-runtime s r =
+    let a = r .attributes in
+    tells-and _ _ ((λ e. e), λ e. e)
+    (tells-and _ _ (tells-not _ (tells-deletion r)) (tells-not _ (tells-and _ _ (tells-nv a) (tells-and _ _ (tells-bs a) (tells-rt a)))))
 
 -- ---- names
 

@@ -23,7 +23,7 @@ use Rattle.rules.specs.declared.Report.{Report}
 use Rattle.rules.specs.Set.{Request}
 use Rattle.rules.specs.Report.{reportOf}
 use Rattle.rules.specs.Engine.{State, Call, Answer, stateOf, answerOf, withReport}
-use Rattle.rules.specs.Engine.Call.{powerOn, restart, register, dump, lock, disable, query, read, set}
+use Rattle.rules.specs.Engine.Call.{powerOn, restart, register, dump, lock, disable, exit, query, read, set}
 use Rattle.rules.specs.Grounds.{Not, Bit, NV, Ranks, PolicyEntries, HasEntries, sumOfSizes, PairRecords, SoundStores, RecordOf, Absent, Deletion, EmptyAppend, SameAttributes, Enforced, PayloadAfter, Storing, FirstAt}
 
 -- a status other than 0
@@ -32,9 +32,9 @@ Refusal n = Not (n ≡ Success)
 
 -- ---- what stands beside a status (RULES.md, 9.3 and 10)
 
--- the switches: enabled, locked, disabling allowed
-abbrev pub switchesOf : Bool → Bool → Bool → Switches
-switchesOf enabled locked allowed = record { enabled = enabled; locked = locked; «disabling_allowed» = allowed }
+-- the switches: enabled, locked, disabling allowed, exited
+abbrev pub switchesOf : Bool → Bool → Bool → Bool → Switches
+switchesOf enabled locked allowed exited = record { enabled = enabled; locked = locked; «disabling_allowed» = allowed; exited = exited }
 
 -- ---- the report of a set (RULES.md, 10.10)
 
@@ -82,10 +82,10 @@ pub data Reports (s : State) (r : Request) (n : Status) : Report → Type 0 wher
 -- THE ANSWERS of each call: status, number, bytes, switches handed back; of a set the status and the report
 pub data Beside (s : State) : Call → Answer → Type 0 where
   -- Power-on and restart: the switches of a granted start, and those of a refused one
-  poweredOn : {allowed : Bool} → Beside s (powerOn allowed) (answerOf Success 0 [] (some (switchesOf true false allowed)))
-  powerOnRefused : {allowed : Bool} (n : Status) → Refusal n → Beside s (powerOn allowed) (answerOf n 0 [] (some (switchesOf true true false)))
-  restarted : {allowed : Bool} → Beside s (restart allowed) (answerOf Success 0 [] (some (switchesOf true false allowed)))
-  restartRefused : {allowed : Bool} (n : Status) → Refusal n → Beside s (restart allowed) (answerOf n 0 [] (some (switchesOf true true false)))
+  poweredOn : {allowed : Bool} → Beside s (powerOn allowed) (answerOf Success 0 [] (some (switchesOf true false allowed false)))
+  powerOnRefused : {allowed : Bool} (n : Status) → Refusal n → Beside s (powerOn allowed) (answerOf n 0 [] (some (switchesOf true true false false)))
+  restarted : {allowed : Bool} → Beside s (restart allowed) (answerOf Success 0 [] (some (switchesOf true false allowed false)))
+  restartRefused : {allowed : Bool} (n : Status) → Refusal n → Beside s (restart allowed) (answerOf n 0 [] (some (switchesOf true true false false)))
   -- Dump: the sum of Sizes, and the entries from the buffer's start, its later bytes as they were; too short, the sum and the buffer as it
   -- was; otherwise refused, the buffer as it was
   dumped : {buffer : Bytes} (es : List Bytes) → HasEntries s es
@@ -102,6 +102,7 @@ pub data Beside (s : State) : Call → Answer → Type 0 where
   ofRegister : {e : Bytes} (n : Status) → Beside s (register e) (answerOf n 0 [] none)
   ofLock : (n : Status) → Beside s lock (answerOf n 0 [] none)
   ofDisable : (n : Status) → Beside s disable (answerOf n 0 [] none)
+  ofExit : (n : Status) → Beside s exit (answerOf n 0 [] none)
   -- Set: the status with the report
   ofSet : {r : Request} (n : Status) (p : Report) → Reports s r n p → Beside s (set r) (withReport n p)
 
@@ -147,16 +148,18 @@ pub data Leaves (s : State) : Call → Status → State → Type 0 where
   refused : {c : Call} {n : Status} → Refusal n → Leaves s c n s
   -- Power-on: the volatile store filled with 0xFF, the policy record with zeros; restart leaves both stores
   powersOn : {allowed : Bool} → Leaves s (powerOn allowed) Success
-      (stateOf (s .nv) (replicate (length (s .vol)) 255) (replicate policyBytes 0) (switchesOf true false allowed))
-  restarts : {allowed : Bool} → Leaves s (restart allowed) Success (stateOf (s .nv) (s .vol) (replicate policyBytes 0) (switchesOf true false allowed))
+      (stateOf (s .nv) (replicate (length (s .vol)) 255) (replicate policyBytes 0) (switchesOf true false allowed false))
+  restarts : {allowed : Bool} → Leaves s (restart allowed) Success (stateOf (s .nv) (s .vol) (replicate policyBytes 0) (switchesOf true false allowed false))
   -- Register: the entry behind the others
   registers : {e : Bytes} (es : List Bytes) (policy : Bytes) → HasEntries s es → PolicyEntries policy (es ++ (e ∷ []))
       → Leaves s (register e) Success (stateOf (s .nv) (s .vol) policy (s .switches))
-  -- Lock and disable: one switch
+  -- Lock, disable and exit: one switch
   locks : Leaves s lock Success
-      (stateOf (s .nv) (s .vol) (s .policy) (switchesOf (s .switches .enabled) true (s .switches .«disabling_allowed»)))
+      (stateOf (s .nv) (s .vol) (s .policy) (switchesOf (s .switches .enabled) true (s .switches .«disabling_allowed») (s .switches .exited)))
   disables : Leaves s disable Success
-      (stateOf (s .nv) (s .vol) (s .policy) (switchesOf false (s .switches .locked) (s .switches .«disabling_allowed»)))
+      (stateOf (s .nv) (s .vol) (s .policy) (switchesOf false (s .switches .locked) (s .switches .«disabling_allowed») (s .switches .exited)))
+  exits : Leaves s exit Success
+      (stateOf (s .nv) (s .vol) (s .policy) (switchesOf (s .switches .enabled) (s .switches .locked) (s .switches .«disabling_allowed») true))
   -- Dump, query and read: nothing
   dumps : {buffer : Bytes} → Leaves s (dump buffer) Success s
   queries : Leaves s query Success s

@@ -9,6 +9,7 @@ use native.Mathlib.Omega.{arith}
 use lib.ListN.{length, drop, replicate}
 use lib.Dec.{eqb, leb}
 use Rattle.limits.specs.Limits.{policyBytes}
+use Rattle.slices.specs.Test.{_and_}
 use Rattle.slices.specs.TestLaws.{and-left}
 use Rattle.slices.specs.Bytes.{Bytes, overwrite, padded}
 use Rattle.slices.specs.OverwriteLaws.{overwrite-seam}
@@ -21,21 +22,21 @@ use Rattle.status.specs.declared.Status.{Status}
 use Rattle.status.specs.declared.Status.the-variants.{Success, InvalidParameter, Unsupported, BufferTooSmall, WriteProtected, OutOfResources, VolumeCorrupted, NotFound, AlreadyStarted}
 use Rattle.status.specs.Status.{isSuccess, statusNumber}
 use Rattle.status.specs.StatusLaws.{success-only}
-use Rattle.store.specs.Record.{hasNV, attributesOf, isOf, recordOk}
+use Rattle.store.specs.Record.{hasNV, hasRT, attributesOf, isOf, recordOk}
 use Rattle.store.specs.Store.{recordsOf, packStore, withoutVariable, hasRoom, withRecord}
 use Rattle.store.specs.StoreLaws.{records-without, length-without, records-with, length-with}
 use Rattle.switches.specs.declared.Switches.{Switches}
 use Rattle.switches.specs.Switches.{freshSwitches}
 use Rattle.rules.specs.declared.Decision.{Decision}
 use Rattle.rules.specs.declared.Decision.the-variants.{Refuse, Block, Delete, Keep, Store}
-use Rattle.rules.specs.Set.{Request, exists, isDeletion, isEmptyAppend, recordAfter, decisionStatus, decisionStore}
+use Rattle.rules.specs.Set.{Request, exists, shown, isDeletion, isEmptyAppend, recordAfter, decisionStatus, decisionStore}
 use Rattle.rules.specs.DecisionLaws.{Facts, facts, stored-facts, granted-decision}
 use Rattle.rules.specs.Engine.{State, Call, Answer, stateOf, answerOf, withReport, setReport, dumpStatus, readStatus, status, given, refusal, answer, registerStatus, decisionBy, decisionIn, erased, effect, after, step}
-use Rattle.rules.specs.Engine.Call.{powerOn, restart, register, dump, lock, disable, query, read, set}
+use Rattle.rules.specs.Engine.Call.{powerOn, restart, register, dump, lock, disable, exit, query, read, set}
 use Rattle.rules.specs.Grounds.{Not, sumOfSizes, StoreRecords, PairRecords, SoundStores, RecordOf, PayloadAfter, Answers}
 use Rattle.rules.specs.GroundsLaws.{refused-test, status-exactly}
 use Rattle.rules.specs.EngineLaws.{answer-status, step-status, answer-alone, answer-reported, granted-effect}
-use Rattle.rules.specs.StateLaws.{passed, set-passed, register-granted}
+use Rattle.rules.specs.StateLaws.{set-passed, register-passed}
 use Rattle.rules.specs.Effects.{Refusal, Beside, SetLeaves, SetByName, Leaves}
 use Rattle.rules.specs.ConditionLaws.{tells-off, off-tells, tells-nv, tells-deletion, tells-nothing}
 use Rattle.rules.specs.FoundLaws.{sound-records, tells-sound, packs-entries, sum-of-sizes, valid-entries, entries-read, first-records, second-records, distinct-first, distinct-second, found-lookup, lookup-found, lookup-absent, without-taken, taken-without}
@@ -72,23 +73,30 @@ module _ (s : State) (buffer : Bytes) where
 
   dump-beside : Beside s (dump buffer) (answer s (dump buffer) (status s (dump buffer)))
   unfolding dumpStatus
-  dump-beside = go (policyValid (s .policy)) (leb (length (flat listed)) (length buffer)) refl
+  dump-beside = go (policyValid (s .policy)) (s .switches .exited) (leb (length (flat listed)) (length buffer)) refl
     where
-      go : (v f : Bool) → policyValid (s .policy) ≡ v → Beside s (dump buffer) (answer s (dump buffer) (cond v (cond f Success BufferTooSmall) VolumeCorrupted))
-      go true true e =
+      go : (v x f : Bool) → policyValid (s .policy) ≡ v
+          → Beside s (dump buffer) (answer s (dump buffer) (cond v (cond x Unsupported (cond f Success BufferTooSmall)) VolumeCorrupted))
+      go true true f e = Beside.dumpRefused Unsupported (other-than Unsupported refl) (λ h. let z : _≡_ {A = ℕ} 3 5 = ap statusNumber h in omega arith)
+      go true false true e =
           subst⁻¹ (λ k. Beside s (dump buffer) (answerOf Success k (overwrite buffer 0 (flat listed)) none)) (sum-of-sizes s)
           (subst⁻¹ (λ b. Beside s (dump buffer) (answerOf Success (sumOfSizes listed) b none)) written (Beside.dumped listed (valid-entries s e)))
-      go true false e =
+      go true false false e =
           subst⁻¹ (λ x. Beside s (dump buffer) (answerOf BufferTooSmall x buffer none)) (sum-of-sizes s) (Beside.dumpShort listed (valid-entries s e))
-      go false f e = Beside.dumpRefused VolumeCorrupted (other-than VolumeCorrupted refl) (λ h. let z : _≡_ {A = ℕ} 10 5 = ap statusNumber h in omega arith)
+      go false x f e = Beside.dumpRefused VolumeCorrupted (other-than VolumeCorrupted refl) (λ h. let z : _≡_ {A = ℕ} 10 5 = ap statusNumber h in omega arith)
 
 read-beside : (s : State) (v : Variable) → Beside s (read v) (answer s (read v) (status s (read v)))
-unfolding readStatus exists
+unfolding readStatus exists shown
 read-beside s v = go (sound (s .nv) (s .vol)) (named v) (lookup (s .nv) (s .vol) v) refl refl
   where
+    seen : (r : Bytes) (h : Bool) → sound (s .nv) (s .vol) ≡ true → lookup (s .nv) (s .vol) v ≡ some r
+        → Beside s (read v) (answer s (read v) (cond (exists (cond h none (some r))) Success NotFound))
+    seen r true e f = Beside.readRefused NotFound (other-than NotFound refl)
+    seen r false e f = rw f (Beside.wasRead r (lookup-found s v r (tells-sound (s .nv) (s .vol) .0 e) f))
+
     go : (b n : Bool) (o : Option Bytes) → sound (s .nv) (s .vol) ≡ b → lookup (s .nv) (s .vol) v ≡ o
-        → Beside s (read v) (answer s (read v) (cond b (cond n (cond (exists o) Success NotFound) InvalidParameter) VolumeCorrupted))
-    go true true (some r) e f = rw f (Beside.wasRead r (lookup-found s v r (tells-sound (s .nv) (s .vol) .0 e) f))
+        → Beside s (read v) (answer s (read v) (cond b (cond n (cond (exists (shown (s .switches .exited) o)) Success NotFound) InvalidParameter) VolumeCorrupted))
+    go true true (some r) e f = seen r (s .switches .exited and not (hasRT (attributesOf r))) e f
     go true true none e f = Beside.readRefused NotFound (other-than NotFound refl)
     go true false o e f = Beside.readRefused InvalidParameter (other-than InvalidParameter refl)
     go false n o e f = Beside.readRefused VolumeCorrupted (other-than VolumeCorrupted refl)
@@ -116,6 +124,7 @@ answer-beside s (register e) = beside-either s (register e) (Beside.ofRegister S
 answer-beside s (dump buffer) = dump-beside s buffer
 answer-beside s lock = beside-either s lock (Beside.ofLock Success) (λ n o. Beside.ofLock n)
 answer-beside s disable = beside-either s disable (Beside.ofDisable Success) (λ n o. Beside.ofDisable n)
+answer-beside s exit = beside-either s exit (Beside.ofExit Success) (λ n o. Beside.ofExit n)
 answer-beside s query = query-beside s
 answer-beside s (read v) = read-beside s v
 answer-beside s (set r) = subst⁻¹ (Beside s (set r)) (answer-reported s r (status s (set r))) (Beside.ofSet (status s (set r)) (setReport s r) (report-reports s r))
@@ -150,6 +159,7 @@ beside-answer s c a (Beside.readRefused n o) = rw (refused-test n o)
 beside-answer s c a (Beside.ofRegister {e} n) = sym (answer-alone s (register e) n refl refl)
 beside-answer s c a (Beside.ofLock n) = sym (answer-alone s lock n refl refl)
 beside-answer s c a (Beside.ofDisable n) = sym (answer-alone s disable n refl refl)
+beside-answer s c a (Beside.ofExit n) = sym (answer-alone s exit n refl refl)
 beside-answer s c a (Beside.ofSet {r} n p w) = ap (withReport n) (one-report s r p (setReport s r) w (report-reports s r)) ∙ sym (answer-reported s r n)
 
 -- ---- what a call leaves
@@ -170,10 +180,10 @@ module _ (s : State) (r : Request) where
   left d = stateOf (decisionStore d true (s .nv) standing r) (decisionStore d false (s .vol) standing r) (s .policy) (s .switches)
 
   -- where it answers 0
-  decided : isSuccess (decisionStatus (decisionIn s r)) ≡ true
+  pub decided : isSuccess (decisionStatus (decisionIn s r)) ≡ true
       → decisionIn s r ≡ cond (isDeletion (r .attributes) (r .payload)) Delete (cond (isEmptyAppend (r .attributes) (r .payload)) Keep Store)
   unfolding decisionBy
-  decided granted = granted-decision (chosenEntry s r) (s .nv) (s .vol) r granted
+  decided granted = granted-decision (s .switches .exited) (chosenEntry s r) (s .nv) (s .vol) r granted
 
   module _ (ok : sound (s .nv) (s .vol) ≡ true) (granted : isSuccess (decisionStatus (decisionIn s r)) ≡ true) where
     before : PairRecords (s .nv) (s .vol) (recordsOf true (s .nv)) (recordsOf false (s .vol))
@@ -186,7 +196,7 @@ module _ (s : State) (r : Request) where
     later : (d : Decision) → decisionIn s r ≡ d → PairRecords (left d .nv) (left d .vol) (recordsOf true (left d .nv)) (recordsOf false (left d .vol))
     unfolding decisionBy
     later d e = subst (λ x. PairRecords (left x .nv) (left x .vol) (recordsOf true (left x .nv)) (recordsOf false (left x .vol))) e
-        (sound-records _ _ (set-sound (chosenEntry s r) (s .nv) (s .vol) r ok))
+        (sound-records _ _ (set-sound (s .switches .exited) (chosenEntry s r) (s .nv) (s .vol) r ok))
 
     leaves-by : (d : Decision) → decisionIn s r ≡ d → Facts (s .nv) (s .vol) standing r d → isSuccess (decisionStatus d) ≡ true → SetLeaves s r (left d)
     unfolding decisionStore
@@ -198,7 +208,7 @@ module _ (s : State) (r : Request) where
         (rw (records-without true (s .nv) (r .variable), records-without false (s .vol) (r .variable)) at (later Delete e))
         (record { nv = length-without true (s .nv) (r .variable); vol = length-without false (s .vol) (r .variable); policy = refl; switches = refl })
     leaves-by Keep e f g = SetLeaves.unchanged (tells-nothing r .0 (f .1)) refl
-    leaves-by Store e f g = go (hasNV (r .attributes)) refl (later Store e) (stored-formed (chosenEntry s r) (s .nv) (s .vol) r ok f) (f .room)
+    leaves-by Store e f g = go (hasNV (r .attributes)) refl (later Store e) (stored-formed (s .switches .exited) (chosenEntry s r) (s .nv) (s .vol) r ok f) (f .room)
       where
         go : (b : Bool) → hasNV (r .attributes) ≡ b
             → PairRecords (cond b (withRecord true (s .nv) (r .variable) (stored s r stands)) (s .nv)) (cond (not b) (withRecord false (s .vol) (r .variable) (stored s r stands)) (s .vol))
@@ -216,7 +226,7 @@ module _ (s : State) (r : Request) where
 
     set-leaves : SetLeaves s r (effect s (set r))
     unfolding decisionBy
-    set-leaves = leaves-by (decisionIn s r) refl (facts (chosenEntry s r) (s .nv) (s .vol) r) granted
+    set-leaves = leaves-by (decisionIn s r) refl (facts (s .switches .exited) (chosenEntry s r) (s .nv) (s .vol) r) granted
 
 granted-leaves : (s : State) (c : Call) → status s c ≡ Success → Leaves s c Success (effect s c)
 granted-leaves s (powerOn allowed) h =
@@ -224,15 +234,16 @@ granted-leaves s (powerOn allowed) h =
 granted-leaves s (restart allowed) h = subst⁻¹ (λ p. Leaves s (restart allowed) Success (stateOf (s .nv) (s .vol) p (freshSwitches allowed))) zeros Leaves.restarts
 granted-leaves s (register e) h =
     let es = entriesOf (s .policy) in
-    let k = passed (policyValid (s .policy)) (registerStatus (s .switches .locked) es e) (ap isSuccess h) in
+    let k = register-passed s e (ap isSuccess h) in
     let w = policy.policy-entries (s .policy) (k .0) in
-    let g = register-granted (s .switches .locked) es e (k .1) in
+    let g = k .2 in
     let few = g .few in
     Leaves.registers es (packPolicy (es ++ (e ∷ []))) (valid-entries s (k .0))
     (packs-entries _ _ (record { entries = policy.entries-append es e (w .entries) (g .formed) (g .new) (omega arith) (g .room); packs = refl }))
 granted-leaves s (dump buffer) h = Leaves.dumps
 granted-leaves s lock h = Leaves.locks
 granted-leaves s disable h = Leaves.disables
+granted-leaves s exit h = Leaves.exits
 granted-leaves s query h = Leaves.queries
 granted-leaves s (read v) h = Leaves.reads
 granted-leaves s (set r) h =
@@ -283,6 +294,7 @@ leaves-state s c n t m (Leaves.registers {e} es p w w′) =
     ap (λ x. stateOf (s .nv) (s .vol) x (s .switches)) (w′ .is ∙ ap (λ l. packPolicy (l ++ (e ∷ []))) (entries-read s es w))
 leaves-state s c n t m Leaves.locks = refl
 leaves-state s c n t m Leaves.disables = refl
+leaves-state s c n t m Leaves.exits = refl
 leaves-state s c n t m Leaves.dumps = refl
 leaves-state s c n t m Leaves.queries = refl
 leaves-state s c n t m Leaves.reads = refl
@@ -316,7 +328,7 @@ module _ (s : State) (r : Request) (ok : sound (s .nv) (s .vol) ≡ true) (grant
 
   soundAfter : SoundStores (effect s (set r) .nv) (effect s (set r) .vol)
   unfolding decisionBy
-  soundAfter = tells-sound (effect s (set r) .nv) (effect s (set r) .vol) .0 (set-sound (chosenEntry s r) (s .nv) (s .vol) r ok)
+  soundAfter = tells-sound (effect s (set r) .nv) (effect s (set r) .vol) .0 (set-sound (s .switches .exited) (chosenEntry s r) (s .nv) (s .vol) r ok)
 
   by-name : SetByName s r (effect s (set r))
   unfolding decisionBy
@@ -324,22 +336,22 @@ module _ (s : State) (r : Request) (ok : sound (s .nv) (s .vol) ≡ true) (grant
       record {
         sound = soundAfter;
         others = λ w d q.
-            let same = set.set-others (chosenEntry s r) (s .nv) (s .vol) r ok w d in
+            let same = set.set-others (s .switches .exited) (chosenEntry s r) (s .nv) (s .vol) r ok w d in
             (same-found s (effect s (set r)) w soundAfter same q, same-found (effect s (set r)) s w soundBefore (sym same) q);
-        deleted = λ d. lookup-absent (effect s (set r)) (r .variable) (set.set-deletes (chosenEntry s r) (s .nv) (s .vol) r ok (decided s r granted ∙ rw (tells-deletion r .1 d)));
+        deleted = λ d. lookup-absent (effect s (set r)) (r .variable) (set.set-deletes (s .switches .exited) (chosenEntry s r) (s .nv) (s .vol) r ok (decided s r granted ∙ rw (tells-deletion r .1 d)));
         unchanged = λ n.
-            let k = set.set-keeps (chosenEntry s r) (s .nv) (s .vol) r ok (decided s r granted ∙ rw (off-tells _ (tells-deletion r) (λ d. d .0 (n .0)), tells-nothing r .1 n)) in
+            let k = set.set-keeps (s .switches .exited) (chosenEntry s r) (s .nv) (s .vol) r ok (decided s r granted ∙ rw (off-tells _ (tells-deletion r) (λ d. d .0 (n .0)), tells-nothing r .1 n)) in
             same-state (effect s (set r)) (s .nv) (s .vol) (s .policy) (s .switches) (k .0) (k .1) refl refl;
         stored = λ d n.
             let e : decisionIn s r ≡ Store = decided s r granted ∙ rw (off-tells _ (tells-deletion r) d, off-tells _ (tells-nothing r) n) in
-            let f = stored-facts (chosenEntry s r) (s .nv) (s .vol) r e in
+            let f = stored-facts (s .switches .exited) (chosenEntry s r) (s .nv) (s .vol) r e in
             let q = recordAfter (lookup (s .nv) (s .vol) (r .variable)) r in
-            let kept = set.stored-attributes (chosenEntry s r) (s .nv) (s .vol) r ok f in (
+            let kept = set.stored-attributes (s .switches .exited) (chosenEntry s r) (s .nv) (s .vol) r ok f in (
               q,
-              lookup-found (effect s (set r)) (r .variable) q soundAfter (set.set-stores (chosenEntry s r) (s .nv) (s .vol) r ok e),
+              lookup-found (effect s (set r)) (r .variable) q soundAfter (set.set-stores (s .switches .exited) (chosenEntry s r) (s .nv) (s .vol) r ok e),
               kind-same (attributesOf q) (r .attributes) kept,
               omega arith,
-              subst⁻¹ (PayloadAfter s r) (set.stored-payload (chosenEntry s r) (s .nv) (s .vol) r ok f) (payload-is s r soundBefore),
+              subst⁻¹ (PayloadAfter s r) (set.stored-payload (s .switches .exited) (chosenEntry s r) (s .nv) (s .vol) r ok f) (payload-is s r soundBefore),
             );
       }
 

@@ -20,11 +20,11 @@ use Rattle.status.specs.declared.Status.{Status}
 use Rattle.status.specs.declared.Status.the-variants.{Success, InvalidParameter, BufferTooSmall, WriteProtected, OutOfResources, VolumeCorrupted, NotFound, AlreadyStarted}
 use Rattle.status.specs.Status.{isSuccess, statusNumber}
 use Rattle.switches.specs.declared.Switches.{Switches}
-use Rattle.switches.specs.Switches.{freshSwitches, refusedSwitches, withLocked, withDisabled, lockStatus, disableStatus}
+use Rattle.switches.specs.Switches.{freshSwitches, refusedSwitches, withLocked, withDisabled, withExited, unlessExited, lockStatus, disableStatus, exitStatus}
 use Rattle.rules.specs.declared.Decision.{Decision}
 use Rattle.rules.specs.declared.Decision.the-variants.{Refuse}
 use Rattle.rules.specs.declared.Report.{Report}
-use Rattle.rules.specs.Set.{Request, exists, decision, decisionStatus, decisionStore}
+use Rattle.rules.specs.Set.{Request, exists, shown, decision, decisionStatus, decisionStore}
 use Rattle.rules.specs.Report.{decisionReport}
 
 -- ---- what the engine is
@@ -48,6 +48,7 @@ pub data Call : Type 0 where
   dump : Bytes → Call
   lock : Call
   disable : Call
+  exit : Call
   query : Call
   read : Variable → Call
   set : Request → Call
@@ -101,7 +102,7 @@ uses (restart allowed) = start (parts true true true false) (parts false false t
 uses (register e) = plain (parts false false true true) (parts false false true false)
 uses (dump buffer) =
     record {
-      lent = parts false false true false;
+      lent = parts false false true true;
       writes = parts false false false false;
       tellsNeeded = true;
       refusedBytes = buffer;
@@ -110,8 +111,9 @@ uses (dump buffer) =
     }
 uses lock = plain (parts false false false true) (parts false false false true)
 uses disable = plain (parts false false false true) (parts false false false true)
+uses exit = plain (parts false false false true) (parts false false false true)
 uses query = plain (parts false false false true) (parts false false false false)
-uses (read v) = plain (parts true true false false) (parts false false false false)
+uses (read v) = plain (parts true true false true) (parts false false false false)
 uses (set r) =
     record {
       lent = parts true true true true;
@@ -133,7 +135,7 @@ powerOnStatus nv vol policy =
 unfoldable pub restartStatus : Bytes → Bytes → Bytes → Status
 restartStatus nv vol policy = cond (sound nv vol and eqb (length policy) policyBytes) Success VolumeCorrupted
 
--- register (RULES.md, 10.3)
+-- register (RULES.md, 10.3), before exit
 unfoldable pub registerStatus : Bool → List Bytes → Bytes → Status
 registerStatus locked es e =
     cond locked WriteProtected
@@ -141,13 +143,13 @@ registerStatus locked es e =
     (cond (contains (sameTarget e) es) AlreadyStarted
     (cond (leb (suc (length es)) maxEntries and leb (length (flat es) + length e) policyBytes) Success OutOfResources)))
 
--- dump (RULES.md, 10.4)
+-- dump (RULES.md, 10.4), before exit
 unfoldable pub dumpStatus : List Bytes → Bytes → Status
 dumpStatus es buffer = cond (leb (length (flat es)) (length buffer)) Success BufferTooSmall
 
 -- read (RULES.md, 10.8)
-unfoldable pub readStatus : Bytes → Bytes → Variable → Status
-readStatus nv vol v = cond (named v) (cond (exists (lookup nv vol v)) Success NotFound) InvalidParameter
+unfoldable pub readStatus : Bool → Bytes → Bytes → Variable → Status
+readStatus exited nv vol v = cond (named v) (cond (exists (shown exited (lookup nv vol v))) Success NotFound) InvalidParameter
 
 -- the entry that speaks: none where the engine is disabled
 abbrev pub speaking : Bool → Option Bytes → Option Bytes
@@ -155,12 +157,12 @@ speaking true e = e
 speaking false e = none
 
 -- what a set decides, by the choice of every variable alone, and not by the list of entries
-unfoldable pub decisionBy : (Variable → Option Bytes) → Bool → Bytes → Bytes → Request → Decision
-decisionBy choice enabled nv vol r = decision (speaking enabled (choice (r .variable))) nv vol r
+unfoldable pub decisionBy : (Variable → Option Bytes) → Switches → Bytes → Bytes → Request → Decision
+decisionBy choice w nv vol r = decision (w .exited) (speaking (w .enabled) (choice (r .variable))) nv vol r
 
 -- what a set decides in a state, over sound stores and by a valid policy record
 abbrev pub decisionIn : State → Request → Decision
-decisionIn s r = decisionBy (chosen (entriesOf (s .policy))) (s .switches .enabled) (s .nv) (s .vol) r
+decisionIn s r = decisionBy (chosen (entriesOf (s .policy))) (s .switches) (s .nv) (s .vol) r
 
 -- and in any state
 abbrev pub setDecision : State → Request → Decision
@@ -169,12 +171,14 @@ setDecision s r = cond (sound (s .nv) (s .vol) and policyValid (s .policy)) (dec
 abbrev pub status : State → Call → Status
 status s (powerOn allowed) = powerOnStatus (s .nv) (s .vol) (s .policy)
 status s (restart allowed) = restartStatus (s .nv) (s .vol) (s .policy)
-status s (register e) = cond (policyValid (s .policy)) (registerStatus (s .switches .locked) (entriesOf (s .policy)) e) VolumeCorrupted
-status s (dump buffer) = cond (policyValid (s .policy)) (dumpStatus (entriesOf (s .policy)) buffer) VolumeCorrupted
+status s (register e) =
+    cond (policyValid (s .policy)) (unlessExited (s .switches) (registerStatus (s .switches .locked) (entriesOf (s .policy)) e)) VolumeCorrupted
+status s (dump buffer) = cond (policyValid (s .policy)) (unlessExited (s .switches) (dumpStatus (entriesOf (s .policy)) buffer)) VolumeCorrupted
 status s lock = lockStatus (s .switches)
 status s disable = disableStatus (s .switches)
+status s exit = exitStatus (s .switches)
 status s query = Success
-status s (read v) = cond (sound (s .nv) (s .vol)) (readStatus (s .nv) (s .vol) v) VolumeCorrupted
+status s (read v) = cond (sound (s .nv) (s .vol)) (readStatus (s .switches .exited) (s .nv) (s .vol) v) VolumeCorrupted
 status s (set r) = decisionStatus (setDecision s r)
 
 -- ---- what stands beside a status (RULES.md, 9.3 and 10)
@@ -216,6 +220,7 @@ given s (register e) = onlyStatus Success
 given s (dump buffer) = answerOf Success (entriesLength s) (overwrite buffer 0 (flat (entriesOf (s .policy)))) none
 given s lock = onlyStatus Success
 given s disable = onlyStatus Success
+given s exit = onlyStatus Success
 -- the enabled switch
 given s query = answerOf Success (cond (s .switches .enabled) 1 0) [] none
 -- the attributes, and the payload
@@ -248,6 +253,7 @@ effect s (register e) = record { nv = s .nv; vol = s .vol; policy = packPolicy (
 effect s (dump buffer) = s
 effect s lock = record { nv = s .nv; vol = s .vol; policy = s .policy; switches = withLocked (s .switches) }
 effect s disable = record { nv = s .nv; vol = s .vol; policy = s .policy; switches = withDisabled (s .switches) }
+effect s exit = record { nv = s .nv; vol = s .vol; policy = s .policy; switches = withExited (s .switches) }
 effect s query = s
 effect s (read v) = s
 effect s (set r) =

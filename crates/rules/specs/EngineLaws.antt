@@ -19,7 +19,7 @@ use Rattle.status.specs.Status.{isSuccess, statusNumber}
 use Rattle.status.specs.StatusLaws.{success-only}
 use Rattle.rules.specs.Set.{Request}
 use Rattle.rules.specs.Engine.{State, Call, Answer, Parts, parts, uses, powerOnStatus, restartStatus, status, onlyStatus, withReport, setReport, reportOn, given, refusal, answer, effect, step}
-use Rattle.rules.specs.Engine.Call.{powerOn, restart, register, dump, lock, disable, query, read, set}
+use Rattle.rules.specs.Engine.Call.{powerOn, restart, register, dump, lock, disable, exit, query, read, set}
 
 -- ---- a policy record of another length than the limit
 
@@ -75,11 +75,12 @@ unfolding step
 by-row s (powerOn allowed) = record { done = refl; keeps = record { nv = refl; vol = tt; policy = tt; switches = tt }; lent = λ t e. rw (e .nv, e .vol, e .policy); length10 = power-on-length s; invalid10 = λ n. absurd (not-none n) }
 by-row s (restart allowed) = record { done = refl; keeps = record { nv = refl; vol = refl; policy = tt; switches = tt }; lent = λ t e. rw (e .nv, e .vol, e .policy); length10 = restart-length s; invalid10 = λ n. absurd (not-none n) }
 by-row s (register x) = record { done = refl; keeps = record { nv = refl; vol = refl; policy = tt; switches = refl }; lent = λ t e. rw (e .policy, e .switches); length10 = λ h. rw (other-length (s .policy) h); invalid10 = λ n v. rw v }
-by-row s (dump buffer) = record { done = refl; keeps = record { nv = refl; vol = refl; policy = refl; switches = refl }; lent = λ t e. rw (e .policy); length10 = λ h. rw (other-length (s .policy) h); invalid10 = λ n v. rw v }
+by-row s (dump buffer) = record { done = refl; keeps = record { nv = refl; vol = refl; policy = refl; switches = refl }; lent = λ t e. rw (e .policy, e .switches); length10 = λ h. rw (other-length (s .policy) h); invalid10 = λ n v. rw v }
 by-row s lock = record { done = refl; keeps = record { nv = refl; vol = refl; policy = refl; switches = tt }; lent = λ t e. rw (e .switches); length10 = λ h. tt; invalid10 = λ n v. tt }
 by-row s disable = record { done = refl; keeps = record { nv = refl; vol = refl; policy = refl; switches = tt }; lent = λ t e. rw (e .switches); length10 = λ h. tt; invalid10 = λ n v. tt }
+by-row s exit = record { done = refl; keeps = record { nv = refl; vol = refl; policy = refl; switches = tt }; lent = λ t e. rw (e .switches); length10 = λ h. tt; invalid10 = λ n v. tt }
 by-row s query = record { done = refl; keeps = record { nv = refl; vol = refl; policy = refl; switches = refl }; lent = λ t e. rw (e .switches); length10 = λ h. tt; invalid10 = λ n v. tt }
-by-row s (read v) = record { done = refl; keeps = record { nv = refl; vol = refl; policy = refl; switches = refl }; lent = λ t e. rw (e .nv, e .vol); length10 = λ h. tt; invalid10 = λ n v. tt }
+by-row s (read v) = record { done = refl; keeps = record { nv = refl; vol = refl; policy = refl; switches = refl }; lent = λ t e. rw (e .nv, e .vol, e .switches); length10 = λ h. tt; invalid10 = λ n v. tt }
 by-row s (set r) = record { done = refl; keeps = record { nv = tt; vol = tt; policy = refl; switches = refl }; lent = λ t e. rw (e .nv, e .vol, e .policy, e .switches); length10 = λ h. rw (other-length (s .policy) h, and-no (sound (s .nv) (s .vol))); invalid10 = λ n v. rw (v, and-no (sound (s .nv) (s .vol))) }
 
 -- ---- the status, and a refusal
@@ -183,6 +184,7 @@ store-writer (register e) = noWriter refl refl
 store-writer (dump buffer) = noWriter refl refl
 store-writer lock = noWriter refl refl
 store-writer disable = noWriter refl refl
+store-writer exit = noWriter refl refl
 store-writer query = noWriter refl refl
 store-writer (read v) = noWriter refl refl
 store-writer (set r) = sets r

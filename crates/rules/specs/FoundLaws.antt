@@ -3,12 +3,13 @@
 use Prim.Native.Nat.{ℕ, _+_}
 use mathlib.Core.Path.{_≡_, refl, sym, ap, ap₂, subst, subst⁻¹, _∙_}
 use mathlib.Core.List.{List, [], _∷_, _++_}
-use mathlib.Core.Bool.{Bool, true, false, _||_, cond, or-true, true≢false, false≢true}
+use mathlib.Core.Bool.{Bool, true, false, not, _||_, cond, or-true, true≢false, false≢true}
 use mathlib.Core.Option.{Option, none, some}
-use mathlib.Core.Logic.{inl, inr}
+use mathlib.Core.Logic.{_⊎_, inl, inr}
 use lib.ListN.{length, length-append}
 use Rattle.lists.specs.Lists.{All, nil, more, Among, Pairs}
 use Rattle.lists.specs.ListsLaws.{all-map, all-among, among-middle}
+use Rattle.slices.specs.Test.{_and_}
 use Rattle.slices.specs.TestLaws.{and-left, and-right, and-intro, forced-off}
 use Rattle.slices.specs.Bytes.{Bytes, padded}
 use Rattle.slices.specs.Chunks.{flat, packed, contains, distinct, find, remove, replace, replaceOrAppend}
@@ -18,17 +19,17 @@ use Rattle.entry.specs.Entry.{namespaceOf, nameOf, sameTarget}
 use Rattle.entry.specs.EntryLaws.{sized, sameTarget-same, sameTarget-of}
 use Rattle.policy.specs.Policy.{entriesOf, policyValid}
 use Rattle.policy.specs.PolicyLaws as policy
-use Rattle.store.specs.Record.{isOf, sameVariable, variableOf}
+use Rattle.store.specs.Record.{hasNV, hasRT, attributesOf, isOf, sameVariable, variableOf}
 use Rattle.store.specs.VariableLaws.{isOf-self, isOf-variable, isOf-like}
 use Rattle.store.specs.Store.{recordsOf, storeOk}
 use Rattle.store.specs.StoreLaws as store
 use Rattle.stores.specs.Pair.{allRecords, sound, soundAlone, lookup}
 use Rattle.stores.specs.PairLaws.{sound-nv, sound-vol, sound-distinct, sound-of}
-use Rattle.rules.specs.Set.{exists}
+use Rattle.rules.specs.Set.{exists, shown, exitProtects}
 use Rattle.rules.specs.Engine.{State, entriesLength}
-use Rattle.rules.specs.Grounds.{Not, EntriesWithin, HasEntries, sumOfSizes, StoreRecords, Apart, PairRecords, SoundStores, SoundAlone, RecordOf, Absent, Put}
+use Rattle.rules.specs.Grounds.{Not, NV, EntriesWithin, HasEntries, sumOfSizes, StoreRecords, Apart, PairRecords, SoundStores, SoundAlone, RecordOf, Absent, Exited, Hidden, Put}
 use Rattle.rules.specs.Effects.{Taken}
-use Rattle.rules.specs.ConditionLaws.{Tells, tells-off, off-tells}
+use Rattle.rules.specs.ConditionLaws.{Tells, tells-not, tells-off, off-tells, tells-nv, tells-rt}
 
 -- ---- members of a list, and tests
 
@@ -240,6 +241,48 @@ module _ (s : State) (v : Variable) where
       go : (o : Option Bytes) → lookup (s .nv) (s .vol) v ≡ o → exists o ≡ true → (r : Bytes) × RecordOf s v r
       go none e h = absurd (false≢true h)
       go (some r) e h = (r, lookup-found r k e)
+
+-- what a read tells and a deletion takes: the variable is absent, or its record hidden
+pub tells-unseen : (s : State) (v : Variable) → SoundStores (s .nv) (s .vol)
+    → Tells (not (exists (shown (s .switches .exited) (lookup (s .nv) (s .vol) v)))) (Absent s v ⊎ ((q : Bytes) × Hidden s v q))
+unfolding exists shown
+tells-unseen s v k = (go (lookup (s .nv) (s .vol) v) refl, back)
+  where
+    hides : (q : Bytes) (b : Bool) → lookup (s .nv) (s .vol) v ≡ some q → (s .switches .exited and not (hasRT (attributesOf q))) ≡ b
+        → not (exists (cond b none (some q))) ≡ true → Absent s v ⊎ ((q : Bytes) × Hidden s v q)
+    hides q true e t h =
+        inr (q, record { exited = and-left _ _ t; stands = lookup-found s v q k e; without = tells-not _ (tells-rt (attributesOf q)) .0 (and-right (s .switches .exited) _ t) })
+    hides q false e t h = absurd (false≢true h)
+
+    go : (o : Option Bytes) → lookup (s .nv) (s .vol) v ≡ o → not (exists (shown (s .switches .exited) o)) ≡ true → Absent s v ⊎ ((q : Bytes) × Hidden s v q)
+    go none e h = inl (lookup-absent s v e)
+    go (some q) e h = hides q (s .switches .exited and not (hasRT (attributesOf q))) e refl h
+
+    absent-none : Absent s v → (o : Option Bytes) → lookup (s .nv) (s .vol) v ≡ o → not (exists (shown (s .switches .exited) o)) ≡ true
+    absent-none h none e = refl
+    absent-none h (some q) e = absurd (h q (lookup-found s v q k e))
+
+    back : Absent s v ⊎ ((q : Bytes) × Hidden s v q) → not (exists (shown (s .switches .exited) (lookup (s .nv) (s .vol) v))) ≡ true
+    back (inl h) = absent-none h (lookup (s .nv) (s .vol) v) refl
+    back (inr h) =
+        rw (
+          found-lookup s v (h .0) (h .1 .stands),
+          and-intro _ _ (h .1 .exited) (tells-not _ (tells-rt (attributesOf (h .0))) .1 (h .1 .without)),
+        )
+
+-- and the record of a volatile variable after exit
+pub tells-protected : (s : State) (v : Variable) → SoundStores (s .nv) (s .vol)
+    → Tells (exitProtects (s .switches .exited) (lookup (s .nv) (s .vol) v)) ((q : Bytes) × Exited s × RecordOf s v q × Not (NV (attributesOf q)))
+unfolding exitProtects
+tells-protected s v k = (go (lookup (s .nv) (s .vol) v) refl, back)
+  where
+    go : (o : Option Bytes) → lookup (s .nv) (s .vol) v ≡ o → exitProtects (s .switches .exited) o ≡ true → (q : Bytes) × Exited s × RecordOf s v q × Not (NV (attributesOf q))
+    go none e h = absurd (false≢true h)
+    go (some q) e h =
+        (q, and-left _ _ h, lookup-found s v q k e, tells-not _ (tells-nv (attributesOf q)) .0 (and-right (s .switches .exited) _ h))
+
+    back : (q : Bytes) × Exited s × RecordOf s v q × Not (NV (attributesOf q)) → exitProtects (s .switches .exited) (lookup (s .nv) (s .vol) v) ≡ true
+    back w = rw (found-lookup s v (w .0) (w .2)) (and-intro _ _ (w .1) (tells-not _ (tells-nv (attributesOf (w .0))) .1 (w .3)))
 
 -- ---- a store's records with one written or taken out
 

@@ -18,7 +18,7 @@ use Rattle.status.specs.declared.Status.{Status}
 use Rattle.status.specs.declared.Status.the-variants.{Success, InvalidParameter, Unsupported, BufferTooSmall, WriteProtected, OutOfResources, VolumeCorrupted, NotFound, AlreadyStarted}
 use Rattle.rules.specs.Set.{Request}
 use Rattle.rules.specs.Engine.{State, Call}
-use Rattle.rules.specs.Engine.Call.{powerOn, restart, register, dump, lock, disable, query, read, set}
+use Rattle.rules.specs.Engine.Call.{powerOn, restart, register, dump, lock, disable, exit, query, read, set}
 
 abbrev pub Not : Type 0 → Type 0
 Not P = P → ⊥
@@ -164,6 +164,15 @@ pub record RecordOf (s : State) (v : Variable) (r : Bytes) : Type 0 where
 abbrev pub Absent : State → Variable → Type 0
 Absent s v = (r : Bytes) → Not (RecordOf s v r)
 
+-- after exit; and the record is then told by no read and taken out by no deletion: it is without RT
+abbrev pub Exited : State → Type 0
+Exited s = s .switches .exited ≡ true
+
+pub record Hidden (s : State) (v : Variable) (r : Bytes) : Type 0 where
+  pub exited : Exited s
+  pub stands : RecordOf s v r
+  pub without : Not (RT (attributesOf r))
+
 -- the chosen entry locks its variable: now, on create, or on its trigger's one payload byte
 pub data Locks (s : State) (e : Bytes) (v : Variable) : Type 0 where
   now : lockPolicyType e ≡ 1 → Locks s e v
@@ -213,8 +222,8 @@ pub record Storing (s : State) (r : Request) (rs : List Bytes) : Type 0 where
 
 -- ---- THE GROUNDS of each call, each with its place in the call's order and the status that it gives.
 -- Place 0 is 10 wherever something is lent, and the last place of each call applies always: done. A set's places are its steps
--- times ten; of step 4, 41 is size, 42 attributes and 43 the lock; of step 5, 51 is absent and 52 removed.
--- Grounds at one place give one status
+-- times ten; of step 3, 30 is RT or append without BS and 31 what a set needs after exit; of step 4, 41 is size, 42 attributes and 43 the lock; of
+-- step 5, 51 is absent or hidden, 52 volatile after exit and 53 removed. Grounds at one place give one status
 pub data Applies (s : State) : Call → ℕ → Status → Type 0 where
   -- Power-on
   powerOnUnsound : {allowed : Bool} → Not (SoundAlone (s .nv)) → Applies s (powerOn allowed) 0 VolumeCorrupted
@@ -227,32 +236,40 @@ pub data Applies (s : State) : Call → ℕ → Status → Type 0 where
   restartDone : {allowed : Bool} → Applies s (restart allowed) 1 Success
   -- Register
   registerBadRecord : {e : Bytes} → ((es : List Bytes) → Not (HasEntries s es)) → Applies s (register e) 0 VolumeCorrupted
-  registerLocked : {e : Bytes} → s .switches .locked ≡ true → Applies s (register e) 1 WriteProtected
-  registerMalformed : {e : Bytes} → Not (wellFormed e ≡ true) → Applies s (register e) 2 InvalidParameter
+  registerExited : {e : Bytes} → Exited s → Applies s (register e) 1 Unsupported
+  registerLocked : {e : Bytes} → s .switches .locked ≡ true → Applies s (register e) 2 WriteProtected
+  registerMalformed : {e : Bytes} → Not (wellFormed e ≡ true) → Applies s (register e) 3 InvalidParameter
   registerRepeated : {e : Bytes} (es : List Bytes) (f : Bytes) → HasEntries s es → Among f es
-      → namespaceOf e ≡ namespaceOf f → nameOf e ≡ nameOf f → Applies s (register e) 3 AlreadyStarted
-  registerTooMany : {e : Bytes} (es : List Bytes) → HasEntries s es → maxEntries < length es + 1 → Applies s (register e) 4 OutOfResources
+      → namespaceOf e ≡ namespaceOf f → nameOf e ≡ nameOf f → Applies s (register e) 4 AlreadyStarted
+  registerTooMany : {e : Bytes} (es : List Bytes) → HasEntries s es → maxEntries < length es + 1 → Applies s (register e) 5 OutOfResources
   registerTooLong : {e : Bytes} (es : List Bytes) → HasEntries s es → policyBytes < sumOfSizes es + sizeField e
-      → Applies s (register e) 4 OutOfResources
-  registerDone : {e : Bytes} → Applies s (register e) 5 Success
+      → Applies s (register e) 5 OutOfResources
+  registerDone : {e : Bytes} → Applies s (register e) 6 Success
   -- Dump
   dumpBadRecord : {buffer : Bytes} → ((es : List Bytes) → Not (HasEntries s es)) → Applies s (dump buffer) 0 VolumeCorrupted
-  dumpShort : {buffer : Bytes} (es : List Bytes) → HasEntries s es → length buffer < sumOfSizes es → Applies s (dump buffer) 1 BufferTooSmall
-  dumpDone : {buffer : Bytes} → Applies s (dump buffer) 2 Success
+  dumpExited : {buffer : Bytes} → Exited s → Applies s (dump buffer) 1 Unsupported
+  dumpShort : {buffer : Bytes} (es : List Bytes) → HasEntries s es → length buffer < sumOfSizes es → Applies s (dump buffer) 2 BufferTooSmall
+  dumpDone : {buffer : Bytes} → Applies s (dump buffer) 3 Success
   -- Lock
-  lockLocked : s .switches .locked ≡ true → Applies s lock 0 WriteProtected
-  lockDone : Applies s lock 1 Success
+  lockExited : Exited s → Applies s lock 0 Unsupported
+  lockLocked : s .switches .locked ≡ true → Applies s lock 1 WriteProtected
+  lockDone : Applies s lock 2 Success
   -- Disable
-  disableDisabled : s .switches .enabled ≡ false → Applies s disable 0 AlreadyStarted
-  disableLocked : s .switches .locked ≡ true → Applies s disable 1 WriteProtected
-  disableNotAllowed : s .switches .«disabling_allowed» ≡ false → Applies s disable 1 WriteProtected
-  disableDone : Applies s disable 2 Success
+  disableExited : Exited s → Applies s disable 0 Unsupported
+  disableDisabled : s .switches .enabled ≡ false → Applies s disable 1 AlreadyStarted
+  disableLocked : s .switches .locked ≡ true → Applies s disable 2 WriteProtected
+  disableNotAllowed : s .switches .«disabling_allowed» ≡ false → Applies s disable 2 WriteProtected
+  disableDone : Applies s disable 3 Success
+  -- Exit
+  exitExited : Exited s → Applies s exit 0 Unsupported
+  exitDone : Applies s exit 1 Success
   -- State query
   queryDone : Applies s query 0 Success
   -- Read
   readUnsound : {v : Variable} → Not (SoundStores (s .nv) (s .vol)) → Applies s (read v) 0 VolumeCorrupted
   readBadName : {v : Variable} → Not (Named v) → Applies s (read v) 1 InvalidParameter
   readAbsent : {v : Variable} → Absent s v → Applies s (read v) 2 NotFound
+  readHidden : {v : Variable} (q : Bytes) → Hidden s v q → Applies s (read v) 2 NotFound
   readDone : {v : Variable} → Applies s (read v) 3 Success
   -- Set
   setUnsound : {r : Request} → Not (SoundStores (s .nv) (s .vol)) → Applies s (set r) 0 VolumeCorrupted
@@ -265,6 +282,8 @@ pub data Applies (s : State) : Call → ℕ → Status → Type 0 where
   -- 3
   setRuntimeWithoutBS : {r : Request} → RT (r .attributes) → Not (BS (r .attributes)) → Applies s (set r) 30 InvalidParameter
   setAppendWithoutBS : {r : Request} → Append (r .attributes) → Not (BS (r .attributes)) → Applies s (set r) 30 InvalidParameter
+  setNotRuntime : {r : Request} → Exited s → Not (Deletion r) → Not (NV (r .attributes) × BS (r .attributes) × RT (r .attributes))
+      → Applies s (set r) 31 InvalidParameter
   -- 4
   setTooShort : {r : Request} (e p : Bytes) → Enforced s r e → Not (Deletion r) → PayloadAfter s r p → length p < minSize e
       → Applies s (set r) 41 InvalidParameter
@@ -277,7 +296,9 @@ pub data Applies (s : State) : Call → ℕ → Status → Type 0 where
   setLocked : {r : Request} (e : Bytes) → Enforced s r e → Locks s e (r .variable) → Applies s (set r) 43 WriteProtected
   -- 5
   setAbsent : {r : Request} → Deletion r → Absent s (r .variable) → Applies s (set r) 51 NotFound
-  setDeleted : {r : Request} → Deletion r → Applies s (set r) 52 Success
+  setHidden : {r : Request} (q : Bytes) → Deletion r → Hidden s (r .variable) q → Applies s (set r) 51 NotFound
+  setVolatile : {r : Request} (q : Bytes) → Deletion r → Exited s → RecordOf s (r .variable) q → Not (NV (attributesOf q)) → Applies s (set r) 52 WriteProtected
+  setDeleted : {r : Request} → Deletion r → Applies s (set r) 53 Success
   -- 6
   setOtherAttributes : {r : Request} (q : Bytes) → RecordOf s (r .variable) q → Not (SameAttributes (attributesOf q) (r .attributes))
       → Applies s (set r) 60 InvalidParameter

@@ -18,3 +18,5 @@ pub mod SizeLaws
 pub mod StateLaws
 pub mod Opened
 pub mod Readings
+pub mod BeforeExit
+pub mod ExitLaws

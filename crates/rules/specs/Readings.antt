@@ -15,7 +15,7 @@ use Rattle.switches.specs.Switches.{freshSwitches}
 use Rattle.rules.specs.declared.Report.{Report}
 use Rattle.rules.specs.Report.{groundNumber}
 use Rattle.rules.specs.Engine.{State, Call, step}
-use Rattle.rules.specs.Engine.Call.{powerOn, register, lock, disable, set}
+use Rattle.rules.specs.Engine.Call.{powerOn, register, dump, lock, disable, exit, query, read, set}
 use Rattle.rules.specs.Opened.{rulesOpened}
 
 -- ---- how the readings are written down
@@ -73,6 +73,10 @@ write us = setting us 3 (7 ∷ [])
 abbrev delete : List ℕ → Call
 delete us = setting us 3 []
 
+-- a read
+abbrev reading : List ℕ → Call
+reading us = read (record { namespace = G; name = text us })
+
 -- an append of n bytes with NV and BS
 abbrev append : List ℕ → ℕ → Call
 append us n = setting us 0x43 (replicate n 7)
@@ -95,6 +99,10 @@ A = 0x41 ∷ []
 
 abbrev T : List ℕ
 T = 0x54 ∷ []
+
+-- "A" with NV and BS, "B" with BS and RT, "C" with NV, BS and RT, and then exit
+abbrev booted : List Call → List Call
+booted cs = setting A 3 (7 ∷ []) ∷ setting (0x42 ∷ []) 6 (7 ∷ []) ∷ setting (0x43 ∷ []) 7 (7 ∷ []) ∷ exit ∷ cs
 
 -- ---- how reports are written down
 
@@ -159,12 +167,22 @@ readings =
     ∷ ((disable ∷ lock ∷ []), 0 ∷ 0 ∷ 0 ∷ [])
     ∷ ((lock ∷ disable ∷ []), 0 ∷ 0 ∷ 8 ∷ [])
     ∷ ((disable ∷ disable ∷ []), 0 ∷ 0 ∷ 20 ∷ [])
+    -- exit, and what is not to be had behind it; a power-on ends that
+    ∷ ((exit ∷ exit ∷ register (whole-namespace 0) ∷ dump [] ∷ lock ∷ disable ∷ query ∷ powerOn true ∷ lock ∷ []), 0 ∷ 0 ∷ 3 ∷ 3 ∷ 3 ∷ 3 ∷ 3 ∷ 0 ∷ 0 ∷ 0 ∷ [])
+    -- reads after exit: without RT, volatile with RT, with RT, absent
+    ∷ (booted (reading A ∷ reading (0x42 ∷ []) ∷ reading (0x43 ∷ []) ∷ reading (0x44 ∷ []) ∷ []), 0 ∷ 0 ∷ 0 ∷ 0 ∷ 0 ∷ 14 ∷ 0 ∷ 0 ∷ 14 ∷ [])
+    -- a set after exit: without RT, without NV, with both; an append with both, and without RT
+    ∷ (booted (setting (0x44 ∷ []) 3 (7 ∷ []) ∷ setting (0x44 ∷ []) 6 (7 ∷ []) ∷ setting (0x44 ∷ []) 7 (7 ∷ []) ∷ setting (0x44 ∷ []) 0x47 (7 ∷ []) ∷ setting (0x44 ∷ []) 0x43 (7 ∷ []) ∷ []), 0 ∷ 0 ∷ 0 ∷ 0 ∷ 0 ∷ 2 ∷ 2 ∷ 0 ∷ 0 ∷ 2 ∷ [])
+    -- deletions after exit: absent, without RT, volatile, with both; a variable without RT set with it
+    ∷ (booted (delete (0x45 ∷ []) ∷ delete A ∷ delete (0x42 ∷ []) ∷ delete (0x43 ∷ []) ∷ setting A 7 (7 ∷ []) ∷ []), 0 ∷ 0 ∷ 0 ∷ 0 ∷ 0 ∷ 14 ∷ 14 ∷ 8 ∷ 0 ∷ 2 ∷ [])
+    -- the lock comes before step 5, and what a set needs after exit before the lock
+    ∷ ((register (whole-namespace 1) ∷ exit ∷ delete A ∷ write A ∷ []), 0 ∷ 0 ∷ 0 ∷ 8 ∷ 2 ∷ [])
     ∷ []
 
 -- THE READINGS HOLD
 pub readings-hold : All Holds readings
 unfolding rulesOpened
-readings-hold = more refl (more refl (more refl (more refl (more refl (more refl (more refl (more refl (more refl (more refl (more refl (more refl (more refl (more refl (more refl (more refl (more refl (more refl (more refl (more refl nil)))))))))))))))))))
+readings-hold = more refl (more refl (more refl (more refl (more refl (more refl (more refl (more refl (more refl (more refl (more refl (more refl (more refl (more refl (more refl (more refl (more refl (more refl (more refl (more refl (more refl (more refl (more refl (more refl (more refl nil))))))))))))))))))))))))
 
 -- ---- the reports
 
@@ -190,9 +208,18 @@ reports =
     -- a whole namespace that requires the highest bit; that prohibits BS beside it
     ∷ ((register (whole-entry 44 44 0 0xFFFFFFFF 0x80000000 0 0 []) ∷ write A ∷ []), 0 ∷ 0 ∷ 2 ∷ 2 ∷ 0 ∷ 65 ∷ 1 ∷ 0 ∷ 31 ∷ [])
     ∷ ((register (whole-entry 44 44 0 0xFFFFFFFF 0x80000000 2 0 []) ∷ write A ∷ []), 0 ∷ 0 ∷ 2 ∷ 2 ∷ 0 ∷ 65 ∷ 1 ∷ 1 ∷ 1 ∷ [])
+    -- the 8 of a volatile variable after exit has no ground, that of a lock has; a set without RT has none
+    ∷ (
+      (setting A 6 (7 ∷ []) ∷ register (named-entry 0 1 (0x42 ∷ [])) ∷ exit ∷ delete A ∷ delete (0x42 ∷ []) ∷ write (0x42 ∷ []) ∷ []),
+      0 ∷ 0 ∷ 0 ∷ 0 ∷ 0 ∷ 0 ∷ 0 ∷ 0
+          ∷ 0 ∷ 0
+          ∷ 8 ∷ 0 ∷ 0 ∷ 0 ∷ 0 ∷ 0 ∷ 0
+          ∷ 8 ∷ 3 ∷ 0 ∷ 0 ∷ 0 ∷ 0 ∷ 0
+          ∷ 2 ∷ 0 ∷ 0 ∷ 0 ∷ 0 ∷ 0 ∷ 0 ∷ [],
+    )
     ∷ []
 
 -- THE REPORTS HOLD
 pub reports-hold : All Tells reports
 unfolding rulesOpened
-reports-hold = more refl (more refl (more refl nil))
+reports-hold = more refl (more refl (more refl (more refl nil)))

@@ -5,7 +5,7 @@ use mathlib.Core.Path.{_≡_, refl, sym, ap, subst, subst⁻¹, _∙_}
 use mathlib.Core.List.{List, [], _∷_}
 use mathlib.Core.Bool.{Bool, true, false, not, _||_, cond, true≢false, false≢true}
 use mathlib.Core.Option.{Option, none, some}
-use mathlib.Core.Logic.{_⊎_, _↔_}
+use mathlib.Core.Logic.{_⊎_, inl, inr, _↔_}
 use native.Mathlib.Omega.{arith}
 use lib.ListN.{length, getD}
 use lib.Dec.{lit<}
@@ -37,8 +37,8 @@ use Rattle.rules.specs.declared.Ground.the-variants.{NoGround, SizeGroun
 use Rattle.rules.specs.declared.Decision.{Decision}
 use Rattle.rules.specs.declared.Decision.the-variants.{Refuse, Block, Delete, Keep, Store}
 use Rattle.rules.specs.declared.Report.{Report}
-use Rattle.rules.specs.Set.{Request, requestStatus, groundStatus, groundOf, groundBy, isDeletion, lengthAfter, attributesAllowed, unsupportedBit, writeDecision, blockOr, decision, decisionStatus}
-use Rattle.rules.specs.DecisionLaws.{supported, early-unlocked, late-unlocked, blockedBy, write-unblocked, decision-blocked, blocked-facts}
+use Rattle.rules.specs.Set.{Request, requestStatus, groundStatus, groundOf, groundBy, isDeletion, exitProtects, lengthAfter, attributesAllowed, unsupportedBit, writeDecision, blockOr, decision, decisionStatus}
+use Rattle.rules.specs.DecisionLaws.{supported, early-unlocked, ProtectedDeletion, protected-refused, late-locked, blockedBy, write-unblocked, decision-blocked, decision-written, blocked-facts}
 use Rattle.rules.specs.Report.{noReport, reportFor, reportBy, decisionReport}
 use Rattle.rules.specs.Engine.{State, speaking, decisionBy, decisionIn, setDecision, status, withReport, setReport, step}
 use Rattle.rules.specs.Engine.Call.{set}
@@ -73,13 +73,13 @@ module _ (s : State) (r : Request) where
 
   -- steps 5 to 9
   abbrev later : Decision
-  later = writeDecision (s .nv) (s .vol) (lookup (s .nv) (s .vol) (r .variable)) r
+  later = writeDecision (s .switches .exited) (s .nv) (s .vol) (lookup (s .nv) (s .vol) (r .variable)) r
 
   -- the chosen entry gives a ground: nothing gave 10, steps 1 to 3 passed, the engine is enabled, and the chosen entry gives this ground
   pub record GroundGiven (g : Ground) : Type 0 where
     pub stores : sound (s .nv) (s .vol) ≡ true
     pub policy : policyValid (s .policy) ≡ true
-    pub asked : isSuccess (requestStatus r) ≡ true
+    pub asked : isSuccess (requestStatus (s .switches .exited) r) ≡ true
     pub enabled : s .switches .enabled ≡ true
     pub entry : Bytes
     pub choice : chosen entries (r .variable) ≡ some entry
@@ -103,13 +103,13 @@ module _ (s : State) (r : Request) where
       go false b h k e = absurd (not-blocked VolumeCorrupted g e)
       go true false h k e = absurd (not-blocked VolumeCorrupted g e)
       go true true h k e =
-          let f = blocked-facts _ (s .nv) (s .vol) r g e in
+          let f = blocked-facts _ _ (s .nv) (s .vol) r g e in
           let w = who g (s .switches .enabled) (chosen entries (r .variable)) (f .ground) (f .bars) in
           record { stores = h; policy = k; asked = f .asked; enabled = w .1; entry = w .0; choice = w .2; gives = w .3; some = barring g (f .bars) }
 
   given-decides : (g : Ground) → GroundGiven g → setDecision s r ≡ Block g
   unfolding decisionBy _and_
-  given-decides g w = rw (w .stores, w .policy) (decision-blocked _ (s .nv) (s .vol) r g (w .asked) (rw (w .enabled, w .choice) (w .gives)) (bars g (w .some)))
+  given-decides g w = rw (w .stores, w .policy) (decision-blocked _ _ (s .nv) (s .vol) r g (w .asked) (rw (w .enabled, w .choice) (w .gives)) (bars g (w .some)))
 
   -- the report of the entry that gives the ground
   abbrev pub givenReport : (g : Ground) → GroundGiven g → Report
@@ -124,27 +124,31 @@ module _ (s : State) (r : Request) where
   -- ground with its own status
   pub data Agree : Status → Report → Type 0 where
     corrupted : (sound (s .nv) (s .vol) and policyValid (s .policy)) ≡ false → Agree VolumeCorrupted noReport
-    early : (sound (s .nv) (s .vol) and policyValid (s .policy)) ≡ true → isSuccess (requestStatus r) ≡ false → Agree (requestStatus r) noReport
+    early : (sound (s .nv) (s .vol) and policyValid (s .policy)) ≡ true → isSuccess (requestStatus (s .switches .exited) r) ≡ false
+        → Agree (requestStatus (s .switches .exited) r) noReport
     byGround : (g : Ground) (w : GroundGiven g) → Agree (groundStatus g) (givenReport g w)
-    late : (sound (s .nv) (s .vol) and policyValid (s .policy)) ≡ true → isSuccess (requestStatus r) ≡ true
+    late : (sound (s .nv) (s .vol) and policyValid (s .policy)) ≡ true → isSuccess (requestStatus (s .switches .exited) r) ≡ true
         → groundBy (speaking (s .switches .enabled) (chosen entries (r .variable))) (lookup (s .nv) (s .vol)) r ≡ NoGround
         → Agree (decisionStatus later) noReport
 
   reported : Agree (status s (set r)) (setReport s r)
   unfolding decisionBy decision
-  reported = go (sound (s .nv) (s .vol) and policyValid (s .policy)) (isSuccess (requestStatus r)) _ refl refl refl (λ g e. ground-given g e)
+  reported = go (sound (s .nv) (s .vol) and policyValid (s .policy)) (isSuccess asks) _ refl refl refl (λ g e. ground-given g e)
     where
+      asks : Status
+      asks = requestStatus (s .switches .exited) r
+
       barred : (g : Ground) → GroundGiven g → Agree (groundStatus g) (reportBy g entries (chosen entries (r .variable)) (r .attributes))
       barred g w = subst⁻¹ (λ o. Agree (groundStatus g) (reportBy g entries o (r .attributes))) (w .choice) (byGround g w)
 
-      go : (b q : Bool) (h : Ground) → (sound (s .nv) (s .vol) and policyValid (s .policy)) ≡ b → isSuccess (requestStatus r) ≡ q
+      go : (b q : Bool) (h : Ground) → (sound (s .nv) (s .vol) and policyValid (s .policy)) ≡ b → isSuccess asks ≡ q
           → groundBy (speaking (s .switches .enabled) (chosen entries (r .variable))) (lookup (s .nv) (s .vol)) r ≡ h
-          → ((g : Ground) → cond b (cond q (blockOr h later) (Refuse (requestStatus r))) (Refuse VolumeCorrupted) ≡ Block g → GroundGiven g)
-          → Agree (decisionStatus (cond b (cond q (blockOr h later) (Refuse (requestStatus r))) (Refuse VolumeCorrupted)))
-          (decisionReport (cond b (cond q (blockOr h later) (Refuse (requestStatus r))) (Refuse VolumeCorrupted)) entries (chosen entries (r .variable)) (r .attributes))
+          → ((g : Ground) → cond b (cond q (blockOr h later) (Refuse asks)) (Refuse VolumeCorrupted) ≡ Block g → GroundGiven g)
+          → Agree (decisionStatus (cond b (cond q (blockOr h later) (Refuse asks)) (Refuse VolumeCorrupted)))
+          (decisionReport (cond b (cond q (blockOr h later) (Refuse asks)) (Refuse VolumeCorrupted)) entries (chosen entries (r .variable)) (r .attributes))
       go false q h i j k f = corrupted i
       go true false h i j k f = early i j
-      go true true NoGround i j k f = subst⁻¹ (Agree (decisionStatus later)) (unblocked-report later entries _ (r .attributes) (write-unblocked (s .nv) (s .vol) _ r)) (late i j k)
+      go true true NoGround i j k f = subst⁻¹ (Agree (decisionStatus later)) (unblocked-report later entries _ (r .attributes) (write-unblocked (s .switches .exited) (s .nv) (s .vol) _ r)) (late i j k)
       go true true SizeGround i j k f = barred SizeGround (f SizeGround refl)
       go true true AttributeGround i j k f = barred AttributeGround (f AttributeGround refl)
       go true true LockGround i j k f = barred LockGround (f LockGround refl)
@@ -257,23 +261,72 @@ no-ground-zeros s r p a e = sym (answered-is s r p a) ∙ go (report-and-status 
     go (byGround g w) h = absurd (w .some (sym (ground-for g _ (w .entry) (r .attributes)) ∙ h))
     go (late i j k) h = refl
 
--- A SET ANSWERS 8 EXACTLY WHERE A LOCK IS REPORTED
-pub lock-exactly : (s : State) (r : Request) (p : Report) → Answered s r p → (step s (set r) .0 .status ≡ WriteProtected) ↔ (p .ground ≡ LockGround)
-lock-exactly s r p a =
-    let x = ground-exactly s r p LockGround a (barring LockGround refl) in
-    ((λ h. x .1 (go (report-and-status s r .1) (sym (step-status s (set r)) ∙ h))), λ e. ap (λ b. b .status) (given-answers s r LockGround (x .0 e)))
-  where
-    by : (g : Ground) → GroundGiven s r g → groundStatus g ≡ WriteProtected → GroundGiven s r LockGround
-    by NoGround w e = absurd (w .some refl)
-    by SizeGround w e = absurd (let k = ap statusNumber e in omega (arith, k))
-    by AttributeGround w e = absurd (let k = ap statusNumber e in omega (arith, k))
-    by LockGround w e = w
+-- A SET ANSWERS 8 EXACTLY WHERE A LOCK IS REPORTED, or where nothing of step 4 or before speaks against a deletion after exit of what is shown and
+-- protected; then no ground is reported (`no-ground`)
+module _ (s : State) (r : Request) where
+  pub record Protected : Type 0 where
+    pub intact : (sound (s .nv) (s .vol) and policyValid (s .policy)) ≡ true
+    pub asked : isSuccess (requestStatus (s .switches .exited) r) ≡ true
+    pub silent : groundBy (speaking (s .switches .enabled) (chosen (entriesOf (s .policy)) (r .variable))) (lookup (s .nv) (s .vol)) r ≡ NoGround
+    pub deletion : ProtectedDeletion (s .switches .exited) (lookup (s .nv) (s .vol) (r .variable)) r
 
-    go : {n : Status} {p : Report} → Agree s r n p → n ≡ WriteProtected → GroundGiven s r LockGround
-    go (corrupted i) e = absurd (let k = ap statusNumber e in omega (arith, k))
-    go (early i j) e = absurd (early-unlocked r e)
-    go (byGround g w) e = by g w e
-    go (late i j k) e = absurd (late-unlocked (s .nv) (s .vol) _ r e)
+  protected-answers : Protected → step s (set r) .0 .status ≡ WriteProtected
+  unfolding decisionBy
+  protected-answers w =
+      step-status s (set r)
+      ∙ rw (w .intact) (ap decisionStatus (decision-written _ _ (s .nv) (s .vol) r (w .asked) (w .silent)
+      ∙ protected-refused (s .switches .exited) (s .nv) (s .vol) (lookup (s .nv) (s .vol) (r .variable)) r (w .deletion)))
+
+  eight-by : (g : Ground) → GroundGiven s r g → groundStatus g ≡ WriteProtected → GroundGiven s r LockGround
+  eight-by NoGround w e = absurd (w .some refl)
+  eight-by SizeGround w e = absurd (let k = ap statusNumber e in omega (arith, k))
+  eight-by AttributeGround w e = absurd (let k = ap statusNumber e in omega (arith, k))
+  eight-by LockGround w e = w
+
+  eight-cases : {n : Status} {p : Report} → Agree s r n p → n ≡ WriteProtected → GroundGiven s r LockGround ⊎ Protected
+  eight-cases (corrupted i) e = absurd (let k = ap statusNumber e in omega (arith, k))
+  eight-cases (early i j) e = absurd (early-unlocked (s .switches .exited) r e)
+  eight-cases (byGround g w) e = inl (eight-by g w e)
+  eight-cases (late i j k) e = inr (record { intact = i; asked = j; silent = k; deletion = late-locked (s .switches .exited) (s .nv) (s .vol) _ r e })
+
+  pub lock-exactly : (p : Report) → Answered s r p → (step s (set r) .0 .status ≡ WriteProtected) ↔ ((p .ground ≡ LockGround) ⊎ Protected)
+  lock-exactly p a = (λ h. to (eight-cases (report-and-status s r .1) (sym (step-status s (set r)) ∙ h)), back)
+    where
+      told : (p .ground ≡ LockGround) ↔ GroundGiven s r LockGround
+      told = ground-exactly s r p LockGround a (barring LockGround refl)
+
+      to : GroundGiven s r LockGround ⊎ Protected → (p .ground ≡ LockGround) ⊎ Protected
+      to (inl w) = inl (told .1 w)
+      to (inr w) = inr w
+
+      back : (p .ground ≡ LockGround) ⊎ Protected → step s (set r) .0 .status ≡ WriteProtected
+      back (inl e) = ap (λ b. b .status) (given-answers s r LockGround (told .0 e))
+      back (inr w) = protected-answers w
+
+  -- the two exclude each other
+  pub protected-silent : (p : Report) → Answered s r p → Protected → p ≡ noReport
+  unfolding decisionBy
+  protected-silent p a w =
+      sym (answered-is s r p a)
+      ∙ rw (w .intact) (ap (λ d. decisionReport d (entriesOf (s .policy)) (chosen (entriesOf (s .policy)) (r .variable)) (r .attributes))
+      (decision-written _ _ (s .nv) (s .vol) r (w .asked) (w .silent)
+      ∙ protected-refused (s .switches .exited) (s .nv) (s .vol) (lookup (s .nv) (s .vol) (r .variable)) r (w .deletion)))
+
+-- BEFORE EXIT a set answers 8 exactly where a lock is reported
+unprotected : (found : Option Bytes) → exitProtects false found ≡ true → ⊥
+unfolding exitProtects _and_
+unprotected none e = false≢true e
+unprotected (some q) e = false≢true e
+
+pub lock-before-exit : (s : State) (r : Request) (p : Report) → Answered s r p → s .switches .exited ≡ false
+    → (step s (set r) .0 .status ≡ WriteProtected) ↔ (p .ground ≡ LockGround)
+lock-before-exit s r p a x = ((λ h. to (lock-exactly s r p a .0 h)), λ e. lock-exactly s r p a .1 (inl e))
+  where
+    to : (p .ground ≡ LockGround) ⊎ Protected s r → p .ground ≡ LockGround
+    to (inl e) = e
+    to (inr w) =
+        let found = lookup (s .nv) (s .vol) (r .variable) in
+        absurd (unprotected found (subst (λ b. exitProtects b found ≡ true) x (w .deletion .protects)))
 
 -- ---- size
 
@@ -319,7 +372,7 @@ module _ (s : State) (r : Request) (w : GroundGiven s r AttributeGround) where
       → (missingBits must (r .attributes) ≡ 0) × (prohibitedBits cant (r .attributes) ≡ 0) → ⊥
   unfolding attributesAllowed
   counted m c h z =
-      let a = known-below (r .attributes) (supported r (w .asked)) in
+      let a = known-below (r .attributes) (supported (s .switches .exited) r (w .asked)) in
       true≢false (sym (and-intro _ _ (eq-eqb _ _ (none-missing must (r .attributes) m a (z .0))) (eq-eqb _ _ (none-prohibited cant (r .attributes) c a (z .1)))) ∙ h)
 
   offending : AreBytes (s .policy) → attributesAllowed (w .entry) (r .attributes) ≡ false → Offends (w .entry) (r .attributes) (givenReport s r AttributeGround w)

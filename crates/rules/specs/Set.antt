@@ -47,6 +47,10 @@ unfoldable pub isEmpty : Bytes → Bool
 isEmpty [] = true
 isEmpty (b ∷ l) = false
 
+-- a deletion (RULES.md, 10.9): without append, and with no payload or with neither of BS and RT
+unfoldable pub isDeletion : ℕ → Bytes → Bool
+isDeletion a payload = not (hasAppend a) and (isEmpty payload || not (hasBS a || hasRT a))
+
 -- ---- steps 1 to 3
 
 -- step 1: a bad name, or too long a payload
@@ -61,11 +65,16 @@ unsupportedBit a = not (eqb (bitAnd a knownAttributes) a)
 unfoldable pub needsBS : ℕ → Bool
 needsBS a = (hasRT a || hasAppend a) and not (hasBS a)
 
-unfoldable pub requestStatus : Request → Status
-requestStatus r =
+-- and, after exit, a set that is no deletion without one of NV, BS and RT
+unfoldable pub needsRuntime : Bool → ℕ → Bytes → Bool
+needsRuntime exited a payload = exited and not (isDeletion a payload) and not (hasNV a and hasBS a and hasRT a)
+
+unfoldable pub requestStatus : Bool → Request → Status
+requestStatus exited r =
     cond (badRequest (r .variable) (r .payload)) InvalidParameter
     (cond (unsupportedBit (r .attributes)) Unsupported
-    (cond (needsBS (r .attributes)) InvalidParameter Success))
+    (cond (needsBS (r .attributes)) InvalidParameter
+    (cond (needsRuntime exited (r .attributes) (r .payload)) InvalidParameter Success)))
 
 -- ---- the locks
 
@@ -97,10 +106,6 @@ abbrev pub lengthAfter : Option Bytes → Request → ℕ
 lengthAfter found r = length (payloadAfter found (r .attributes) (r .payload))
 
 -- ---- step 4
-
--- a deletion (RULES.md, 10.9): without append, and with no payload or with neither of BS and RT
-unfoldable pub isDeletion : ℕ → Bytes → Bool
-isDeletion a payload = not (hasAppend a) and (isEmpty payload || not (hasBS a || hasRT a))
 
 unfoldable pub sizeAllowed : Bytes → ℕ → Bool
 sizeAllowed e n = leb (minSize e) n and leb n (maxSize e)
@@ -141,6 +146,21 @@ groundStatus LockGround = WriteProtected
 
 -- ---- steps 5 to 10
 
+-- what a read tells and a deletion takes, of what is found of a variable: after exit, no record without RT
+unfoldable pub shown : Bool → Option Bytes → Option Bytes
+shown exited none = none
+shown exited (some q) = cond (exited and not (hasRT (attributesOf q))) none (some q)
+
+-- a record of the volatile store, which after exit no deletion takes
+unfoldable pub exitProtects : Bool → Option Bytes → Bool
+exitProtects exited none = false
+exitProtects exited (some q) = exited and not (hasNV (attributesOf q))
+
+-- step 5, by what is found of the request's variable
+abbrev pub deleteDecision : Bool → Option Bytes → Decision
+deleteDecision exited found =
+    cond (exists (shown exited found)) (cond (exitProtects exited found) (Refuse WriteProtected) Delete) (Refuse NotFound)
+
 -- stored attributes: without append; step 2 has refused every bit outside 0x47
 abbrev pub storedAttributes : ℕ → ℕ
 storedAttributes a = a % 8
@@ -170,10 +190,10 @@ storeDecision nv vol found r =
     (cond (hasRoom (hasNV (r .attributes)) (storeOf (r .attributes) nv vol) (r .variable) (recordAfter found r)) Store (Refuse OutOfResources))
 
 -- steps 5 to 9
-unfoldable pub writeDecision : Bytes → Bytes → Option Bytes → Request → Decision
-writeDecision nv vol found r =
+unfoldable pub writeDecision : Bool → Bytes → Bytes → Option Bytes → Request → Decision
+writeDecision exited nv vol found r =
     -- 5
-    cond (isDeletion (r .attributes) (r .payload)) (cond (exists found) Delete (Refuse NotFound))
+    cond (isDeletion (r .attributes) (r .payload)) (deleteDecision exited found)
     -- 6
     (cond (otherAttributes found (r .attributes)) (Refuse InvalidParameter)
     -- 7
@@ -192,12 +212,12 @@ blockOr SizeGround later = Block SizeGround
 blockOr AttributeGround later = Block AttributeGround
 blockOr LockGround later = Block LockGround
 
--- all steps over sound stores, in their order;
+-- all steps over sound stores, in their order, before exit or after it;
 -- `speaking` is the chosen entry, none where none is chosen or the engine is disabled
-unfoldable pub decision : Option Bytes → Bytes → Bytes → Request → Decision
-decision speaking nv vol r =
-    refuseOr (requestStatus r)
-    (blockOr (groundBy speaking (lookup nv vol) r) (writeDecision nv vol (lookup nv vol (r .variable)) r))
+unfoldable pub decision : Bool → Option Bytes → Bytes → Bytes → Request → Decision
+decision exited speaking nv vol r =
+    refuseOr (requestStatus exited r)
+    (blockOr (groundBy speaking (lookup nv vol) r) (writeDecision exited nv vol (lookup nv vol (r .variable)) r))
 
 -- the status of a decision
 abbrev pub decisionStatus : Decision → Status

@@ -33,15 +33,15 @@ use Rattle.rules.specs.declared.Ground.{Ground}
 use Rattle.rules.specs.declared.Ground.the-variants.{NoGround, SizeGround, AttributeGround, LockGround}
 use Rattle.rules.specs.declared.Decision.{Decision}
 use Rattle.rules.specs.declared.Decision.the-variants.{Refuse, Delete, Keep, Store}
-use Rattle.rules.specs.Set.{Request, Lookup, orGround, exists, badRequest, unsupportedBit, needsBS, requestStatus, holdsValue, ruleLocks, locks, isDeletion, sizeAllowed, attributesAllowed, requestGround, groundOf, groundBy, otherAttributes, isEmptyAppend, payloadAfter, lengthAfter, recordAfter, storeOf, writeDecision, refuseOr, blockOr, decision, decisionStatus}
+use Rattle.rules.specs.Set.{Request, Lookup, orGround, exists, badRequest, unsupportedBit, needsBS, needsRuntime, requestStatus, holdsValue, ruleLocks, locks, isDeletion, shown, exitProtects, sizeAllowed, attributesAllowed, requestGround, groundOf, groundBy, otherAttributes, isEmptyAppend, payloadAfter, lengthAfter, recordAfter, storeOf, writeDecision, refuseOr, blockOr, decision, decisionStatus}
 use Rattle.rules.specs.DecisionLaws.{blockedBy, write-unblocked}
 use Rattle.rules.specs.Engine.{State, speaking, decisionBy, setDecision, status}
 use Rattle.rules.specs.Engine.Call.{set}
-use Rattle.rules.specs.Grounds.{Not, Bit, BS, RT, Append, HasEntries, SoundStores, RecordOf, Locks, Deletion, SameAttributes, Enforced, PayloadAfter, Storing, Applies, FirstAt, Answers}
-use Rattle.rules.specs.Grounds.Applies.{setUnsound, setBadRecord, setBadName, setLongPayload, setUnknownBit, setRuntimeWithoutBS, setAppendWithoutBS, setTooShort, setTooLong, setBitMissing, setBitProhibited, setLocked}
-use Rattle.rules.specs.Grounds.Applies.{setAbsent, setDeleted, setOtherAttributes, setEmptyAppend, setAppendTooLong, setNoRoomNV, setNoRoomVol, setDone}
-use Rattle.rules.specs.ConditionLaws.{Tells, tells-not, tells-and, tells-nand, tells-eq, tells-le, tells-lt, tells-more, tells-same, tells-off, off-tells, tells-missing, tells-prohibited, tells-unsupported, tells-nv, tells-append, tells-deletion, tells-nothing, tells-needs-bs, tells-named, chosen-is, is-chosen}
-use Rattle.rules.specs.FoundLaws.{none-some, tells-sound, valid-entries, entries-read, tells-entries, tells-exists, first-records, second-records, distinct-first, distinct-second, found-lookup, lookup-found, lookup-absent, with-put, put-with}
+use Rattle.rules.specs.Grounds.{Not, Bit, BS, RT, Append, HasEntries, SoundStores, RecordOf, Absent, Hidden, Locks, Deletion, SameAttributes, Enforced, PayloadAfter, Storing, Applies, FirstAt, Answers}
+use Rattle.rules.specs.Grounds.Applies.{setUnsound, setBadRecord, setBadName, setLongPayload, setUnknownBit, setRuntimeWithoutBS, setAppendWithoutBS, setNotRuntime, setTooShort, setTooLong, setBitMissing, setBitProhibited, setLocked}
+use Rattle.rules.specs.Grounds.Applies.{setAbsent, setHidden, setVolatile, setDeleted, setOtherAttributes, setEmptyAppend, setAppendTooLong, setNoRoomNV, setNoRoomVol, setDone}
+use Rattle.rules.specs.ConditionLaws.{Tells, tells-not, tells-and, tells-nand, tells-eq, tells-le, tells-lt, tells-more, tells-same, tells-off, off-tells, tells-missing, tells-prohibited, tells-unsupported, tells-nv, tells-append, tells-deletion, tells-nothing, tells-needs-bs, tells-runtime, tells-named, chosen-is, is-chosen}
+use Rattle.rules.specs.FoundLaws.{none-some, tells-sound, valid-entries, entries-read, tells-entries, tells-exists, tells-unseen, tells-protected, first-records, second-records, distinct-first, distinct-second, found-lookup, lookup-found, lookup-absent, with-put, put-with}
 use Rattle.rules.specs.OrderedLaws.{Row, row, firstOf, firstPlace, NoneBefore, Grounds, last, _then_, NoGrounds, first-at}
 
 -- ---- the tests in their order
@@ -64,22 +64,23 @@ isLock SizeGround = false
 isLock AttributeGround = false
 isLock LockGround = true
 
-abbrev write-rows : Bool → Bool → Bool → Bool → Bool → Bool → List Row
-write-rows deletion found other nothing long room =
-    row 51 (deletion and not found) NotFound ∷ row 52 deletion Success ∷ row 60 other InvalidParameter ∷ row 70 nothing Success
-    ∷ row 80 long OutOfResources ∷ row 90 (not room) OutOfResources ∷ row 100 true Success ∷ []
+abbrev write-rows : Bool → Bool → Bool → Bool → Bool → Bool → Bool → List Row
+write-rows deletion seen protected other nothing long room =
+    row 51 (deletion and not seen) NotFound ∷ row 52 (deletion and protected) WriteProtected ∷ row 53 deletion Success ∷ row 60 other InvalidParameter
+    ∷ row 70 nothing Success ∷ row 80 long OutOfResources ∷ row 90 (not room) OutOfResources ∷ row 100 true Success ∷ []
 
-write-chain : (d x o e l m : Bool)
-    → decisionStatus (cond d (cond x Delete (Refuse NotFound)) (cond o (Refuse InvalidParameter) (cond e Keep (cond l (Refuse OutOfResources) (cond m Store (Refuse OutOfResources))))))
-    ≡ firstOf (write-rows d x o e l m)
+write-chain : (d x p o e l m : Bool)
+    → decisionStatus (cond d (cond x (cond p (Refuse WriteProtected) Delete) (Refuse NotFound)) (cond o (Refuse InvalidParameter) (cond e Keep (cond l (Refuse OutOfResources) (cond m Store (Refuse OutOfResources))))))
+    ≡ firstOf (write-rows d x p o e l m)
 unfolding _and_
-write-chain true true o e l m = refl
-write-chain true false o e l m = refl
-write-chain false x true e l m = refl
-write-chain false x false true l m = refl
-write-chain false x false false true m = refl
-write-chain false x false false false true = refl
-write-chain false x false false false false = refl
+write-chain true true true o e l m = refl
+write-chain true true false o e l m = refl
+write-chain true false p o e l m = refl
+write-chain false x p true e l m = refl
+write-chain false x p false true l m = refl
+write-chain false x p false false true m = refl
+write-chain false x p false false false true = refl
+write-chain false x p false false false false = refl
 
 abbrev ground-rows : Ground → List Row → List Row
 ground-rows g rows = row 41 (isSize g) InvalidParameter ∷ row 42 (isAttribute g) InvalidParameter ∷ row 43 (isLock g) WriteProtected ∷ rows
@@ -90,22 +91,23 @@ ground-chain SizeGround d rows e = refl
 ground-chain AttributeGround d rows e = refl
 ground-chain LockGround d rows e = refl
 
-abbrev all-rows : Bool → Bool → Bool → Bool → Bool → Bool → List Row → List Row
-all-rows sound valid named long unsupported needs rows =
+abbrev all-rows : Bool → Bool → Bool → Bool → Bool → Bool → Bool → List Row → List Row
+all-rows sound valid named long unsupported needs runtime rows =
     row 0 (not sound) VolumeCorrupted ∷ row 0 (not valid) VolumeCorrupted ∷ row 10 (not named) InvalidParameter ∷ row 10 long InvalidParameter
-    ∷ row 20 unsupported Unsupported ∷ row 30 needs InvalidParameter ∷ rows
+    ∷ row 20 unsupported Unsupported ∷ row 30 needs InvalidParameter ∷ row 31 runtime InvalidParameter ∷ rows
 
-all-chain : (s v n l u b : Bool) (d : Decision) (rows : List Row) → decisionStatus d ≡ firstOf rows
-    → decisionStatus (cond (s and v) (refuseOr (cond (not n || l) InvalidParameter (cond u Unsupported (cond b InvalidParameter Success))) d) (Refuse VolumeCorrupted))
-    ≡ firstOf (all-rows s v n l u b rows)
+all-chain : (s v n l u b x : Bool) (d : Decision) (rows : List Row) → decisionStatus d ≡ firstOf rows
+    → decisionStatus (cond (s and v) (refuseOr (cond (not n || l) InvalidParameter (cond u Unsupported (cond b InvalidParameter (cond x InvalidParameter Success)))) d) (Refuse VolumeCorrupted))
+    ≡ firstOf (all-rows s v n l u b x rows)
 unfolding _and_
-all-chain false v n l u b d rows e = refl
-all-chain true false n l u b d rows e = refl
-all-chain true true false l u b d rows e = refl
-all-chain true true true true u b d rows e = refl
-all-chain true true true false true b d rows e = refl
-all-chain true true true false false true d rows e = refl
-all-chain true true true false false false d rows e = e
+all-chain false v n l u b x d rows e = refl
+all-chain true false n l u b x d rows e = refl
+all-chain true true false l u b x d rows e = refl
+all-chain true true true true u b x d rows e = refl
+all-chain true true true false true b x d rows e = refl
+all-chain true true true false false true x d rows e = refl
+all-chain true true true false false false true d rows e = refl
+all-chain true true true false false false false d rows e = e
 
 -- ---- at which place the steps end
 
@@ -116,15 +118,16 @@ EndsAt SizeGround p = p ≡ 41
 EndsAt AttributeGround p = p ≡ 42
 EndsAt LockGround p = p ≡ 43
 
-write-place : (d x o e l m : Bool) → 43 < firstPlace (write-rows d x o e l m)
+write-place : (d x p o e l m : Bool) → 43 < firstPlace (write-rows d x p o e l m)
 unfolding _and_
-write-place true true o e l m = lit< tt
-write-place true false o e l m = lit< tt
-write-place false x true e l m = lit< tt
-write-place false x false true l m = lit< tt
-write-place false x false false true m = lit< tt
-write-place false x false false false true = lit< tt
-write-place false x false false false false = lit< tt
+write-place true true true o e l m = lit< tt
+write-place true true false o e l m = lit< tt
+write-place true false p o e l m = lit< tt
+write-place false x p true e l m = lit< tt
+write-place false x p false true l m = lit< tt
+write-place false x p false false true m = lit< tt
+write-place false x p false false false true = lit< tt
+write-place false x p false false false false = lit< tt
 
 ground-ends : (g : Ground) (d : Decision) (rows : List Row) → blockedBy d ≡ NoGround → 43 < firstPlace rows → EndsAt (blockedBy (blockOr g d)) (firstPlace (ground-rows g rows))
 ground-ends NoGround d rows e l = subst⁻¹ (λ g. EndsAt g (firstPlace rows)) e (λ w. let h = w .1 in omega arith)
@@ -135,17 +138,18 @@ ground-ends LockGround d rows e l = refl
 before-4 : (p : ℕ) → p < 41 → EndsAt NoGround p
 before-4 p l w = let h = w .0 in omega arith
 
-all-ends : (s v n l u b : Bool) (g : Ground) (d : Decision) (rows : List Row) → blockedBy d ≡ NoGround → 43 < firstPlace rows
-    → EndsAt (blockedBy (cond (s and v) (refuseOr (cond (not n || l) InvalidParameter (cond u Unsupported (cond b InvalidParameter Success))) (blockOr g d)) (Refuse VolumeCorrupted)))
-    (firstPlace (all-rows s v n l u b (ground-rows g rows)))
+all-ends : (s v n l u b x : Bool) (g : Ground) (d : Decision) (rows : List Row) → blockedBy d ≡ NoGround → 43 < firstPlace rows
+    → EndsAt (blockedBy (cond (s and v) (refuseOr (cond (not n || l) InvalidParameter (cond u Unsupported (cond b InvalidParameter (cond x InvalidParameter Success)))) (blockOr g d)) (Refuse VolumeCorrupted)))
+    (firstPlace (all-rows s v n l u b x (ground-rows g rows)))
 unfolding _and_
-all-ends false v n l u b g d rows e f = before-4 0 (lit< tt)
-all-ends true false n l u b g d rows e f = before-4 0 (lit< tt)
-all-ends true true false l u b g d rows e f = before-4 10 (lit< tt)
-all-ends true true true true u b g d rows e f = before-4 10 (lit< tt)
-all-ends true true true false true b g d rows e f = before-4 20 (lit< tt)
-all-ends true true true false false true g d rows e f = before-4 30 (lit< tt)
-all-ends true true true false false false g d rows e f = ground-ends g d rows e f
+all-ends false v n l u b x g d rows e f = before-4 0 (lit< tt)
+all-ends true false n l u b x g d rows e f = before-4 0 (lit< tt)
+all-ends true true false l u b x g d rows e f = before-4 10 (lit< tt)
+all-ends true true true true u b x g d rows e f = before-4 10 (lit< tt)
+all-ends true true true false true b x g d rows e f = before-4 20 (lit< tt)
+all-ends true true true false false true x g d rows e f = before-4 30 (lit< tt)
+all-ends true true true false false false true g d rows e f = before-4 31 (lit< tt)
+all-ends true true true false false false false g d rows e f = ground-ends g d rows e f
 
 -- ---- step 4
 
@@ -413,22 +417,30 @@ module _ (s : State) (r : Request) where
   abbrev room : Bool
   room = hasRoom (hasNV (r .attributes)) (storeOf (r .attributes) (s .nv) (s .vol)) (r .variable) (recordAfter standing r)
 
+  abbrev exited : Bool
+  exited = s .switches .exited
+
+  abbrev runtime : Bool
+  runtime = needsRuntime exited (r .attributes) (r .payload)
+
   abbrev last-rows : List Row
   last-rows =
-      write-rows (isDeletion (r .attributes) (r .payload)) (exists standing) (otherAttributes standing (r .attributes)) (isEmptyAppend (r .attributes) (r .payload)) long room
+      write-rows (isDeletion (r .attributes) (r .payload)) (exists (shown exited standing)) (exitProtects exited standing) (otherAttributes standing (r .attributes))
+      (isEmptyAppend (r .attributes) (r .payload)) long room
 
   abbrev set-rows : List Row
   set-rows =
-      all-rows (sound (s .nv) (s .vol)) (policyValid (s .policy)) (named (r .variable)) (ltb maxPayload (length (r .payload))) (unsupportedBit (r .attributes)) (needsBS (r .attributes))
+      all-rows (sound (s .nv) (s .vol)) (policyValid (s .policy)) (named (r .variable)) (ltb maxPayload (length (r .payload))) (unsupportedBit (r .attributes)) (needsBS (r .attributes)) runtime
       (ground-rows spokenGround last-rows)
 
   set-chain : status s (set r) ≡ firstOf set-rows
   unfolding decisionBy decision requestStatus badRequest writeDecision
   set-chain =
-      all-chain (sound (s .nv) (s .vol)) (policyValid (s .policy)) (named (r .variable)) (ltb maxPayload (length (r .payload))) (unsupportedBit (r .attributes)) (needsBS (r .attributes))
+      all-chain (sound (s .nv) (s .vol)) (policyValid (s .policy)) (named (r .variable)) (ltb maxPayload (length (r .payload))) (unsupportedBit (r .attributes)) (needsBS (r .attributes)) runtime
       _ (ground-rows spokenGround last-rows)
       (ground-chain spokenGround _ last-rows
-      (write-chain (isDeletion (r .attributes) (r .payload)) (exists standing) (otherAttributes standing (r .attributes)) (isEmptyAppend (r .attributes) (r .payload)) long room))
+      (write-chain (isDeletion (r .attributes) (r .payload)) (exists (shown exited standing)) (exitProtects exited standing) (otherAttributes standing (r .attributes))
+      (isEmptyAppend (r .attributes) (r .payload)) long room))
 
   pub enforced-entry : (e : Bytes) → Enforced s r e → chosenEntry ≡ some e
   enforced-entry e w =
@@ -500,6 +512,10 @@ module _ (s : State) (r : Request) where
       go (inl h) = setRuntimeWithoutBS h (w .1)
       go (inr h) = setAppendWithoutBS h (w .1)
 
+  unseen-ground : Deletion r → Absent s (r .variable) ⊎ ((q : Bytes) × Hidden s (r .variable) q) → Applies s (set r) 51 NotFound
+  unseen-ground d (inl h) = setAbsent d h
+  unseen-ground d (inr h) = setHidden (h .0) d (h .1)
+
   room-ground : SoundStores (s .nv) (s .vol) → hasRoom (hasNV (r .attributes)) (storeOf (r .attributes) (s .nv) (s .vol)) (r .variable) (recordAfter standing r) ≡ false
       → Applies s (set r) 90 OutOfResources
   room-ground k = go (hasNV (r .attributes)) refl
@@ -520,6 +536,7 @@ module _ (s : State) (r : Request) where
       then (λ n t. setLongPayload (ltb-true maxPayload (length (r .payload)) t))
       then (λ n t. let w = tells-unsupported (r .attributes) .0 t in setUnknownBit (w .0) (w .1) (w .2))
       then (λ n t. needs-ground (tells-needs-bs (r .attributes) .0 t))
+      then (λ n t. let w = tells-runtime s r .0 t in setNotRuntime (w .0) (w .1 .0) (λ k. w .1 .1 (k .0, (k .1, k .2))))
       then (λ n t.
       let w = asked isSize refl t in
       let q = size-says _ (spoken-of (w .0)) (w .2) in
@@ -536,9 +553,11 @@ module _ (s : State) (r : Request) where
       let f = entry-enforced (set-listed 43 n (lit< tt)) (w .0) (w .1) in
       setLocked (w .0) f (tells-locks s (set-stores 43 n (lit< tt)) (w .0) (enforced-formed (w .0) f) (r .variable) .0 q))
       then (λ n t.
-      let k = set-stores 51 n (lit< tt) in
-      let w = tells-and _ _ (tells-deletion r) (tells-not _ (tells-exists s (r .variable) k)) .0 t in
-      setAbsent (w .0) (λ q f. w .1 (q, f)))
+      let w = tells-and _ _ (tells-deletion r) (tells-unseen s (r .variable) (set-stores 51 n (lit< tt))) .0 t in
+      unseen-ground (w .0) (w .1))
+      then (λ n t.
+      let w = tells-and _ _ (tells-deletion r) (tells-protected s (r .variable) (set-stores 52 n (lit< tt))) .0 t in
+      setVolatile (w .1 .0) (w .0) (w .1 .1) (w .1 .2) (w .1 .3))
       then (λ n t. setDeleted (tells-deletion r .0 t))
       then (λ n t. let w = tells-other s r (set-stores 60 n (lit< tt)) .0 t in setOtherAttributes (w .0) (w .1) (w .2))
       then (λ n t. setEmptyAppend (tells-nothing r .0 t))
@@ -555,31 +574,36 @@ module _ (s : State) (r : Request) where
   no-set p n k m l (setUnknownBit i b h) = tells-off _ (tells-unsupported (r .attributes)) (n 4 l) (i, b, h)
   no-set p n k m l (setRuntimeWithoutBS h i) = tells-off _ (tells-needs-bs (r .attributes)) (n 5 l) (inl h, i)
   no-set p n k m l (setAppendWithoutBS h i) = tells-off _ (tells-needs-bs (r .attributes)) (n 5 l) (inr h, i)
-  no-set p n k m l (setTooShort e x w d a h) = no-size-ground p n (omega arith) e x w d a (n 6 l) (inl h)
-  no-set p n k m l (setTooLong e x w d a h) = no-size-ground p n (omega arith) e x w d a (n 6 l) (inr h)
+  no-set p n k m l (setNotRuntime x d h) = tells-off _ (tells-runtime s r) (n 6 l) (x, (d, λ w. h (w .0, w .1 .0, w .1 .1)))
+  no-set p n k m l (setTooShort e x w d a h) = no-size-ground p n (omega arith) e x w d a (n 7 l) (inl h)
+  no-set p n k m l (setTooLong e x w d a h) = no-size-ground p n (omega arith) e x w d a (n 7 l) (inr h)
   no-set p n k m l (setBitMissing e i w d h j) =
       tells-off _ (tells-attributes e (r .attributes))
-      (ap not (no-attribute _ (spoken-of e) (ground-off p n isSize (n 6 (omega arith)) e w) (ground-off p n isAttribute (n 7 l) e w) (not-deletion p n d))) (inl (i, h, j))
+      (ap not (no-attribute _ (spoken-of e) (ground-off p n isSize (n 7 (omega arith)) e w) (ground-off p n isAttribute (n 8 l) e w) (not-deletion p n d))) (inl (i, h, j))
   no-set p n k m l (setBitProhibited e i w d h j) =
       tells-off _ (tells-attributes e (r .attributes))
-      (ap not (no-attribute _ (spoken-of e) (ground-off p n isSize (n 6 (omega arith)) e w) (ground-off p n isAttribute (n 7 l) e w) (not-deletion p n d))) (inr (i, h, j))
+      (ap not (no-attribute _ (spoken-of e) (ground-off p n isSize (n 7 (omega arith)) e w) (ground-off p n isAttribute (n 8 l) e w) (not-deletion p n d))) (inr (i, h, j))
   no-set p n k m l (setLocked e w h) =
       tells-off _ (tells-locks s (set-stores p n (omega arith)) e (enforced-formed e w) (r .variable))
-      (no-lock _ (spoken-of e) (ground-off p n isSize (n 6 (omega arith)) e w) (ground-off p n isAttribute (n 7 (omega arith)) e w) (ground-off p n isLock (n 8 l) e w)) h
+      (no-lock _ (spoken-of e) (ground-off p n isSize (n 7 (omega arith)) e w) (ground-off p n isAttribute (n 8 (omega arith)) e w) (ground-off p n isLock (n 9 l) e w)) h
   no-set p n k m l (setAbsent d h) =
-      tells-off _ (tells-and _ _ (tells-deletion r) (tells-not _ (tells-exists s (r .variable) (set-stores p n (omega arith))))) (n 9 l) (d, λ w. h (w .0) (w .1))
-  no-set p n k m l (setDeleted d) = tells-off _ (tells-deletion r) (n 10 l) d
-  no-set p n k m l (setOtherAttributes q f h) = tells-off _ (tells-other s r (set-stores p n (omega arith))) (n 11 l) (q, f, h)
-  no-set p n k m l (setEmptyAppend h) = tells-off _ (tells-nothing r) (n 12 l) h
+      tells-off _ (tells-and _ _ (tells-deletion r) (tells-unseen s (r .variable) (set-stores p n (omega arith)))) (n 10 l) (d, inl h)
+  no-set p n k m l (setHidden q d h) =
+      tells-off _ (tells-and _ _ (tells-deletion r) (tells-unseen s (r .variable) (set-stores p n (omega arith)))) (n 10 l) (d, inr (q, h))
+  no-set p n k m l (setVolatile q d x f h) =
+      tells-off _ (tells-and _ _ (tells-deletion r) (tells-protected s (r .variable) (set-stores p n (omega arith)))) (n 11 l) (d, (q, x, f, h))
+  no-set p n k m l (setDeleted d) = tells-off _ (tells-deletion r) (n 12 l) d
+  no-set p n k m l (setOtherAttributes q f h) = tells-off _ (tells-other s r (set-stores p n (omega arith))) (n 13 l) (q, f, h)
+  no-set p n k m l (setEmptyAppend h) = tells-off _ (tells-nothing r) (n 14 l) h
   no-set p n k m l (setAppendTooLong q h f i) =
-      tells-off _ (tells-joined s r (set-stores p n (omega arith)) (set-short p n (omega arith))) (n 13 l) (q, h, f, i)
+      tells-off _ (tells-joined s r (set-stores p n (omega arith)) (set-short p n (omega arith))) (n 15 l) (q, h, f, i)
   no-set p n k m l (setNoRoomNV rs qs h c t i) =
       not-full s r (set-stores p n (omega arith)) true (s .nv) rs (first-records c) (distinct-first c) t
-      (subst (λ b. hasRoom b (cond b (s .nv) (s .vol)) (r .variable) (recordAfter standing r) ≡ true) (tells-nv (r .attributes) .1 h) (not-false _ (n 14 l))) i
+      (subst (λ b. hasRoom b (cond b (s .nv) (s .vol)) (r .variable) (recordAfter standing r) ≡ true) (tells-nv (r .attributes) .1 h) (not-false _ (n 16 l))) i
   no-set p n k m l (setNoRoomVol rs qs h c t i) =
       not-full s r (set-stores p n (omega arith)) false (s .vol) qs (second-records c) (distinct-second c) t
-      (subst (λ b. hasRoom b (cond b (s .nv) (s .vol)) (r .variable) (recordAfter standing r) ≡ true) (off-tells _ (tells-nv (r .attributes)) h) (not-false _ (n 14 l))) i
-  no-set p n k m l setDone = true≢false (n 15 l)
+      (subst (λ b. hasRoom b (cond b (s .nv) (s .vol)) (r .variable) (recordAfter standing r) ≡ true) (off-tells _ (tells-nv (r .attributes)) h) (not-false _ (n 16 l))) i
+  no-set p n k m l setDone = true≢false (n 17 l)
 
   -- the first ground that applies, whose place tells what is decided
   pub record SetEnds : Type 0 where
@@ -594,9 +618,10 @@ module _ (s : State) (r : Request) where
   place-ends : EndsAt (blockedBy (setDecision s r)) (firstPlace set-rows)
   unfolding decisionBy decision requestStatus badRequest
   place-ends =
-      all-ends (sound (s .nv) (s .vol)) (policyValid (s .policy)) (named (r .variable)) (ltb maxPayload (length (r .payload))) (unsupportedBit (r .attributes)) (needsBS (r .attributes))
-      spokenGround (writeDecision (s .nv) (s .vol) standing r) last-rows (write-unblocked (s .nv) (s .vol) standing r)
-      (write-place (isDeletion (r .attributes) (r .payload)) (exists standing) (otherAttributes standing (r .attributes)) (isEmptyAppend (r .attributes) (r .payload)) long room)
+      all-ends (sound (s .nv) (s .vol)) (policyValid (s .policy)) (named (r .variable)) (ltb maxPayload (length (r .payload))) (unsupportedBit (r .attributes)) (needsBS (r .attributes)) runtime
+      spokenGround (writeDecision exited (s .nv) (s .vol) standing r) last-rows (write-unblocked exited (s .nv) (s .vol) standing r)
+      (write-place (isDeletion (r .attributes) (r .payload)) (exists (shown exited standing)) (exitProtects exited standing) (otherAttributes standing (r .attributes))
+      (isEmptyAppend (r .attributes) (r .payload)) long room)
 
   pub set-ends : SetEnds
   set-ends = record { place = firstPlace set-rows; at = set-first; ends = place-ends }

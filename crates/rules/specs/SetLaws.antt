@@ -101,10 +101,10 @@ module _ (nv vol : Bytes) (v : Variable) (a : ℕ) (o : otherAttributes (lookup 
 
 -- ---- THE LAWS
 
-module _ (speaking : Option Bytes) (nv vol : Bytes) (r : Request) (ok : sound nv vol ≡ true) where
+module _ (exited : Bool) (speaking : Option Bytes) (nv vol : Bytes) (r : Request) (ok : sound nv vol ≡ true) where
   -- what is decided, what is found of its variable before, and the stores afterwards
   abbrev decided : Decision
-  decided = decision speaking nv vol r
+  decided = decision exited speaking nv vol r
 
   abbrev before : Option Bytes
   before = lookup nv vol (r .variable)
@@ -153,7 +153,7 @@ module _ (speaking : Option Bytes) (nv vol : Bytes) (r : Request) (ok : sound nv
 
   change : Change nv vol (r .variable) (recordAfter before r) nvAfter volAfter
   unfolding decisionStore
-  change = go decided (facts speaking nv vol r)
+  change = go decided (facts exited speaking nv vol r)
     where
       go : (d : Decision) → Facts nv vol before r d
           → Change nv vol (r .variable) (recordAfter before r) (decisionStore d true nv before r) (decisionStore d false vol before r)
@@ -183,4 +183,4 @@ module _ (speaking : Option Bytes) (nv vol : Bytes) (r : Request) (ok : sound nv
 
   -- ANY OTHER STORES ITS RECORD, which is found afterwards
   pub set-stores : decided ≡ Store → lookup nvAfter volAfter (r .variable) ≡ some (recordAfter before r)
-  set-stores e = rw e (put-own nv vol (r .variable) (recordAfter before r) _ _ (put-of (stored-facts speaking nv vol r e)))
+  set-stores e = rw e (put-own nv vol (r .variable) (recordAfter before r) _ _ (put-of (stored-facts exited speaking nv vol r e)))

@@ -43,7 +43,7 @@ past-size s r k (setEmptyAppend h) = lit< tt
 past-size s r k setDone = lit< tt
 
 -- a variable has one record
-one-record : (s : State) (v : Variable) (q x : Bytes) → RecordOf s v q → RecordOf s v x → q ≡ x
+pub one-record : (s : State) (v : Variable) (q x : Bytes) → RecordOf s v q → RecordOf s v x → q ≡ x
 one-record s v q x f g = let e : some q ≡ some x = sym (found-lookup s v q f) ∙ found-lookup s v x g in cc
 
 module _ (s : State) (r : Request) (e : Bytes) (w : Enforced s r e) (d : Not (Deletion r)) (granted : isSuccess (step s (set r) .0 .status) ≡ true) where

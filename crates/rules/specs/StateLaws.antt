@@ -23,14 +23,14 @@ use Rattle.store.specs.StoreLaws.{storeOk-length}
 use Rattle.stores.specs.Pair.{sound, soundAlone}
 use Rattle.stores.specs.PairLaws.{sound-erased, sound-alone, sound-vol}
 use Rattle.status.specs.declared.Status.{Status}
-use Rattle.status.specs.declared.Status.the-variants.{Success, InvalidParameter, WriteProtected, OutOfResources, VolumeCorrupted, AlreadyStarted}
+use Rattle.status.specs.declared.Status.the-variants.{Success, InvalidParameter, Unsupported, WriteProtected, OutOfResources, VolumeCorrupted, AlreadyStarted}
 use Rattle.status.specs.Status.{isSuccess}
 use Rattle.rules.specs.declared.Decision.the-variants.{Refuse}
 use Rattle.rules.specs.Set.{Request, decisionStatus}
 use Rattle.rules.specs.SetLaws.{set-sound}
 use Rattle.rules.specs.EngineLaws.{step-status, granted-effect}
 use Rattle.rules.specs.Engine.{State, Call, powerOnStatus, restartStatus, registerStatus, speaking, decisionBy, decisionIn, status, effect, step}
-use Rattle.rules.specs.Engine.Call.{powerOn, restart, register, dump, lock, disable, query, read, set}
+use Rattle.rules.specs.Engine.Call.{powerOn, restart, register, dump, lock, disable, exit, query, read, set}
 
 -- sound stores, a valid policy record, and a disabled engine has leave to disable
 pub record Sound (s : State) : Type 0 where
@@ -44,6 +44,11 @@ pub record Sound (s : State) : Type 0 where
 pub passed : (b : Bool) (n : Status) → isSuccess (cond b n VolumeCorrupted) ≡ true → (b ≡ true) × (isSuccess n ≡ true)
 passed true n h = (refl, h)
 passed false n h = absurd (false≢true h)
+
+-- and of a call that is not to be had after exit
+pub unexited : (x : Bool) (n : Status) → isSuccess (cond x Unsupported n) ≡ true → (x ≡ false) × (isSuccess n ≡ true)
+unexited true n h = absurd (false≢true h)
+unexited false n h = (refl, h)
 
 -- the same of a set
 pub set-passed : (s : State) (r : Request) → isSuccess (status s (set r)) ≡ true
@@ -84,6 +89,14 @@ register-granted locked es e h =
       room = leb-true _ _ (and-right (leb (suc (length es)) maxEntries) _ (t .3));
     }
 
+-- of a registration that answers 0
+pub register-passed : (s : State) (e : Bytes) → isSuccess (status s (register e)) ≡ true
+    → (policyValid (s .policy) ≡ true) × (s .switches .exited ≡ false) × Registered (s .switches .locked) (entriesOf (s .policy)) e
+register-passed s e h =
+    let p = passed (policyValid (s .policy)) _ h in
+    let x = unexited (s .switches .exited) _ (p .1) in
+    (p .0, x .0, register-granted (s .switches .locked) (entriesOf (s .policy)) e (x .1))
+
 -- the entries afterwards: none, or the registered one behind the others
 pub power-on-lists : (s : State) (allowed : Bool) → entriesOf (effect s (powerOn allowed) .policy) ≡ []
 power-on-lists s allowed = entriesOf-pack [] nil
@@ -95,15 +108,16 @@ pub register-lists : (s : State) (e : Bytes) → isSuccess (status s (register e
     → entriesOf (effect s (register e) .policy) ≡ entriesOf (s .policy) ++ (e ∷ [])
 register-lists s e h =
     let es = entriesOf (s .policy) in
-    let t = register-granted (s .switches .locked) es e (passed (policyValid (s .policy)) (registerStatus (s .switches .locked) es e) h .1) in
+    let t = register-passed s e h .2 in
     entriesOf-pack (es ++ (e ∷ [])) (all-append es (e ∷ []) (entriesOf-formed (s .policy)) (more (t .formed) nil))
 
 -- a disable's tests
-disable-tests : (e l a : Bool) → isSuccess (cond e (cond l WriteProtected (cond a Success WriteProtected)) AlreadyStarted) ≡ true → a ≡ true
-disable-tests true true a h = absurd (false≢true h)
-disable-tests true false true h = refl
-disable-tests true false false h = absurd (false≢true h)
-disable-tests false l a h = absurd (false≢true h)
+disable-tests : (x e l a : Bool) → isSuccess (cond x Unsupported (cond e (cond l WriteProtected (cond a Success WriteProtected)) AlreadyStarted)) ≡ true → a ≡ true
+disable-tests true e l a h = absurd (false≢true h)
+disable-tests false true true a h = absurd (false≢true h)
+disable-tests false true false true h = refl
+disable-tests false true false false h = absurd (false≢true h)
+disable-tests false false l a h = absurd (false≢true h)
 
 -- ---- power-on
 
@@ -128,8 +142,7 @@ unfolding decisionBy
 effect-sound s (powerOn allowed) w h = powered s allowed h
 effect-sound s (restart allowed) w h = record { stores = w .stores; policy = empty-valid; leave = λ x. absurd (true≢false x) }
 effect-sound s (register e) w h =
-    let t = register-granted (s .switches .locked) (entriesOf (s .policy)) e
-    (passed (policyValid (s .policy)) (registerStatus (s .switches .locked) (entriesOf (s .policy)) e) h .1) in
+    let t = register-passed s e h .2 in
     let few = t .few in
     let room = t .room in
     record {
@@ -143,13 +156,14 @@ effect-sound s disable w h =
     record {
       stores = w .stores;
       policy = w .policy;
-      leave = λ x. disable-tests (s .switches .enabled) (s .switches .locked) (s .switches .«disabling_allowed») h;
+      leave = λ x. disable-tests (s .switches .exited) (s .switches .enabled) (s .switches .locked) (s .switches .«disabling_allowed») h;
     }
+effect-sound s exit w h = record { stores = w .stores; policy = w .policy; leave = w .leave }
 effect-sound s query w h = w
 effect-sound s (read v) w h = w
 effect-sound s (set r) w h =
     record {
-      stores = set-sound (speaking (s .switches .enabled) (chosen (entriesOf (s .policy)) (r .variable))) (s .nv) (s .vol) r (w .stores);
+      stores = set-sound (s .switches .exited) (speaking (s .switches .enabled) (chosen (entriesOf (s .policy)) (r .variable))) (s .nv) (s .vol) r (w .stores);
       policy = w .policy;
       leave = w .leave;
     }

@@ -1,11 +1,11 @@
 -- What is decided, with its report, by where the steps end. Assumes nothing.
 use mathlib.Core.Path.{_≡_, refl, sym, ap, ap₂, _∙_}
 use mathlib.Core.List.{List}
-use mathlib.Core.Bool.{Bool}
 use mathlib.Core.Option.{Option}
 use Rattle.slices.specs.Bytes.{Bytes}
 use Rattle.policy.specs.Choice.{chosen}
 use Rattle.stores.specs.Pair.{lookup}
+use Rattle.switches.specs.declared.Switches.{Switches}
 use Rattle.rules.specs.declared.Ground.{Ground}
 use Rattle.rules.specs.declared.Ground.the-variants.{NoGround}
 use Rattle.rules.specs.declared.Decision.{Decision}
@@ -20,18 +20,18 @@ use Rattle.set.specs.declared.Decided.{Decided}
 use Rattle.set.specs.Decided.{decidedBy}
 use Rattle.set.proofs.Reports.{report-ground}
 
-module _ (es : List Bytes) (enabled : Bool) (nv vol : Bytes) (r : Request) where
+module _ (es : List Bytes) (w : Switches) (nv vol : Bytes) (r : Request) where
   abbrev choice : Option Bytes
   choice = chosen es (r .variable)
 
   abbrev pub spokenGround : Ground
-  spokenGround = groundBy (speaking enabled choice) (lookup nv vol) r
+  spokenGround = groundBy (speaking (w .enabled) choice) (lookup nv vol) r
 
   abbrev decides : Decision
-  decides = decision (speaking enabled choice) nv vol r
+  decides = decision (w .exited) (speaking (w .enabled) choice) nv vol r
 
   -- without a ground of step 4
-  pub decided-silent : {x : Decided} (d : Decision) → x ≡ record { decision = d; report = noReport } → d ≡ decides → blockedBy d ≡ NoGround → x ≡ decidedBy es enabled nv vol r
+  pub decided-silent : {x : Decided} (d : Decision) → x ≡ record { decision = d; report = noReport } → d ≡ decides → blockedBy d ≡ NoGround → x ≡ decidedBy es w nv vol r
   unfolding decisionBy
   decided-silent d k e h =
       k ∙ ap₂ (λ y z. record { decision = y; report = z }) e (sym (unblocked-report d es choice (r .attributes) h) ∙ ap (λ y. decisionReport y es choice (r .attributes)) e)
@@ -42,7 +42,7 @@ module _ (es : List Bytes) (enabled : Bool) (nv vol : Bytes) (r : Request) where
 
   -- by one
   pub decided-blocked : {p : Report} (g : Ground) → decides ≡ Block g → p ≡ reportBy spokenGround es choice (r .attributes) → spokenGround ≡ g
-      → record { decision = Block g; report = p } ≡ decidedBy es enabled nv vol r
+      → record { decision = Block g; report = p } ≡ decidedBy es w nv vol r
   unfolding decisionBy
   decided-blocked g e h k =
       ap₂ (λ y z. record { decision = y; report = z }) (sym e)
@@ -50,4 +50,4 @@ module _ (es : List Bytes) (enabled : Bool) (nv vol : Bytes) (r : Request) where
 
   -- the ground in the report is that of step 4
   pub ground-in : {p : Report} → p ≡ reportBy spokenGround es choice (r .attributes) → p .ground ≡ spokenGround
-  ground-in h = ap (λ q. q .ground) h ∙ report-ground es (lookup nv vol) r (r .attributes) enabled choice
+  ground-in h = ap (λ q. q .ground) h ∙ report-ground es (lookup nv vol) r (r .attributes) (w .enabled) choice

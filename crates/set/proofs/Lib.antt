@@ -2,6 +2,7 @@ pub mod Requests
 pub mod LockRules
 pub mod Grounds
 pub mod Spoken
+pub mod Shown
 pub mod WriteSteps
 pub mod Puts
 pub mod Reports

@@ -1,21 +1,21 @@
 -- Laws of what a request must be. Assumes nothing.
 use Prim.Native.Nat.{ℕ, _≤_, _<_}
-use mathlib.Core.Path.{_≡_, refl, sym, _∙_}
+use mathlib.Core.Path.{_≡_, refl, sym, ap, _∙_}
 use mathlib.Core.List.{[], _∷_}
-use mathlib.Core.Bool.{Bool, true, false}
+use mathlib.Core.Bool.{Bool, true, false, not, _&&_}
 use native.Mathlib.Omega.{arith}
 use lib.ListN.{length, getD}
 use lib.Dec.{eqb, eqb·suc-zero}
-use borrow.Author.Tests.{eq-eqb, lt-ltb, le-ltb}
+use borrow.Author.Tests.{eq-eqb, lt-ltb, le-ltb, not-true, not-false}
 use Rattle.slices.specs.Test.{_and_}
-use Rattle.slices.specs.TestLaws.{and-no}
+use Rattle.slices.specs.TestLaws.{and-no, and-eager}
 use Rattle.slices.specs.Bytes.{Bytes, pairwise, same}
 use Rattle.slices.specs.BytesLaws.{pairwise-lengths}
 use Rattle.limits.specs.Limits.{namespaceBytes, maxPayload}
 use Rattle.names.specs.Name.{named, isName}
-use Rattle.store.specs.Record.{hasBS, hasRT, hasAppend}
+use Rattle.store.specs.Record.{hasNV, hasBS, hasRT, hasAppend}
 use Rattle.status.specs.declared.Status.the-variants.{Success, InvalidParameter, Unsupported}
-use Rattle.rules.specs.Set.{isEmpty, requestOf, badRequest, unsupportedBit, needsBS, requestStatus}
+use Rattle.rules.specs.Set.{isEmpty, requestOf, isDeletion, badRequest, unsupportedBit, needsBS, needsRuntime, requestStatus}
 
 pub empty-length : (l : Bytes) → length l ≡ 0 → isEmpty l ≡ true
 unfolding isEmpty
@@ -64,26 +64,50 @@ module _ {b : Bool} (a : ℕ) (e : b ≡ hasBS a) where
     unfolding needsBS
     append-needs k g = simp (← e, h, ← f, k) (g ∙ sym (and-true (hasAppend a)))
 
-module _ (namespace name : Bytes) (a : ℕ) (payload : Bytes) (g : length namespace ≡ namespaceBytes) where
-  pub bad-name : isName name ≡ false → InvalidParameter ≡ requestStatus (requestOf namespace name a payload)
+-- after exit: no deletion, and NV, BS or RT missing
+module _ (x : Bool) (a : ℕ) (payload : Bytes) where
+  pub not-exited : not x ≡ true → false ≡ needsRuntime x a payload
+  unfolding needsRuntime _and_
+  not-exited h = simp (not-true x h)
+
+  module _ {d : Bool} (h : not x ≡ false) (e : d ≡ isDeletion a payload) where
+    pub deletion-passes : d ≡ true → false ≡ needsRuntime x a payload
+    unfolding needsRuntime _and_
+    deletion-passes k = simp (not-false x h, ← e, k)
+
+    pub runtime-asked : {n b t : Bool} → d ≡ false → n ≡ hasNV a → b ≡ hasBS a → t ≡ hasRT a → not ((n && b) && t) ≡ needsRuntime x a payload
+    unfolding needsRuntime _and_
+    runtime-asked {n} {b} {t} k p q r = simp (not-false x h, ← e, k, ← p, ← q, ← r) (ap not (joined n b t))
+      where
+        joined : (n b t : Bool) → ((n && b) && t) ≡ (n and b and t)
+        joined true b t = and-eager b t
+        joined false b t = refl
+
+module _ (x : Bool) (namespace name : Bytes) (a : ℕ) (payload : Bytes) (g : length namespace ≡ namespaceBytes) where
+  pub bad-name : isName name ≡ false → InvalidParameter ≡ requestStatus x (requestOf namespace name a payload)
   unfolding _and_ requestStatus badRequest named
   bad-name h = simp (eq-eqb _ _ g, h)
 
   module _ (h : isName name ≡ true) where
-    pub long-payload : maxPayload < length payload → InvalidParameter ≡ requestStatus (requestOf namespace name a payload)
+    pub long-payload : maxPayload < length payload → InvalidParameter ≡ requestStatus x (requestOf namespace name a payload)
     unfolding _and_ requestStatus badRequest named
     long-payload k = simp (eq-eqb _ _ g, h, lt-ltb _ _ k)
 
     module _ (k : length payload ≤ maxPayload) where
-      pub unknown-bit : unsupportedBit a ≡ true → Unsupported ≡ requestStatus (requestOf namespace name a payload)
+      pub unknown-bit : unsupportedBit a ≡ true → Unsupported ≡ requestStatus x (requestOf namespace name a payload)
       unfolding _and_ requestStatus badRequest named
       unknown-bit l = simp (eq-eqb _ _ g, h, le-ltb _ _ k, l)
 
       module _ (l : unsupportedBit a ≡ false) where
-        pub lacks-bs : needsBS a ≡ true → InvalidParameter ≡ requestStatus (requestOf namespace name a payload)
+        pub lacks-bs : needsBS a ≡ true → InvalidParameter ≡ requestStatus x (requestOf namespace name a payload)
         unfolding _and_ requestStatus badRequest named
         lacks-bs m = simp (eq-eqb _ _ g, h, le-ltb _ _ k, l, m)
 
-        pub taken : needsBS a ≡ false → Success ≡ requestStatus (requestOf namespace name a payload)
-        unfolding _and_ requestStatus badRequest named
-        taken m = simp (eq-eqb _ _ g, h, le-ltb _ _ k, l, m)
+        module _ (m : needsBS a ≡ false) where
+          pub lacks-runtime : needsRuntime x a payload ≡ true → InvalidParameter ≡ requestStatus x (requestOf namespace name a payload)
+          unfolding _and_ requestStatus badRequest named
+          lacks-runtime n = simp (eq-eqb _ _ g, h, le-ltb _ _ k, l, m, n)
+
+          pub taken : needsRuntime x a payload ≡ false → Success ≡ requestStatus x (requestOf namespace name a payload)
+          unfolding _and_ requestStatus badRequest named
+          taken n = simp (eq-eqb _ _ g, h, le-ltb _ _ k, l, m, n)

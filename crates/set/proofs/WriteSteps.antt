@@ -15,14 +15,14 @@ use Rattle.store.specs.Store.{hasRoom}
 use Rattle.store.specs.Parts.{payloadIn}
 use Rattle.store.specs.declared.Found.{Found}
 use Rattle.store.specs.declared.Found.the-variants.{At, Absent}
-use Rattle.status.specs.declared.Status.the-variants.{InvalidParameter, NotFound, OutOfResources}
+use Rattle.status.specs.declared.Status.the-variants.{InvalidParameter, OutOfResources}
 use Rattle.stores.specs.Pair.{lookup}
 use Rattle.stores.specs.declared.Place.{Place}
 use Rattle.stores.specs.Place.{placeIn, isSomewhere, recordAt, attributesAt}
 use Rattle.stores.specs.PlaceLaws.{lookup-place}
 use Rattle.rules.specs.declared.Decision.{Decision}
-use Rattle.rules.specs.declared.Decision.the-variants.{Refuse, Delete, Keep, Store}
-use Rattle.rules.specs.Set.{Request, exists, isDeletion, isEmptyAppend, otherAttributes, payloadAfter, storeOf, recordAfter, storeDecision, writeDecision}
+use Rattle.rules.specs.declared.Decision.the-variants.{Refuse, Keep, Store}
+use Rattle.rules.specs.Set.{Request, isDeletion, isEmptyAppend, deleteDecision, otherAttributes, payloadAfter, storeOf, recordAfter, storeDecision, writeDecision}
 
 -- ---- steps 5 to 7
 
@@ -42,27 +42,27 @@ other-by nv vol v p a e h k =
     ap (λ o. otherAttributes o a) (lookup-place nv vol v ∙ ap (recordAt nv vol) (sym e)) ∙ other-at nv vol p a
     ∙ ap₂ (λ g m. g && not (eqb m (a % 8))) (sym h) (sym k)
 
-module _ (nv vol : Bytes) (o : Option Bytes) (r : Request) where
-  module _ (h : isDeletion (r .attributes) (r .payload) ≡ true) where
-    pub deletes : exists o ≡ true → Delete ≡ writeDecision nv vol o r
-    unfolding writeDecision
-    deletes k = simp (h, k)
+-- step 5 on the record at the variable's place
+pub delete-place : {d : Decision} (x : Bool) (nv vol : Bytes) (v : Variable) (p : Place) → p ≡ placeIn nv vol v → d ≡ deleteDecision x (recordAt nv vol p)
+    → d ≡ deleteDecision x (lookup nv vol v)
+delete-place x nv vol v p e h = h ∙ ap (deleteDecision x) (ap (recordAt nv vol) e ∙ sym (lookup-place nv vol v))
 
-    pub misses : exists o ≡ false → Refuse NotFound ≡ writeDecision nv vol o r
-    unfolding writeDecision
-    misses k = simp (h, k)
+module _ (x : Bool) (nv vol : Bytes) (o : Option Bytes) (r : Request) where
+  pub deletes : {d : Decision} → isDeletion (r .attributes) (r .payload) ≡ true → d ≡ deleteDecision x o → d ≡ writeDecision x nv vol o r
+  unfolding writeDecision
+  deletes h e = e ∙ rw h
 
   module _ (h : isDeletion (r .attributes) (r .payload) ≡ false) where
-    pub differs : otherAttributes o (r .attributes) ≡ true → Refuse InvalidParameter ≡ writeDecision nv vol o r
+    pub differs : otherAttributes o (r .attributes) ≡ true → Refuse InvalidParameter ≡ writeDecision x nv vol o r
     unfolding writeDecision
     differs l = simp (h, l)
 
     module _ (l : otherAttributes o (r .attributes) ≡ false) where
-      pub keeps : isEmptyAppend (r .attributes) (r .payload) ≡ true → Keep ≡ writeDecision nv vol o r
+      pub keeps : isEmptyAppend (r .attributes) (r .payload) ≡ true → Keep ≡ writeDecision x nv vol o r
       unfolding writeDecision
       keeps m = simp (h, l, m)
 
-      pub stores : isEmptyAppend (r .attributes) (r .payload) ≡ false → {d : Decision} → d ≡ storeDecision nv vol o r → d ≡ writeDecision nv vol o r
+      pub stores : isEmptyAppend (r .attributes) (r .payload) ≡ false → {d : Decision} → d ≡ storeDecision nv vol o r → d ≡ writeDecision x nv vol o r
       unfolding writeDecision
       stores m e = e ∙ simp (h, l, m)
 

@@ -1,7 +1,7 @@
 // A set: what is decided of a request (steps 1 to 9), and what is then written (step 10 and deletions).
 ghost use mathlib.Core.Path.{_≡_};
 ghost use mathlib.Core.List.{_∷_, []};
-ghost use mathlib.Core.Bool.{true, false};
+ghost use mathlib.Core.Bool.{Bool, true, false};
 ghost use mathlib.Core.Option.{Option};
 ghost use Prim.Native.Nat.{_+_, _≤_};
 ghost use lib.Dec.{eqb, leb};
@@ -20,7 +20,7 @@ ghost use Rattle.store.specs.Record.{hasNV, encodeRecord};
 ghost use Rattle.store.specs.Store.{endOf, placeOf, hasRoom, withoutVariable, withRecord};
 ghost use Rattle.stores.specs.Pair.{sound, lookup, endsOf};
 ghost use Rattle.stores.specs.Place.{recordAt, Within};
-ghost use Rattle.rules.specs.Set.{requestOf, needsBS, requestStatus, isDeletion, isEmptyAppend, holdsValue, locks, requestGround, groundOf, groundBy, otherAttributes, payloadAfter, storedAttributes, storeOf, recordAfter, storeDecision, writeDecision, decision, decisionStatus, decisionStore};
+ghost use Rattle.rules.specs.Set.{requestOf, exists, isDeletion, needsBS, needsRuntime, requestStatus, isEmptyAppend, holdsValue, locks, requestGround, groundOf, groundBy, shown, exitProtects, deleteDecision, otherAttributes, payloadAfter, storedAttributes, storeOf, recordAfter, storeDecision, writeDecision, decision, decisionStatus, decisionStore};
 ghost use Rattle.rules.specs.Report.{reportOf, noReport, reportFor, reportBy};
 ghost use Rattle.rules.specs.Engine.{speaking};
 ghost use Rattle.rules.specs.DecisionLaws.{Stored};
@@ -40,6 +40,7 @@ use status::Status;
 use store::Found;
 use stores::Ends;
 use stores::Place;
+use switches::Switches;
 
 // What a set has found out of sound stores and a valid policy record: where the records end, how many entries there are, and where the request's variable stands.
 pub struct Known {
@@ -69,12 +70,41 @@ fn needs_bs(attributes: u32) -> bool
     store::has_append(attributes)
 }
 
+// Whether a set is a deletion (RULES.md, 10.9): without append, and with no payload or with neither of BS and RT.
+fn is_deletion(attributes: u32, payload: &[u8]) -> bool
+    ensures { λ r. ⌜ r ≡ isDeletion attributes (now (payload .entry)) ⌝ }
+{
+    if store::has_append(attributes) {
+        return false;
+    }
+    if payload.len() == 0 {
+        return true;
+    }
+    if store::has_bs(attributes) {
+        return false;
+    }
+    !store::has_rt(attributes)
+}
+
+// Whether a set after exit is no deletion and lacks one of NV, BS and RT.
+fn needs_runtime(exited: bool, attributes: u32, payload: &[u8]) -> bool
+    ensures { λ r. ⌜ r ≡ needsRuntime exited attributes (now (payload .entry)) ⌝ }
+{
+    if !exited {
+        return false;
+    }
+    if is_deletion(attributes, payload) {
+        return false;
+    }
+    !(store::has_nv(attributes) & store::has_bs(attributes) & store::has_rt(attributes))
+}
+
 // INVALID_PARAMETER for a name or a payload that a set does not take; UNSUPPORTED for an attribute bit outside 0x47;
-// INVALID_PARAMETER for RT or append without BS.
-pub fn check_request(name: &[u8], attributes: u32, payload: &[u8]) -> Status
+// INVALID_PARAMETER for RT or append without BS; INVALID_PARAMETER, after exit, for a set that is no deletion without one of NV, BS and RT.
+pub fn check_request(exited: bool, name: &[u8], attributes: u32, payload: &[u8]) -> Status
     ensures { λ r.
         ⌜ ((namespace : Bytes) → length namespace ≡ namespaceBytes
-        → r ≡ requestStatus (requestOf namespace (now (name .entry)) attributes (now (payload .entry)))) ⌝ }
+        → r ≡ requestStatus exited (requestOf namespace (now (name .entry)) attributes (now (payload .entry)))) ⌝ }
 {
     if !names::is_name(name) {
         return Status::InvalidParameter;
@@ -86,6 +116,9 @@ pub fn check_request(name: &[u8], attributes: u32, payload: &[u8]) -> Status
         return Status::Unsupported;
     }
     if needs_bs(attributes) {
+        return Status::InvalidParameter;
+    }
+    if needs_runtime(exited, attributes, payload) {
         return Status::InvalidParameter;
     }
     Status::Success
@@ -112,22 +145,6 @@ fn length_after<'a>(
 }
 
 // ---- Step 4.
-
-// Whether a set is a deletion (RULES.md, 10.9): without append, and with no payload or with neither of BS and RT.
-fn is_deletion(attributes: u32, payload: &[u8]) -> bool
-    ensures { λ r. ⌜ r ≡ isDeletion attributes (now (payload .entry)) ⌝ }
-{
-    if store::has_append(attributes) {
-        return false;
-    }
-    if payload.len() == 0 {
-        return true;
-    }
-    if store::has_bs(attributes) {
-        return false;
-    }
-    !store::has_rt(attributes)
-}
 
 fn size_allowed(min: u32, max: u32, length: usize) -> bool
     ensures { λ r. ⌜ r ≡ (leb min length and leb length max) ⌝ }
@@ -335,6 +352,48 @@ fn report<'a>(
 
 // ---- Steps 5 to 9.
 
+// Whether a read tells the record at a place and a deletion takes it: after exit, not without RT.
+pub fn is_shown(exited: bool, nv: &[u8], vol: &[u8], place: Place) -> bool
+    requires { ⌜ Within (now nv) (now vol) place ⌝ }
+    ensures { λ r. ⌜ r ≡ exists (shown exited (recordAt (now (nv .entry)) (now (vol .entry)) place)) ⌝ }
+{
+    if !stores::is_somewhere(place) {
+        return false;
+    }
+    if !exited {
+        return true;
+    }
+    store::has_rt(stores::attributes_at(nv, vol, place))
+}
+
+// Whether no deletion takes the record at a place: after exit, a record of the volatile store.
+fn exit_protects(exited: bool, nv: &[u8], vol: &[u8], place: Place) -> bool
+    requires { ⌜ Within (now nv) (now vol) place ⌝ }
+    ensures { λ r. ⌜ r ≡ exitProtects exited (recordAt (now (nv .entry)) (now (vol .entry)) place) ⌝ }
+{
+    if !exited {
+        return false;
+    }
+    if !stores::is_somewhere(place) {
+        return false;
+    }
+    !store::has_nv(stores::attributes_at(nv, vol, place))
+}
+
+// Step 5, of a deletion. NOT_FOUND where the variable is absent or, after exit, has no RT; WRITE_PROTECTED, after exit, where it is volatile.
+fn decide_delete(exited: bool, nv: &[u8], vol: &[u8], place: Place) -> Decision
+    requires { ⌜ Within (now nv) (now vol) place ⌝ }
+    ensures { λ r. ⌜ r ≡ deleteDecision exited (recordAt (now (nv .entry)) (now (vol .entry)) place) ⌝ }
+{
+    if !is_shown(exited, nv, vol, place) {
+        return Decision::Refuse(Status::NotFound);
+    }
+    if exit_protects(exited, nv, vol, place) {
+        return Decision::Refuse(Status::WriteProtected);
+    }
+    Decision::Delete
+}
+
 // Whether a set is an append that joins nothing.
 fn is_empty_append(attributes: u32, payload: &[u8]) -> bool
     ensures { λ r. ⌜ r ≡ isEmptyAppend attributes (now (payload .entry)) ⌝ }
@@ -399,8 +458,9 @@ fn decide_store<'a>(
     Decision::Refuse(Status::OutOfResources)
 }
 
-// Steps 5 to 9. NOT_FOUND for the deletion of an absent variable; INVALID_PARAMETER where the variable is stored with a different NV, BS or RT.
+// Steps 5 to 9. A deletion ends at step 5; INVALID_PARAMETER where the variable is stored with a different NV, BS or RT.
 fn decide_write<'a>(
+    exited: bool,
     nv: &'a [u8],
     vol: &'a [u8],
     known: Known,
@@ -412,16 +472,13 @@ fn decide_write<'a>(
     requires { ⌜ (sound (now nv) (now vol) ≡ true) × Located known (now nv) (now vol) (variable (now namespace) (now name))
         × (named (variable (now namespace) (now name)) ≡ true) ⌝ }
     ensures { λ r.
-        ⌜ r ≡ writeDecision (now (nv .entry)) (now (vol .entry)) (lookup (now (nv .entry)) (now (vol .entry)) (variable (now (namespace .entry)) (now (name .entry))))
+        ⌜ r ≡ writeDecision exited (now (nv .entry)) (now (vol .entry)) (lookup (now (nv .entry)) (now (vol .entry)) (variable (now (namespace .entry)) (now (name .entry))))
         (requestOf (now (namespace .entry)) (now (name .entry)) attributes (now (payload .entry))) ⌝ }
 {
-    let found = stores::is_somewhere(known.place);
     if is_deletion(attributes, payload) {
-        if found {
-            return Decision::Delete;
-        }
-        return Decision::Refuse(Status::NotFound);
+        return decide_delete(exited, nv, vol, known.place);
     }
+    let found = stores::is_somewhere(known.place);
     if found & (stores::attributes_at(nv, vol, known.place) != attributes % 8) {
         return Decision::Refuse(Status::InvalidParameter);
     }
@@ -435,7 +492,7 @@ fn decide_write<'a>(
 pub fn decide<'a>(
     policy: &[u8],
     entry_ends: &[u16; policy::ENTRIES],
-    enabled: bool,
+    switches: Switches,
     nv: &'a [u8],
     vol: &'a [u8],
     known: Known,
@@ -446,10 +503,10 @@ pub fn decide<'a>(
 ) -> Decided
     requires { ⌜ (sound (now nv) (now vol) ≡ true) × Knows known (now nv) (now vol) (now policy) (variable (now namespace) (now name)) × EntryEnds (now «entry_ends») (now policy) ⌝ }
     ensures { λ r.
-        ⌜ r ≡ decidedBy (entriesOf (now (policy .entry))) enabled (now (nv .entry)) (now (vol .entry))
+        ⌜ r ≡ decidedBy (entriesOf (now (policy .entry))) switches (now (nv .entry)) (now (vol .entry))
         (requestOf (now (namespace .entry)) (now (name .entry)) attributes (now (payload .entry))) ⌝ }
 {
-    let by_request = check_request(name, attributes, payload);
+    let by_request = check_request(switches.exited, name, attributes, payload);
     if !status::is_success(by_request) {
         return Decided {
             decision: Decision::Refuse(by_request),
@@ -459,7 +516,7 @@ pub fn decide<'a>(
     let said = report(
         policy,
         entry_ends,
-        enabled,
+        switches.enabled,
         nv,
         vol,
         known,
@@ -470,7 +527,16 @@ pub fn decide<'a>(
     );
     let ground = said.ground;
     let decision = match ground {
-        Ground::NoGround => decide_write(nv, vol, known, namespace, name, attributes, payload),
+        Ground::NoGround => decide_write(
+            switches.exited,
+            nv,
+            vol,
+            known,
+            namespace,
+            name,
+            attributes,
+            payload,
+        ),
         Ground::SizeGround => Decision::Block(Ground::SizeGround),
         Ground::AttributeGround => Decision::Block(Ground::AttributeGround),
         Ground::LockGround => Decision::Block(Ground::LockGround),
@@ -600,7 +666,7 @@ pub fn carry_out(
     payload: &[u8],
 )
     requires { ⌜ (sound (now nv) (now vol) ≡ true) × Located known (now nv) (now vol) (variable (now namespace) (now name))
-        × ((o : Option Bytes) × (decided ≡ decision o (now nv) (now vol) (requestOf (now namespace) (now name) attributes (now payload)))) ⌝ }
+        × ((x : Bool) × (o : Option Bytes) × (decided ≡ decision x o (now nv) (now vol) (requestOf (now namespace) (now name) attributes (now payload)))) ⌝ }
     ensures nv_after { λ _.
         ⌜ now (nv .exit) ≡ decisionStore decided true (now (nv .entry)) (lookup (now (nv .entry)) (now (vol .entry)) (variable (now (namespace .entry)) (now (name .entry))))
         (requestOf (now (namespace .entry)) (now (name .entry)) attributes (now (payload .entry))) ⌝ }

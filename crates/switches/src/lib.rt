@@ -1,13 +1,14 @@
-// The engine's switches: enabled, locked, disabling allowed; and the bytes in which a caller keeps them.
+// The engine's switches: enabled, locked, disabling allowed, exited; and the bytes in which a caller keeps them.
 ghost use mathlib.Core.Path.{_≡_};
-ghost use Rattle.switches.specs.Switches.{lockAnswer, disableAnswer};
-ghost use Rattle.switches.specs.SwitchBytes.{givesLeave, switchesOf, byteOf, bytesOf, lockedBytes, disabledBytes, bytesAnswer};
+ghost use Rattle.switches.specs.Switches.{lockAnswer, disableAnswer, exitAnswer};
+ghost use Rattle.switches.specs.SwitchBytes.{givesLeave, switchesOf, byteOf, bytesOf, lockedBytes, disabledBytes, exitedBytes, bytesAnswer};
 use status::Status;
 
 pub struct Switches {
     pub enabled: bool,
     pub locked: bool,
     pub disabling_allowed: bool,
+    pub exited: bool,
 }
 
 // What a call on the switches answers: its status, and the switches as it leaves or hands them back.
@@ -17,10 +18,16 @@ pub struct SwitchAnswer {
 }
 
 // Locks the engine: no entry is registered until the next power-on or restart.
-// WRITE_PROTECTED where it is locked already.
+// UNSUPPORTED after exit; WRITE_PROTECTED where it is locked already.
 pub fn lock(switches: Switches) -> SwitchAnswer
     ensures { λ r. ⌜ r ≡ lockAnswer switches ⌝ }
 {
+    if switches.exited {
+        return SwitchAnswer {
+            status: Status::Unsupported,
+            switches,
+        };
+    }
     if switches.locked {
         return SwitchAnswer {
             status: Status::WriteProtected,
@@ -31,6 +38,7 @@ pub fn lock(switches: Switches) -> SwitchAnswer
         enabled: switches.enabled,
         locked: true,
         disabling_allowed: switches.disabling_allowed,
+        exited: switches.exited,
     };
     SwitchAnswer {
         status: Status::Success,
@@ -39,10 +47,16 @@ pub fn lock(switches: Switches) -> SwitchAnswer
 }
 
 // Disables the engine: sets are no longer held to the entries, until the next power-on or restart.
-// ALREADY_STARTED where it is disabled; WRITE_PROTECTED where it is locked or disabling is not allowed.
+// UNSUPPORTED after exit; ALREADY_STARTED where it is disabled; WRITE_PROTECTED where it is locked or disabling is not allowed.
 pub fn disable(switches: Switches) -> SwitchAnswer
     ensures { λ r. ⌜ r ≡ disableAnswer switches ⌝ }
 {
+    if switches.exited {
+        return SwitchAnswer {
+            status: Status::Unsupported,
+            switches,
+        };
+    }
     if !switches.enabled {
         return SwitchAnswer {
             status: Status::AlreadyStarted,
@@ -65,10 +79,34 @@ pub fn disable(switches: Switches) -> SwitchAnswer
         enabled: false,
         locked: switches.locked,
         disabling_allowed: switches.disabling_allowed,
+        exited: switches.exited,
     };
     SwitchAnswer {
         status: Status::Success,
         switches: disabled,
+    }
+}
+
+// Tells the engine that the operating system starts: until the next power-on or restart, what RULES.md, 8.1, says of exited.
+// UNSUPPORTED where it has exited already.
+pub fn exit(switches: Switches) -> SwitchAnswer
+    ensures { λ r. ⌜ r ≡ exitAnswer switches ⌝ }
+{
+    if switches.exited {
+        return SwitchAnswer {
+            status: Status::Unsupported,
+            switches,
+        };
+    }
+    let exited = Switches {
+        enabled: switches.enabled,
+        locked: switches.locked,
+        disabling_allowed: switches.disabling_allowed,
+        exited: true,
+    };
+    SwitchAnswer {
+        status: Status::Success,
+        switches: exited,
     }
 }
 
@@ -78,6 +116,7 @@ pub struct SwitchBytes {
     pub enabled: u8,
     pub locked: u8,
     pub disabling_allowed: u8,
+    pub exited: u8,
 }
 
 // What a call on lent bytes answers: whether it is granted, the number of its status, and the bytes to be written if it is.
@@ -94,7 +133,7 @@ pub fn gives_leave(byte: u8) -> bool
     byte == 1
 }
 
-// What the bytes say: `enabled` and `locked` are set by any byte but 0, leave to disable is given by 1 alone.
+// What the bytes say: `enabled`, `locked` and `exited` are set by any byte but 0, leave to disable is given by 1 alone.
 pub fn switches_of(bytes: SwitchBytes) -> Switches
     ensures { λ r. ⌜ r ≡ switchesOf bytes ⌝ }
 {
@@ -102,6 +141,7 @@ pub fn switches_of(bytes: SwitchBytes) -> Switches
         enabled: bytes.enabled != 0,
         locked: bytes.locked != 0,
         disabling_allowed: gives_leave(bytes.disabling_allowed),
+        exited: bytes.exited != 0,
     }
 }
 
@@ -123,6 +163,7 @@ pub fn bytes_of(switches: Switches) -> SwitchBytes
         enabled: byte_of(switches.enabled),
         locked: byte_of(switches.locked),
         disabling_allowed: byte_of(switches.disabling_allowed),
+        exited: byte_of(switches.exited),
     }
 }
 
@@ -134,6 +175,7 @@ pub fn locked_bytes(bytes: SwitchBytes) -> SwitchBytes
         enabled: bytes.enabled,
         locked: 1,
         disabling_allowed: bytes.disabling_allowed,
+        exited: bytes.exited,
     }
 }
 
@@ -145,6 +187,19 @@ pub fn disabled_bytes(bytes: SwitchBytes) -> SwitchBytes
         enabled: 0,
         locked: bytes.locked,
         disabling_allowed: bytes.disabling_allowed,
+        exited: bytes.exited,
+    }
+}
+
+// The bytes with `exited` set.
+pub fn exited_bytes(bytes: SwitchBytes) -> SwitchBytes
+    ensures { λ r. ⌜ r ≡ exitedBytes bytes ⌝ }
+{
+    SwitchBytes {
+        enabled: bytes.enabled,
+        locked: bytes.locked,
+        disabling_allowed: bytes.disabling_allowed,
+        exited: 1,
     }
 }
 

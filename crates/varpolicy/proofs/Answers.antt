@@ -31,7 +31,7 @@ module _ {x : Answer × State} {s : State} where
   pub status-numbered : {n : ℕ} (a : Status) → x ≡ (onlyStatus a, s) → n ≡ statusNumber a → numbered x ≡ (statusAlone n, s)
   status-numbered a e k = ap numbered e ∙ ap (λ m. (statusAlone m, s)) (sym k)
 
-  pub dump-numbered : {n : ℕ} (a : DumpAnswer) (b : Bytes) → x ≡ (dumpAnswer a b, s) → n ≡ statusNumber (a .status)
+  dump-numbered : {n : ℕ} (a : DumpAnswer) (b : Bytes) → x ≡ (dumpAnswer a b, s) → n ≡ statusNumber (a .status)
       → numbered x ≡ (dumpedAnswer (record { status = n; length = a .length }) b, s)
   dump-numbered a b e k = ap numbered e ∙ ap (λ m. (dumpedAnswer (record { status = m; length = a .length }) b, s)) (sym k)
 
@@ -53,6 +53,13 @@ module _ {u w : Switches} (same : u ≡ w) where
   set-at {n = n} {p = p} call nv vol policy nv′ vol′ a e k l =
       subst (λ t. numbered (step (stateOf nv vol policy t) call) ≡ (writtenAnswer (record { status = n; report = p }), stateOf nv′ vol′ policy t)) same
       (ap numbered e ∙ ap₂ (λ m q. (writtenAnswer (record { status = m; report = q }), stateOf nv′ vol′ policy u)) (sym k) (sym l))
+
+  pub dump-at : {n : ℕ} (call : Call) (nv vol policy : Bytes) (a : DumpAnswer) (b : Bytes)
+      → step (stateOf nv vol policy u) call ≡ (dumpAnswer a b, stateOf nv vol policy u) → n ≡ statusNumber (a .status)
+      → numbered (step (stateOf nv vol policy w) call) ≡ (dumpedAnswer (record { status = n; length = a .length }) b, stateOf nv vol policy w)
+  dump-at {n = n} call nv vol policy a b e k =
+      subst (λ t. numbered (step (stateOf nv vol policy t) call) ≡ (dumpedAnswer (record { status = n; length = a .length }) b, stateOf nv vol policy t))
+      same (dump-numbered a b e k)
 
   pub query-at : {n : ℕ} (call : Call) (nv vol policy : Bytes) (a : QueryAnswer)
       → step (stateOf nv vol policy u) call ≡ (queryAnswer a, stateOf nv vol policy u) → n ≡ statusNumber (a .status)

@@ -1,4 +1,4 @@
--- Lock and disable on lent bytes: what the call by value answers, and that what it answers and leaves is what the contract says. Of any call on the
+-- Lock, disable and exit on lent bytes: what the call by value answers, and that what it answers and leaves is what the contract says. Of any call on the
 -- switches alone: `f` is what a step with it does, and `new` writes the byte that the call moves.
 --     answered     a function that calls the engine on the switches of the bytes answers by `byF`
 --     does         what `byF` answers, and the bytes that it leaves, are as `Does` says

@@ -1,6 +1,6 @@
 -- What an exported read answers, by the engine's. Assumes nothing.
 use Prim.Native.Nat.{ℕ, _+_, _-_, _≤_}
-use mathlib.Core.Path.{_≡_, sym, ap, _∙_, subst⁻¹}
+use mathlib.Core.Path.{_≡_, sym, ap, _∙_, subst, subst⁻¹}
 use mathlib.Core.List.{[]}
 use mathlib.Core.Bool.{cond}
 use mathlib.Core.Option.{none}
@@ -10,7 +10,6 @@ use Rattle.slices.specs.Bytes.{Bytes, part}
 use Rattle.names.specs.Name.{Variable}
 use Rattle.status.specs.Status.{statusNumber}
 use Rattle.switches.specs.declared.Switches.{Switches}
-use Rattle.switches.specs.Switches.{refusedSwitches}
 use Rattle.rules.specs.Engine.{State, stateOf}
 use Rattle.engine.specs.declared.Reading.{Reading}
 use Rattle.engine.specs.Answers.{readingOf, ReadStep}
@@ -28,14 +27,19 @@ read-numbered s v x h =
       within = omega arith;
     }
 
--- both promises of a read, from the engine's
-pub read-exported : {r : Read} (nv vol : Bytes) (v : Variable) (x : Reading) → r ≡ readOf x → x ≡ readingOf nv vol v → ((policy : Bytes) (w : Switches) → ReadStep (stateOf nv vol policy w) v x)
-    → (r ≡ readOf (readingOf nv vol v)) × ((policy : Bytes) (w : Switches) → NumberedRead (stateOf nv vol policy w) v r)
-read-exported nv vol v x k e h = (k ∙ ap readOf e, λ policy w. subst⁻¹ (NumberedRead (stateOf nv vol policy w) v) k (read-numbered (stateOf nv vol policy w) v x (h policy w)))
+-- both promises of a read, from the engine's at switches u, which are those that the bytes say
+pub read-exported : {u w : Switches} → u ≡ w → {r : Read} (nv vol : Bytes) (v : Variable) (x : Reading) → r ≡ readOf x → x ≡ readingOf (u .exited) nv vol v
+    → ((policy : Bytes) → ReadStep (stateOf nv vol policy u) v x)
+    → (r ≡ readOf (readingOf (w .exited) nv vol v)) × ((policy : Bytes) → NumberedRead (stateOf nv vol policy w) v r)
+read-exported {u} same {r} nv vol v x k e h = (
+  k ∙ ap readOf (e ∙ ap (λ t. readingOf (t .exited) nv vol v) same),
+  λ policy. subst (λ t. NumberedRead (stateOf nv vol policy t) v r) same
+      (subst⁻¹ (NumberedRead (stateOf nv vol policy u) v) k (read-numbered (stateOf nv vol policy u) v x (h policy))),
+)
 
 -- the payload does not end before it begins
-pub ordered : (nv vol : Bytes) (v : Variable) {x : Reading} → ((policy : Bytes) (w : Switches) → ReadStep (stateOf nv vol policy w) v x) → x .from ≤ x .to
-ordered nv vol v h = h [] refusedSwitches .ordered
+pub ordered : (u : Switches) (nv vol : Bytes) (v : Variable) {x : Reading} → ((policy : Bytes) → ReadStep (stateOf nv vol policy u) v x) → x .from ≤ x .to
+ordered u nv vol v h = h [] .ordered
 
 -- the answer, where n is the number of the status
 pub status-numbered : {n : ℕ} (x : Reading) → n ≡ statusNumber (x .status)

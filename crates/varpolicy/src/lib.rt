@@ -1,6 +1,8 @@
 // The calls of the engine for C. Each answers what the rules' `step` answers, with the status as its number, and leaves in what
 // it is lent for writing what `step` leaves there, for every input. A slice is a pointer and a length. The switches are a byte
 // each, and every byte has a meaning: `switchesOf`, `givesLeave`.
+// A function whose parameters or answer an edition changed has the edition behind its name, and the header calls it without: varpolicy_lock
+// is varpolicy_lock_e10. E10 gave the switches a fourth byte; under the old names an object file of then would link, and pass three.
 ghost use mathlib.Core.Path.{_≡_};
 ghost use mathlib.Core.Bool.{cond};
 ghost use lib.Dec.{eqb};
@@ -10,9 +12,9 @@ ghost use Rattle.names.specs.Name.{variable};
 ghost use Rattle.status.specs.declared.Status.the-variants.{Success};
 ghost use Rattle.status.specs.Status.{statusNumber};
 ghost use Rattle.switches.specs.declared.Switches.{Switches};
-ghost use Rattle.switches.specs.SwitchBytes.{givesLeave, switchesOf, bytesOf, lockedBytes, disabledBytes, lockBytes, disableBytes};
+ghost use Rattle.switches.specs.SwitchBytes.{givesLeave, switchesOf, bytesOf, lockedBytes, disabledBytes, exitedBytes, lockBytes, disableBytes, exitBytes};
 ghost use Rattle.rules.specs.Engine.{stateOf, step};
-ghost use Rattle.rules.specs.Engine.Call.{powerOn, restart, register, dump, lock, disable, query, set};
+ghost use Rattle.rules.specs.Engine.Call.{powerOn, restart, register, dump, lock, disable, exit, query, set};
 ghost use Rattle.rules.specs.Set.{requestOf};
 ghost use Rattle.rules.specs.Report.{groundNumber};
 ghost use Rattle.engine.specs.Answers.{readingOf};
@@ -30,6 +32,7 @@ use switches::SwitchBytes;
 use switches::bytes_answer;
 use switches::bytes_of;
 use switches::disabled_bytes;
+use switches::exited_bytes;
 use switches::gives_leave;
 use switches::locked_bytes;
 use switches::switches_of;
@@ -128,7 +131,7 @@ fn numbered_start(answer: SwitchAnswer) -> Started
 // Power-on: wipes the volatile store and the policy record, and hands back the engine's switches. Disabling is allowed by 1, and
 // by no other byte (RULES.md, 8.2).
 #[no_mangle]
-pub extern "C" fn varpolicy_power_on(
+pub extern "C" fn varpolicy_power_on_e10(
     nv: &[u8],
     vol: &mut [u8],
     policy: &mut [u8],
@@ -143,7 +146,7 @@ pub extern "C" fn varpolicy_power_on(
 
 // Restart: as power-on, over stores that it leaves as they are.
 #[no_mangle]
-pub extern "C" fn varpolicy_restart(
+pub extern "C" fn varpolicy_restart_e10(
     nv: &[u8],
     vol: &[u8],
     policy: &mut [u8],
@@ -158,7 +161,11 @@ pub extern "C" fn varpolicy_restart(
 
 // Register: the packed entry stands behind the others.
 #[no_mangle]
-pub extern "C" fn varpolicy_register(policy: &mut [u8], switches: SwitchBytes, entry: &[u8]) -> u32
+pub extern "C" fn varpolicy_register_e10(
+    policy: &mut [u8],
+    switches: SwitchBytes,
+    entry: &[u8],
+) -> u32
     ensures { λ r.
         ⌜ ((nv vol : Bytes) → numbered (step (stateOf nv vol (now (policy .entry)) (switchesOf switches)) (register (now (entry .entry))))
         ≡ (statusAlone r, stateOf nv vol (now (policy .exit)) (switchesOf switches))) ⌝ }
@@ -168,12 +175,16 @@ pub extern "C" fn varpolicy_register(policy: &mut [u8], switches: SwitchBytes, e
 
 // Dump: the entries, in the order registered, at the start of the buffer.
 #[no_mangle]
-pub extern "C" fn varpolicy_dump(policy: &[u8], buffer: &mut [u8]) -> Dumped
+pub extern "C" fn varpolicy_dump_e10(
+    policy: &[u8],
+    switches: SwitchBytes,
+    buffer: &mut [u8],
+) -> Dumped
     ensures { λ r.
-        ⌜ ((nv vol : Bytes) (w : Switches) → numbered (step (stateOf nv vol (now (policy .entry)) w) (dump (now (buffer .entry))))
-        ≡ (dumpedAnswer r (now (buffer .exit)), stateOf nv vol (now (policy .entry)) w)) ⌝ }
+        ⌜ ((nv vol : Bytes) → numbered (step (stateOf nv vol (now (policy .entry)) (switchesOf switches)) (dump (now (buffer .entry))))
+        ≡ (dumpedAnswer r (now (buffer .exit)), stateOf nv vol (now (policy .entry)) (switchesOf switches))) ⌝ }
 {
-    let answer = engine::dump(policy, buffer);
+    let answer = engine::dump(policy, switches_of(switches), buffer);
     let status = answer.status;
     Dumped {
         status: number(status),
@@ -190,11 +201,11 @@ fn lock_bytes(bytes: SwitchBytes) -> BytesAnswer
     bytes_answer(status, locked_bytes(bytes))
 }
 
-// Lock, on lent switches. Beside 0 the byte `locked` is 1 and the other two are as they were; beside any other status all three
+// Lock, on lent switches. Beside 0 the byte `locked` is 1 and the other three are as they were; beside any other status all four
 // are. The contract cannot tell a store of the old bytes from none; the machine code makes none: refused, the switches may lie on
 // a page that is read-only (rust/varpolicy/tests/switches.rs).
 #[no_mangle]
-pub extern "C" fn varpolicy_lock(switches: &mut SwitchBytes) -> u32
+pub extern "C" fn varpolicy_lock_e10(switches: &mut SwitchBytes) -> u32
     ensures { λ r.
         ⌜ ((nv vol policy : Bytes) → numbered (step (stateOf nv vol policy (switchesOf (now (switches .entry)))) lock)
         ≡ (statusAlone r, stateOf nv vol policy (switchesOf (now (switches .exit)))))
@@ -216,10 +227,10 @@ fn disable_bytes(bytes: SwitchBytes) -> BytesAnswer
     bytes_answer(status, disabled_bytes(bytes))
 }
 
-// Disable, on lent switches. Beside 0 the byte `enabled` is 0 and the other two are as they were; beside any other status all three
+// Disable, on lent switches. Beside 0 the byte `enabled` is 0 and the other three are as they were; beside any other status all four
 // are, and the machine code stores nothing, as in lock.
 #[no_mangle]
-pub extern "C" fn varpolicy_disable(switches: &mut SwitchBytes) -> u32
+pub extern "C" fn varpolicy_disable_e10(switches: &mut SwitchBytes) -> u32
     ensures { λ r.
         ⌜ ((nv vol policy : Bytes) → numbered (step (stateOf nv vol policy (switchesOf (now (switches .entry)))) disable)
         ≡ (statusAlone r, stateOf nv vol policy (switchesOf (now (switches .exit)))))
@@ -232,9 +243,34 @@ pub extern "C" fn varpolicy_disable(switches: &mut SwitchBytes) -> u32
     answer.status
 }
 
+// Exit on the bytes of the switches, by value: what is to be written is `exited` alone.
+fn exit_bytes(bytes: SwitchBytes) -> BytesAnswer
+    ensures { λ r. ⌜ r ≡ exitBytes bytes ⌝ }
+{
+    let answer = engine::exit(switches_of(bytes));
+    let status = answer.status;
+    bytes_answer(status, exited_bytes(bytes))
+}
+
+// Exit, on lent switches. Beside 0 the byte `exited` is 1 and the other three are as they were; beside any other status all four
+// are, and the machine code stores nothing, as in lock.
+#[no_mangle]
+pub extern "C" fn varpolicy_exit(switches: &mut SwitchBytes) -> u32
+    ensures { λ r.
+        ⌜ ((nv vol policy : Bytes) → numbered (step (stateOf nv vol policy (switchesOf (now (switches .entry)))) exit)
+        ≡ (statusAlone r, stateOf nv vol policy (switchesOf (now (switches .exit)))))
+        × (now (switches .exit) ≡ cond (eqb r 0) (exitedBytes (now (switches .entry))) (now (switches .entry))) ⌝ }
+{
+    let answer = exit_bytes(*switches);
+    if answer.granted {
+        *switches = answer.switches;
+    }
+    answer.status
+}
+
 // Query: the enabled switch.
 #[no_mangle]
-pub extern "C" fn varpolicy_query(switches: SwitchBytes) -> Queried
+pub extern "C" fn varpolicy_query_e10(switches: SwitchBytes) -> Queried
     ensures { λ r.
         ⌜ ((nv vol policy : Bytes) → numbered (step (stateOf nv vol policy (switchesOf switches)) query)
         ≡ (queriedAnswer r, stateOf nv vol policy (switchesOf switches))) ⌝ }
@@ -249,13 +285,19 @@ pub extern "C" fn varpolicy_query(switches: SwitchBytes) -> Queried
 
 // Read: the variable's attributes, and where its payload stands.
 #[no_mangle]
-pub extern "C" fn varpolicy_read(nv: &[u8], vol: &[u8], namespace: &[u8; 16], name: &[u8]) -> Read
-    ensures is { λ r. ⌜ r ≡ readOf (readingOf (now (nv .entry)) (now (vol .entry)) (variable (now (namespace .entry)) (now (name .entry)))) ⌝ }
+pub extern "C" fn varpolicy_read_e10(
+    nv: &[u8],
+    vol: &[u8],
+    switches: SwitchBytes,
+    namespace: &[u8; 16],
+    name: &[u8],
+) -> Read
+    ensures is { λ r. ⌜ r ≡ readOf (readingOf (switchesOf switches .exited) (now (nv .entry)) (now (vol .entry)) (variable (now (namespace .entry)) (now (name .entry)))) ⌝ }
     ensures answers { λ r.
-        ⌜ ((policy : Bytes) (w : Switches)
-        → NumberedRead (stateOf (now (nv .entry)) (now (vol .entry)) policy w) (variable (now (namespace .entry)) (now (name .entry))) r) ⌝ }
+        ⌜ ((policy : Bytes)
+        → NumberedRead (stateOf (now (nv .entry)) (now (vol .entry)) policy (switchesOf switches)) (variable (now (namespace .entry)) (now (name .entry))) r) ⌝ }
 {
-    let reading = engine::read(nv, vol, *namespace, name);
+    let reading = engine::read(nv, vol, switches_of(switches), *namespace, name);
     let status = reading.status;
     Read {
         status: number(status),
@@ -293,10 +335,9 @@ fn numbered_report(report: Report) -> Reported
     }
 }
 
-// Set: creates, rewrites, appends to or deletes the variable, and reports what step 4 said. The header calls it varpolicy_set. Its answer
-// was the status alone before E1; under that name an object file of then would link, and hand over its store as the room for this one.
+// Set: creates, rewrites, appends to or deletes the variable, and reports what step 4 said. Its answer was the status alone before E1.
 #[no_mangle]
-pub extern "C" fn varpolicy_set_e1(
+pub extern "C" fn varpolicy_set_e10(
     nv: &mut [u8],
     vol: &mut [u8],
     policy: &[u8],

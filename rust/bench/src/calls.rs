@@ -1,11 +1,10 @@
 //! Whole calls, by the library and by ordinary Rust with two hash tables.
 
-use crate::lent::{Answer, Lent, OURS, answer};
+use crate::lent::{Answer, Lent, OURS, SWITCHES, answer};
 use crate::plain::calls as plain;
 use crate::plain::index::{Small, Standard};
+use std::hint::black_box;
 use varpolicy::{Attributes, Name, Report, Switches, calls};
-
-const SWITCHES: Switches = Switches { enabled: true, locked: false, disabling_allowed: false };
 
 /// A call.
 pub enum Call {
@@ -52,18 +51,20 @@ impl Call {
     /// Makes the call by the version of a column.
     pub fn run(&self, column: usize, lent: &mut Lent) -> Answer {
         let who = COLUMNS[column];
+        // The compiler does not know them, so that every version has to look at them.
+        let switches = black_box(SWITCHES);
         match self {
-            Call::Read { name } => read(who, name, lent),
+            Call::Read { name } => read(who, name, switches, lent),
             Call::Set { name, requests, enabled } => {
                 let (attributes, payload) = &requests[lent.calls % 2];
-                set(who, name, *attributes, payload, *enabled, lent)
+                set(who, name, *attributes, payload, Switches { enabled: *enabled, ..switches }, lent)
             }
             Call::Register { entry } => {
-                let status = register(who, entry, lent);
+                let status = register(who, entry, switches, lent);
                 lent.policy[lent.policy_end..lent.policy_end + entry.len()].fill(0);
                 answer([status as usize])
             }
-            Call::Dump => dump(who, lent),
+            Call::Dump => dump(who, switches, lent),
             Call::Quarrels => quarrels(who, lent),
         }
     }
@@ -77,22 +78,22 @@ impl Call {
     }
 }
 
-fn read(who: Who, name: &[u8], lent: &Lent) -> Answer {
+fn read(who: Who, name: &[u8], switches: Switches, lent: &Lent) -> Answer {
+    let Lent { nv, volatile, .. } = lent;
     let found = match who {
         Who::Library => {
-            let found = calls::read(&lent.nv, &lent.volatile, &OURS, name);
+            let found = calls::read(nv, volatile, switches, &OURS, name);
             let status = found.status.number() as usize;
             return answer([status, found.attributes.0 as usize, found.offset, found.payload.len()]);
         }
-        Who::Standard => plain::read::<Standard>(&lent.nv, &lent.volatile, &OURS, name),
-        Who::Small => plain::read::<Small>(&lent.nv, &lent.volatile, &OURS, name),
+        Who::Standard => plain::read::<Standard>(nv, volatile, plain_switches(switches), &OURS, name),
+        Who::Small => plain::read::<Small>(nv, volatile, plain_switches(switches), &OURS, name),
     };
     answer([found.status as usize, found.attributes as usize, found.offset, found.length])
 }
 
-fn set(who: Who, name: &[u8], attributes: Attributes, payload: &[u8], enabled: bool, lent: &mut Lent) -> Answer {
+fn set(who: Who, name: &[u8], attributes: Attributes, payload: &[u8], switches: Switches, lent: &mut Lent) -> Answer {
     let Lent { nv, volatile, policy, .. } = lent;
-    let switches = Switches { enabled, ..SWITCHES };
     let request = plain::Request { namespace: &OURS, name, attributes: attributes.0, payload };
     let plain::Written { status, report } = match who {
         Who::Library => {
@@ -107,20 +108,20 @@ fn set(who: Who, name: &[u8], attributes: Attributes, payload: &[u8], enabled: b
     [status, ground.number(), place, rank, missing, prohibited, lowest_bit]
 }
 
-fn register(who: Who, entry: &[u8], lent: &mut Lent) -> u32 {
+fn register(who: Who, entry: &[u8], switches: Switches, lent: &mut Lent) -> u32 {
     match who {
-        Who::Library => calls::register(&mut lent.policy, SWITCHES, entry).number(),
-        Who::Standard | Who::Small => plain::register(&mut lent.policy, plain_switches(SWITCHES), entry),
+        Who::Library => calls::register(&mut lent.policy, switches, entry).number(),
+        Who::Standard | Who::Small => plain::register(&mut lent.policy, plain_switches(switches), entry),
     }
 }
 
-fn dump(who: Who, lent: &mut Lent) -> Answer {
+fn dump(who: Who, switches: Switches, lent: &mut Lent) -> Answer {
     let (status, length) = match who {
         Who::Library => {
-            let dumped = calls::dump(&lent.policy, &mut lent.buffer);
+            let dumped = calls::dump(&lent.policy, switches, &mut lent.buffer);
             (dumped.status.number(), dumped.length)
         }
-        Who::Standard | Who::Small => plain::dump(&lent.policy, &mut lent.buffer),
+        Who::Standard | Who::Small => plain::dump(&lent.policy, plain_switches(switches), &mut lent.buffer),
     };
     answer([status as usize, length])
 }
@@ -139,6 +140,53 @@ fn quarrels(who: Who, lent: &mut Lent) -> Answer {
 }
 
 fn plain_switches(switches: Switches) -> plain::Switches {
-    let Switches { enabled, locked, disabling_allowed } = switches;
-    plain::Switches { enabled, locked, disabling_allowed }
+    let Switches { enabled, locked, disabling_allowed, exited } = switches;
+    plain::Switches { enabled, locked, disabling_allowed, exited }
+}
+
+#[cfg(test)]
+mod tests {
+    use super::*;
+    use crate::inputs;
+    use varpolicy::Entry;
+
+    const EXITED: Switches = Switches { exited: true, ..SWITCHES };
+
+    fn named(letter: u8) -> Name {
+        Name::from_units([letter.into()]).expect("one unit")
+    }
+
+    /// Three variables, with NV and BS, with BS and RT, and with all of them, and an entry that allows them one byte.
+    fn lent() -> Lent {
+        let entry = Entry { max_size: 1, ..Entry::new(OURS, Name::EMPTY) };
+        let mut lent = Lent { volatile: vec![0xFF; 256], ..inputs::with_short_stores(&[entry]) };
+        for (letter, bits) in [(b'A', 3), (b'B', 6), (b'C', 7)] {
+            set(Who::Small, &named(letter), Attributes(bits), &[1], SWITCHES, &mut lent);
+        }
+        lent
+    }
+
+    /// What a version answers and leaves after exit, of every request for a variable and of the other calls.
+    fn after_exit(who: Who, name: &Name) -> Vec<(Answer, Lent)> {
+        let requests =
+            (0..8).flat_map(|bits| [bits, bits | 0x40]).flat_map(|bits| [0, 1, 2].map(|length| (bits, length)));
+        let calls = requests.map(|(bits, length)| {
+            let mut left = lent();
+            (set(who, name, Attributes(bits), &vec![2; length], EXITED, &mut left), left)
+        });
+        let mut left = lent();
+        let registered = answer([register(who, &[], EXITED, &mut left) as usize]);
+        let dumped = dump(who, EXITED, &mut left);
+        calls.chain([registered, dumped, read(who, name, EXITED, &left)].map(|made| (made, left.clone()))).collect()
+    }
+
+    /// No case that is measured is after exit; there too all versions do the same.
+    #[test]
+    fn all_versions_agree_after_exit() {
+        for name in b"ABCD".map(named) {
+            let library = after_exit(Who::Library, &name);
+            assert!(after_exit(Who::Standard, &name) == library);
+            assert!(after_exit(Who::Small, &name) == library);
+        }
+    }
 }

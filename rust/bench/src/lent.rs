@@ -1,10 +1,13 @@
 //! What every version of a call or of a part is lent, and what it answers.
 
 use crate::plain::reader::Reader;
-use varpolicy::{Namespace, READER_BYTES};
+use varpolicy::{Namespace, READER_BYTES, Switches};
 
 /// The namespace of all variables here, and of most entries.
 pub const OURS: Namespace = [7; 16];
+
+/// The switches of the engine, but where a case says another.
+pub const SWITCHES: Switches = Switches { enabled: true, locked: false, disabling_allowed: false, exited: false };
 
 /// An answer as numbers, so that all versions can be compared: those of a set are its status and its report, the others
 /// have fewer and then zeros.

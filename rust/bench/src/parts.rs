@@ -5,7 +5,7 @@
 //! libbench_parts.a, compiled by themselves, with the parts that no call of the library shows alone.
 
 use crate::archive::{self, Numbers};
-use crate::lent::{Answer, Lent, OURS, answer};
+use crate::lent::{Answer, Lent, OURS, SWITCHES, answer};
 use crate::plain::index::{Pairwise, Small};
 use crate::plain::parts::{self as plain, Compare};
 use varpolicy::{MAX_STORE_BYTES, Name, Status, calls};
@@ -97,19 +97,19 @@ impl Part {
 
 /// The check of the policy record in the library: the length that a dump into no buffer needs.
 fn dumped_into_nothing(policy: &[u8]) -> Answer {
-    let dumped = calls::dump(policy, &mut []);
+    let dumped = calls::dump(policy, SWITCHES, &mut []);
     answer([usize::from(dumped.status == Status::BufferTooSmall), dumped.length])
 }
 
 /// The check of the stores in the library: a read with an empty name refuses the name only if they are sound.
 fn read_nameless(nv: &[u8], volatile: &[u8]) -> Answer {
-    let status = calls::read(nv, volatile, &OURS, &[]).status;
+    let status = calls::read(nv, volatile, SWITCHES, &OURS, &[]).status;
     answer([usize::from(status == Status::InvalidParameter)])
 }
 
 /// The search in the library: the payload stands behind 32 bytes, the name and its zero unit.
 fn read_place(nv: &[u8], volatile: &[u8], name: &[u8]) -> Answer {
-    let read = calls::read(nv, volatile, &OURS, name);
+    let read = calls::read(nv, volatile, SWITCHES, &OURS, name);
     if read.status != Status::Success {
         return answer([]);
     }

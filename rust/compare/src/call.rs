@@ -14,6 +14,7 @@ pub enum Call {
     Dump { buffer: Vec<u8> },
     Lock,
     Disable,
+    Exit,
     Query,
     Read { namespace: Namespace, name: Vec<u8> },
     Set { namespace: Namespace, name: Vec<u8>, attributes: u32, payload: Vec<u8> },
@@ -29,6 +30,7 @@ impl Call {
             Call::Dump { .. } => "dump",
             Call::Lock => "lock",
             Call::Disable => "disable",
+            Call::Exit => "exit",
             Call::Query => "query",
             Call::Read { .. } => "read",
             Call::Set { .. } => "set",
@@ -72,19 +74,20 @@ pub fn by_library(state: &mut State, call: &Call) -> Answer {
         Call::Register { entry } => plain(calls::register(policy, *switches, entry)),
         Call::Dump { buffer } => {
             let mut guarded = Guarded::new(buffer, 5);
-            let dumped = calls::dump(policy, &mut guarded);
+            let dumped = calls::dump(policy, *switches, &mut guarded);
             assert!(guarded.is_intact(), "a dump has written outside of its buffer");
             let values = Values::Dumped { length: dumped.length, buffer: guarded.to_vec() };
             Answer { status: dumped.status, values }
         }
         Call::Lock => plain(calls::lock(switches)),
         Call::Disable => plain(calls::disable(switches)),
+        Call::Exit => plain(calls::exit(switches)),
         Call::Query => {
             let (status, enabled) = calls::query(*switches);
             Answer { status, values: Values::State { enabled } }
         }
         Call::Read { namespace, name } => {
-            let found = calls::read(nv, volatile, namespace, name);
+            let found = calls::read(nv, volatile, *switches, namespace, name);
             let values = Values::Found {
                 attributes: found.attributes.0,
                 non_volatile: found.non_volatile,
@@ -111,6 +114,8 @@ pub enum Ground {
     DisableNotAllowed,
     QueryEnabled,
     QueryDisabled,
+    ReadAbsent,
+    ReadHidden,
     Set(SetGround),
     Quarrel,
     NoQuarrel,
@@ -125,6 +130,7 @@ pub enum Ground {
 /// Makes the call through the reference.
 pub fn by_reference(state: &mut State, call: &Call) -> (Answer, Ground) {
     let State { nv, volatile, policy, switches } = state;
+    let meant = to_reference(*switches).read();
     let mut ground = Ground::Status;
     let answer = match call {
         Call::PowerOn { disabling_allowed } => {
@@ -138,33 +144,37 @@ pub fn by_reference(state: &mut State, call: &Call) -> (Answer, Ground) {
             start(switches, translate(status), from_reference(reference::SwitchBytes::of(handed)))
         }
         Call::Register { entry } => {
-            let decided = reference::register(policy, to_reference(*switches).read(), entry);
+            let decided = reference::register(policy, meant, entry);
             ground = Ground::Register(decided);
             plain(translate(decided.status()))
         }
         Call::Dump { buffer } => {
             let mut buffer = buffer.clone();
-            let (status, length) = reference::dump(policy, &mut buffer);
+            let (status, length) = reference::dump(policy, meant, &mut buffer);
             Answer { status: translate(status), values: Values::Dumped { length, buffer } }
         }
         Call::Lock => plain(with_switches(switches, reference::lock)),
         Call::Disable => {
-            let locked = to_reference(*switches).read().locked;
             let status = with_switches(switches, reference::disable);
             if status == Status::WriteProtected {
-                ground = if locked { Ground::DisableLocked } else { Ground::DisableNotAllowed };
+                ground = if meant.locked { Ground::DisableLocked } else { Ground::DisableNotAllowed };
             }
             plain(status)
         }
+        Call::Exit => plain(with_switches(switches, reference::exit)),
         Call::Query => {
-            let (status, enabled) = reference::query(to_reference(*switches).read());
+            let (status, enabled) = reference::query(meant);
             ground = if enabled { Ground::QueryEnabled } else { Ground::QueryDisabled };
             Answer { status: translate(status), values: Values::State { enabled } }
         }
-        Call::Read { namespace, name } => read_by_reference(nv, volatile, namespace, name),
+        Call::Read { namespace, name } => {
+            let (answer, decided) = read_by_reference(nv, volatile, meant, (namespace, name));
+            ground = decided;
+            answer
+        }
         Call::Set { namespace, name, attributes, payload } => {
             let request = reference::Request { namespace, name, attributes: *attributes, payload };
-            let (decided, report) = reference::set(nv, volatile, policy, to_reference(*switches).read(), request);
+            let (decided, report) = reference::set(nv, volatile, policy, meant, request);
             ground = Ground::Set(decided);
             Answer { status: translate(decided.status()), values: Values::Written(reported(report)) }
         }
@@ -172,17 +182,30 @@ pub fn by_reference(state: &mut State, call: &Call) -> (Answer, Ground) {
     (answer, ground)
 }
 
-fn read_by_reference(nv: &[u8], volatile: &[u8], namespace: &Namespace, name: &[u8]) -> Answer {
-    match reference::read(nv, volatile, namespace, name) {
+/// A read by the reference. What is not found is absent, or there and hidden since exit.
+fn read_by_reference(
+    nv: &[u8],
+    volatile: &[u8],
+    switches: reference::Switches,
+    (namespace, name): (&Namespace, &[u8]),
+) -> (Answer, Ground) {
+    let read = |switches| reference::read(nv, volatile, switches, namespace, name);
+    match read(switches) {
         Ok(found) => {
             let non_volatile = found.kind == reference::Kind::NonVolatile;
             let reference::Found { attributes, offset, payload, .. } = found;
             let values = Values::Found { attributes, non_volatile, offset, payload };
-            Answer { status: Status::Success, values }
+            (Answer { status: Status::Success, values }, Ground::Status)
         }
         Err(status) => {
+            let there = || read(reference::Switches { exited: false, ..switches }).is_ok();
+            let ground = match status {
+                reference::Status::NotFound if there() => Ground::ReadHidden,
+                reference::Status::NotFound => Ground::ReadAbsent,
+                _ => Ground::Status,
+            };
             let values = Values::Found { attributes: 0, non_volatile: false, offset: 0, payload: Vec::new() };
-            Answer { status: translate(status), values }
+            (Answer { status: translate(status), values }, ground)
         }
     }
 }
@@ -214,13 +237,13 @@ fn reported(report: reference::Report) -> Report {
 
 /// The bytes as the reference takes them.
 pub fn to_reference(switches: SwitchBytes) -> reference::SwitchBytes {
-    let SwitchBytes { enabled, locked, disabling_allowed } = switches;
-    reference::SwitchBytes { enabled, locked, disabling_allowed }
+    let SwitchBytes { enabled, locked, disabling_allowed, exited } = switches;
+    reference::SwitchBytes { enabled, locked, disabling_allowed, exited }
 }
 
 fn from_reference(switches: reference::SwitchBytes) -> SwitchBytes {
-    let reference::SwitchBytes { enabled, locked, disabling_allowed } = switches;
-    SwitchBytes { enabled, locked, disabling_allowed }
+    let reference::SwitchBytes { enabled, locked, disabling_allowed, exited } = switches;
+    SwitchBytes { enabled, locked, disabling_allowed, exited }
 }
 
 fn with_switches(switches: &mut SwitchBytes, call: fn(&mut reference::Switches) -> reference::Status) -> Status {

@@ -4,6 +4,7 @@ use crate::call::{Answer, Call, by_library, by_reference};
 use crate::coverage::Coverage;
 use crate::inputs;
 use crate::state::State;
+use reference::Pair;
 use std::fmt::{self, Display};
 use varpolicy::Status;
 
@@ -33,7 +34,8 @@ pub struct Comparison {
 
 impl Comparison {
     /// Makes a call on both sides. After it the answers and all lent bytes are equal, a refused call has
-    /// changed nothing, and no byte outside of what was lent has changed; else the difference in words.
+    /// changed nothing, one after exit nothing that is then kept, and no byte outside of what was lent has
+    /// changed; else the difference in words.
     pub fn exchange(&mut self, sides: &mut Sides, call: &Call) -> Result<Answer, String> {
         self.calls += 1;
         let before = sides.library.clone();
@@ -45,13 +47,27 @@ impl Comparison {
             return Err(describe(&difference).to_string());
         }
         check(sides.library.is_intact(), describe("a byte outside of what was lent has changed"))?;
+        let start = matches!(call, Call::PowerOn { .. } | Call::Restart { .. });
         if answer.status != Status::Success {
             check(sides.library == before, describe("a refused call has changed something"))?;
+        } else if before.read_switches().exited && !start {
+            check(is_kept(&before, &sides.library), describe("after exit something has changed that is kept"))?;
         }
         inputs::count(&mut self.coverage, &before, call, &answer, ground);
         check(self.coverage.answer(call.name(), answer.status, ground), describe("no such answer is possible"))?;
         Ok(answer)
     }
+}
+
+/// Whether all is kept that no call but a start changes after exit (docs/RULES.md, 8.1): switches, policy record and
+/// volatile store, and in the other store the variables without RT, in their order.
+fn is_kept(before: &State, after: &State) -> bool {
+    let hidden = |state: &State| {
+        let pair = Pair::decode(&state.nv, &state.volatile);
+        pair.map(|pair| pair.non_volatile.into_iter().filter(|variable| !variable.is_runtime()).collect::<Vec<_>>())
+    };
+    let rest = before.switches == after.switches && before.policy == after.policy && before.volatile == after.volatile;
+    rest && (before.nv == after.nv || hidden(before) == hidden(after))
 }
 
 /// `what` in words, unless it holds.

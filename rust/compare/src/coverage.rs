@@ -2,7 +2,7 @@
 //! and the inputs that the comparison promises to try.
 
 use crate::call::Ground;
-use crate::inputs::{labels, pieces, reports};
+use crate::inputs::{exit, labels, pieces, reports};
 use crate::tallies::{Each, Tallies};
 use crate::{damage, steps};
 use reference::Fault as F;
@@ -12,12 +12,13 @@ use std::fmt;
 use varpolicy::Status;
 
 /// Every answer that can be hit: the call, the status, what decided it, and that in words.
-const ANSWERS: [(&str, Status, Ground, &str); 66] = [
+const ANSWERS: [(&str, Status, Ground, &str); 76] = [
     ("power-on", Status::VolumeCorrupted, Ground::Status, ""),
     ("power-on", Status::Success, Ground::Status, ""),
     ("restart", Status::VolumeCorrupted, Ground::Status, ""),
     ("restart", Status::Success, Ground::Status, ""),
     ("register", Status::VolumeCorrupted, Ground::Register(R::BadRecord), "policy record"),
+    ("register", Status::Unsupported, Ground::Register(R::Exited), "after exit"),
     ("register", Status::WriteProtected, Ground::Register(R::Locked), "locked engine"),
     ("register", Status::InvalidParameter, Ground::Register(R::Malformed), "malformed"),
     ("register", Status::AlreadyStarted, Ground::Register(R::Repeated), "same namespace and name"),
@@ -25,19 +26,25 @@ const ANSWERS: [(&str, Status, Ground, &str); 66] = [
     ("register", Status::OutOfResources, Ground::Register(R::TooLong), "sum over the limit"),
     ("register", Status::Success, Ground::Register(R::Registered), ""),
     ("dump", Status::VolumeCorrupted, Ground::Status, ""),
+    ("dump", Status::Unsupported, Ground::Status, "after exit"),
     ("dump", Status::BufferTooSmall, Ground::Status, ""),
     ("dump", Status::Success, Ground::Status, ""),
+    ("lock", Status::Unsupported, Ground::Status, "after exit"),
     ("lock", Status::WriteProtected, Ground::Status, ""),
     ("lock", Status::Success, Ground::Status, ""),
+    ("disable", Status::Unsupported, Ground::Status, "after exit"),
     ("disable", Status::AlreadyStarted, Ground::Status, ""),
     ("disable", Status::WriteProtected, Ground::DisableLocked, "locked"),
     ("disable", Status::WriteProtected, Ground::DisableNotAllowed, "not allowed"),
     ("disable", Status::Success, Ground::Status, ""),
+    ("exit", Status::Unsupported, Ground::Status, "after exit"),
+    ("exit", Status::Success, Ground::Status, ""),
     ("query", Status::Success, Ground::QueryEnabled, "enabled"),
     ("query", Status::Success, Ground::QueryDisabled, "disabled"),
     ("read", Status::VolumeCorrupted, Ground::Status, ""),
     ("read", Status::InvalidParameter, Ground::Status, ""),
-    ("read", Status::NotFound, Ground::Status, ""),
+    ("read", Status::NotFound, Ground::ReadAbsent, "absent"),
+    ("read", Status::NotFound, Ground::ReadHidden, "after exit: without RT"),
     ("read", Status::Success, Ground::Status, ""),
     ("set", Status::VolumeCorrupted, Ground::Set(S::BadStores), "stores"),
     ("set", Status::VolumeCorrupted, Ground::Set(S::BadRecord), "policy record"),
@@ -45,6 +52,7 @@ const ANSWERS: [(&str, Status, Ground, &str); 66] = [
     ("set", Status::InvalidParameter, Ground::Set(S::LongPayload), "step 1: payload over 1,024"),
     ("set", Status::Unsupported, Ground::Set(S::UnknownAttribute), "step 2: bit outside 0x47"),
     ("set", Status::InvalidParameter, Ground::Set(S::WithoutBootService), "step 3: RT or append without BS"),
+    ("set", Status::InvalidParameter, Ground::Set(S::NotForRuntime), "step 3 after exit"),
     ("set", Status::InvalidParameter, Ground::Set(S::TooShort), "step 4: under MinSize"),
     ("set", Status::InvalidParameter, Ground::Set(S::TooLong), "step 4: over MaxSize"),
     ("set", Status::InvalidParameter, Ground::Set(S::AttributeMissing), "step 4: required bit missing"),
@@ -53,6 +61,8 @@ const ANSWERS: [(&str, Status, Ground, &str); 66] = [
     ("set", Status::WriteProtected, Ground::Set(S::LockedOnCreate), "step 4: lock of type 2"),
     ("set", Status::WriteProtected, Ground::Set(S::LockedOnVarState), "step 4: lock of type 3"),
     ("set", Status::NotFound, Ground::Set(S::DeleteAbsent), "step 5: absent"),
+    ("set", Status::NotFound, Ground::Set(S::DeleteHidden), "step 5 after exit: without RT"),
+    ("set", Status::WriteProtected, Ground::Set(S::DeleteVolatile), "step 5 after exit: volatile"),
     ("set", Status::Success, Ground::Set(S::Deleted), "step 5: deleted"),
     ("set", Status::InvalidParameter, Ground::Set(S::OtherAttributes), "step 6: other attributes"),
     ("set", Status::Success, Ground::Set(S::EmptyAppend), "step 7: empty append"),
@@ -162,13 +172,22 @@ pub enum Input {
     ReadPlace,
     AnyReader,
     ReadDamage,
+    ExitStart,
+    ExitRead,
+    ExitDelete,
+    ExitLock,
+    ExitAppend,
+    ExitOther,
+    ExitRoom,
+    ExitRebuild,
+    ExitHistory,
 }
 
 /// Every group of inputs with its title and what is counted in it, in the order of [`Input`].
 fn groups() -> Vec<Group> {
     use Input::*;
     vec![
-        Group::new(Switches, "switches (enabled, locked, disabling allowed)", labels::switch_labels()),
+        Group::new(Switches, "switches (enabled, locked, disabling allowed, exited)", labels::switch_labels()),
         Group::new(SwitchBytes, "byte of a switch that is neither 0 nor 1", labels::switch_byte_labels()),
         Group::new(Start, "start", labels::START),
         Group::new(Registration, "registration", labels::REGISTRATION),
@@ -282,7 +301,7 @@ fn groups() -> Vec<Group> {
         Group::new(
             AfterReorder,
             "calls while the order differs",
-            ["set", "read", "dump", "register", "lock or disable", "start"],
+            ["set", "read", "dump", "register", "lock or disable", "exit", "start"],
         ),
         Group::new(
             ReportReordered,
@@ -316,6 +335,23 @@ fn groups() -> Vec<Group> {
         Group::new(ReadPlace, "byte at which an entry of a reader is asked for", pieces::READ_PLACE),
         Group::new(AnyReader, "piece for a reader of any bytes", pieces::ANY_READER),
         Group::new(ReadDamage, "damage to a dump in pieces", damage::DUMP),
+        Group::new(ExitStart, "start on an engine that has exited", exit::start_labels()),
+        Group::new(ExitRead, "read, by the variable", exit::read_labels()),
+        Group::new(ExitDelete, "after exit: deletion, and the variable", exit::deletion_labels()),
+        Group::new(ExitLock, "after exit: what the lock of the chosen entry looks at", exit::lock_labels()),
+        Group::new(
+            ExitAppend,
+            "after exit: append's own length and the sum against the sizes, and the variable",
+            exit::append_labels(),
+        ),
+        Group::new(ExitOther, "after exit: refused at step 6, and the variable", exit::other_labels()),
+        Group::new(
+            ExitRoom,
+            "after exit: room in the store, some of it taken by what is not read",
+            exit::room_labels(),
+        ),
+        Group::new(ExitRebuild, "rebuild after exit", exit::REBUILD),
+        Group::new(ExitHistory, "history with exits", exit::HISTORY),
     ]
 }
 

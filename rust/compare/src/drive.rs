@@ -56,8 +56,62 @@ struct History {
     order: Vec<Vec<u8>>,
     /// The entries of the policy record without the rebuilds.
     straight_order: Vec<Vec<u8>>,
-    /// The entries of the last dump that is still complete.
-    complete_dump: Option<Vec<Vec<u8>>>,
+    /// The dumps that are still complete: the last of the history, and the last that was made for a rebuild.
+    dumps: Vec<Dump>,
+    /// Whether the history has exited before.
+    has_exited: bool,
+    /// Whether a rebuild was made since the last exit.
+    rebuilt: bool,
+}
+
+/// A dump (docs/RULES.md, 12.2).
+#[derive(Clone)]
+struct Dump {
+    /// Its entries.
+    entries: Vec<Vec<u8>>,
+    /// Whether it was made for a rebuild, and is no call of the history.
+    own: bool,
+    /// Whether an engine that had exited was rebuilt from it.
+    served: bool,
+}
+
+impl History {
+    /// A history that begins in this state.
+    fn new(sides: Sides) -> History {
+        let straight = sides.library.clone();
+        let (order, straight_order, dumps) = (Vec::new(), Vec::new(), Vec::new());
+        History { sides, straight, order, straight_order, dumps, has_exited: false, rebuilt: false }
+    }
+
+    /// Whether the engine has exited.
+    fn exited(&self) -> bool {
+        self.sides.library.read_switches().exited
+    }
+
+    /// Keeps a dump of the entries as they stand.
+    fn keep_dump(&mut self, own: bool) {
+        self.dumps.retain(|dump| dump.own != own);
+        self.dumps.push(Dump { entries: self.order.clone(), own, served: false });
+    }
+
+    /// Notes a call that was granted.
+    fn note(&mut self, call: &Call) {
+        match call {
+            Call::Register { entry } => {
+                self.order.push(entry.clone());
+                self.straight_order.push(entry.clone());
+                self.dumps.clear();
+            }
+            Call::PowerOn { .. } | Call::Restart { .. } => {
+                self.order.clear();
+                self.straight_order.clear();
+                self.dumps.clear();
+            }
+            Call::Dump { .. } => self.keep_dump(false),
+            Call::Exit => (self.has_exited, self.rebuilt) = (true, false),
+            _ => {}
+        }
+    }
 }
 
 impl Run<'_> {
@@ -70,9 +124,7 @@ impl Run<'_> {
         let power_on = Call::PowerOn { disabling_allowed: (!self.random.one_in(4)).into() };
         let answer = self.comparison.exchange(&mut sides, &power_on)?;
         check(answer.status == Status::Success, "power-on over a sound store was refused")?;
-        let straight = sides.library.clone();
-        let mut history =
-            History { sides, straight, order: Vec::new(), straight_order: Vec::new(), complete_dump: None };
+        let mut history = History::new(sides);
         let crowded = nv.len() == MAX_STORE_BYTES;
         if self.random.one_in(30) {
             self.fill_policy(&mut history)?;
@@ -84,8 +136,7 @@ impl Run<'_> {
                 4..=12 => self.damaged_call(&history.sides.library)?,
                 13..=40 if crowded => self.damaged_call(&history.sides.library)?,
                 _ => {
-                    let needed = history.order.iter().map(Vec::len).sum();
-                    let call = self.call(needed);
+                    let call = self.call(&history.sides.library);
                     self.step(&mut history, &call)?;
                 }
             }
@@ -103,8 +154,7 @@ impl Run<'_> {
             if self.random.one_in(3) {
                 self.damaged_call(&state)?;
             } else {
-                let needed = damage::entry_sizes(&state.policy).iter().sum();
-                let call = self.call(needed);
+                let call = self.call(&state);
                 let mut sides = Sides::new(state);
                 self.comparison.exchange(&mut sides, &call)?;
                 state = sides.library;
@@ -164,14 +214,15 @@ impl Run<'_> {
         Ok(entries)
     }
 
-    /// Any switches, more often enabled and unlocked than not; one in eight has any byte in one place.
+    /// Any switches, more often enabled, unlocked and not exited than otherwise; one in eight has any byte in one place.
     fn switches(&mut self) -> SwitchBytes {
         let bits = self.random.bits();
-        let [enabled, locked, disabling_allowed] = [bits & 3 != 0, bits & 12 == 0, bits & 16 != 0].map(u8::from);
-        let mut switches = SwitchBytes { enabled, locked, disabling_allowed };
+        let set = [bits & 3 != 0, bits & 12 == 0, bits & 16 != 0, bits & 96 == 0];
+        let [enabled, locked, disabling_allowed, exited] = set.map(u8::from);
+        let mut switches = SwitchBytes { enabled, locked, disabling_allowed, exited };
         if self.random.one_in(8) {
-            let places = [&mut switches.enabled, &mut switches.locked, &mut switches.disabling_allowed];
-            *places[self.random.below(3)] = self.random.byte();
+            let SwitchBytes { enabled, locked, disabling_allowed, exited } = &mut switches;
+            *[enabled, locked, disabling_allowed, exited][self.random.below(4)] = self.random.byte();
         }
         switches
     }
@@ -189,11 +240,12 @@ impl Run<'_> {
         self.pool.stores(random, nv_len, volatile_len)
     }
 
-    /// Any call.
-    fn call(&mut self, needed: usize) -> Call {
+    /// Any call on an engine in this state.
+    fn call(&mut self, state: &State) -> Call {
         let random = &mut self.random;
         match random.below(100) {
-            0..=55 => self.pool.set(random),
+            0..=54 => self.pool.set(random, state.read_switches().exited),
+            55 => Call::Exit,
             56..=69 => self.pool.read(random),
             70..=85 if random.one_in(4) => {
                 let (kind, entry) = damage::entry(random, &self.pool);
@@ -207,7 +259,7 @@ impl Run<'_> {
                 }
                 Call::Register { entry: fields.pack() }
             }
-            86..=91 => make::dump(random, needed),
+            86..=91 => make::dump(random, damage::entry_sizes(&state.policy).iter().sum()),
             92..=93 => Call::Lock,
             94..=95 => Call::Disable,
             96..=97 => Call::Query,
@@ -231,10 +283,13 @@ impl Run<'_> {
         }
         let mut damaged = State::new(&nv, &volatile, &policy);
         damaged.switches = state.switches;
+        if self.random.one_in(4) {
+            damaged.switches.exited = self.random.byte();
+        }
         let call = match self.random.below(4) {
             0 => Call::PowerOn { disabling_allowed: 1 },
             1 => Call::Restart { disabling_allowed: 1 },
-            _ => self.call(damage::entry_sizes(&policy).iter().sum()),
+            _ => self.call(&damaged),
         };
         self.comparison.exchange(&mut Sides::new(damaged), &call).map(|_| ())
     }
@@ -264,23 +319,16 @@ impl Run<'_> {
         if history.order != history.straight_order {
             self.count_after_reorder(call);
         }
+        let exited = history.exited();
+        // After exit no dump is granted, so that one has to be complete before.
+        if matches!(call, Call::Exit) && !exited && (history.dumps.is_empty() || self.random.one_in(2)) {
+            self.dump_for_rebuild(history)?;
+        }
         let answer = self.comparison.exchange(&mut history.sides, call)?;
         let straight_answer = by_library(&mut history.straight, call);
+        self.count_exits(history, exited, call, answer.status == Status::Success);
         if answer.status == Status::Success {
-            match call {
-                Call::Register { entry } => {
-                    history.order.push(entry.clone());
-                    history.straight_order.push(entry.clone());
-                    history.complete_dump = None;
-                }
-                Call::PowerOn { .. } | Call::Restart { .. } => {
-                    history.order.clear();
-                    history.straight_order.clear();
-                    history.complete_dump = None;
-                }
-                Call::Dump { .. } => history.complete_dump = Some(history.order.clone()),
-                _ => {}
-            }
+            history.note(call);
         }
         compare_answers(history, call, &answer, &straight_answer)?;
         if history.order != history.straight_order {
@@ -290,31 +338,35 @@ impl Run<'_> {
     }
 
     /// A rebuild: a restart over the same stores, the entries of a complete dump registered again,
-    /// then disable and lock, each only if the old engine was. Every call of it must succeed.
+    /// then disable, lock and exit, each only if the old engine was or had. Every call of it must succeed.
     fn rebuild(&mut self, history: &mut History) -> Result<(), String> {
         let before = history.sides.library.clone();
-        let older = history.complete_dump.clone().filter(|_| self.random.one_in(2));
-        let is_older = older.is_some();
-        let mut entries = match older {
-            Some(entries) => entries,
-            None => self.dump_for_rebuild(history)?,
-        };
+        let is_older = history.exited() || !history.dumps.is_empty() && self.random.one_in(2);
+        if !is_older {
+            self.dump_for_rebuild(history)?;
+        }
+        let place = if is_older { self.random.below(history.dumps.len()) } else { history.dumps.len() - 1 };
+        let mut entries = history.dumps[place].entries.clone();
         let quarrel = self.asked_for_quarrel(&entries)?;
         self.read_in_pieces(&entries)?;
         let reorder = entries.len() > 1 && self.random.one_in(2) && !quarrel;
         if reorder {
             self.random.shuffle(&mut entries);
         }
-        let reference::Switches { enabled, locked, .. } = before.read_switches();
+        let reference::Switches { enabled, locked, exited, .. } = before.read_switches();
         self.rebuild_call(history, &Call::Restart { disabling_allowed: before.switches.disabling_allowed })?;
         for entry in &entries {
             self.rebuild_call(history, &Call::Register { entry: entry.clone() })?;
         }
-        if !enabled {
-            self.rebuild_call(history, &Call::Disable)?;
+        for (_, call) in
+            [(!enabled, Call::Disable), (locked, Call::Lock), (exited, Call::Exit)].iter().filter(|row| row.0)
+        {
+            self.rebuild_call(history, call)?;
         }
-        if locked {
-            self.rebuild_call(history, &Call::Lock)?;
+        if exited {
+            self.count_rebuild_after_exit(history, place, reorder);
+            history.dumps[place].served = true;
+            history.rebuilt = true;
         }
         if entries == history.order {
             check(history.sides.library == before, "a rebuild in order has changed the state")?;
@@ -342,8 +394,8 @@ impl Run<'_> {
         check(good, "an engine's own dump has a bad entry")
     }
 
-    /// The entries of a dump that the rebuild takes itself, into a buffer that is long enough.
-    fn dump_for_rebuild(&mut self, history: &mut History) -> Result<Vec<Vec<u8>>, String> {
+    /// A dump that is made for a rebuild, now or later, into a buffer that is long enough.
+    fn dump_for_rebuild(&mut self, history: &mut History) -> Result<(), String> {
         let needed: usize = history.order.iter().map(Vec::len).sum();
         let buffer = vec![0x5A; needed + self.random.pick(&[0, 1, 300])];
         let answer = self.rebuild_call(history, &Call::Dump { buffer })?;
@@ -358,7 +410,8 @@ impl Run<'_> {
             rest = behind;
         }
         check(entries == history.order && rest.is_empty(), "a dump does not hold the registered entries")?;
-        Ok(entries)
+        history.keep_dump(true);
+        Ok(())
     }
 
     fn rebuild_call(&mut self, history: &mut History, call: &Call) -> Result<Answer, String> {
@@ -380,6 +433,38 @@ impl Run<'_> {
         }
     }
 
+    /// Counts a rebuild of an engine that has exited, from the dump at this place.
+    fn count_rebuild_after_exit(&mut self, history: &History, place: usize, reorder: bool) {
+        let reference::Switches { enabled, locked, .. } = history.sides.library.read_switches();
+        let Dump { entries, own, served } = &history.dumps[place];
+        let coverage = &mut self.comparison.coverage;
+        coverage.input(Input::ExitRebuild, usize::from(!own) + if reorder { 2 } else { 0 });
+        if entries.is_empty() {
+            coverage.input(Input::ExitRebuild, 4);
+        }
+        if *served {
+            coverage.input(Input::ExitRebuild, 5);
+        }
+        coverage.input(Input::ExitRebuild, 6 + usize::from(locked) + if enabled { 0 } else { 2 });
+    }
+
+    /// Counts a call of a history by what it has to do with exits; `exited` is of before the call.
+    fn count_exits(&mut self, history: &History, exited: bool, call: &Call, granted: bool) {
+        let label = match call {
+            Call::Exit if granted => usize::from(history.has_exited) * 4,
+            Call::Exit => 1,
+            Call::PowerOn { .. } if exited => 2,
+            Call::Restart { .. } if exited => 3,
+            Call::Set { attributes, payload, .. } if exited && granted => {
+                let deletion = attributes & 0x40 == 0 && (payload.is_empty() || attributes & 6 == 0);
+                5 + usize::from(deletion)
+            }
+            _ if exited && history.rebuilt => 7,
+            _ => return,
+        };
+        self.comparison.coverage.input(Input::ExitHistory, label);
+    }
+
     fn count_after_reorder(&mut self, call: &Call) {
         let label = match call {
             Call::Set { .. } => 0,
@@ -387,7 +472,8 @@ impl Run<'_> {
             Call::Dump { .. } => 2,
             Call::Register { .. } => 3,
             Call::Lock | Call::Disable | Call::Query => 4,
-            Call::PowerOn { .. } | Call::Restart { .. } => 5,
+            Call::Exit => 5,
+            Call::PowerOn { .. } | Call::Restart { .. } => 6,
         };
         self.comparison.coverage.input(Input::AfterReorder, label);
     }

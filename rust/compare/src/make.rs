@@ -207,7 +207,8 @@ pub fn crowded_stores(random: &mut Random, count: usize) -> (Vec<u8>, Vec<u8>, P
                 1 => (G, units(&format!("Variable{number:06X}"))),
                 _ => ([number as u8; 16], vec![0x41, 1 + (number >> 8) as u16]),
             };
-            let record = record(&namespace, &name, 2 | non_volatile, &[number as u8]);
+            let runtime = if number % 3 == 0 { 4 } else { 0 };
+            let record = record(&namespace, &name, 2 | non_volatile | runtime, &[number as u8]);
             if bytes.len() + record.len() > MAX_STORE_BYTES {
                 break;
             }
@@ -257,8 +258,11 @@ pub fn payload(random: &mut Random) -> Vec<u8> {
     bytes
 }
 
-/// The attributes of a request, mostly good ones.
-fn attributes(random: &mut Random) -> u32 {
+/// The attributes of a request, mostly good ones; after exit, half of them such as are allowed then.
+fn attributes(random: &mut Random, exited: bool) -> u32 {
+    if exited && random.one_in(2) {
+        return random.pick(&[7, 7, 7, 0x47, 0x47, 0]);
+    }
     match random.below(40) {
         0 => random.pick(&[4, 5, 0x40, 0x41, 0x44]),
         1 => random.pick(&[8, 0x10, 0x20, 0x80, 0x8000_0000, 0x4A]),
@@ -441,10 +445,10 @@ impl Pool {
         (nv, volatile)
     }
 
-    /// A request to set a variable.
-    pub fn set(&self, random: &mut Random) -> Call {
+    /// A request to set a variable, before exit or after.
+    pub fn set(&self, random: &mut Random, exited: bool) -> Call {
         let (namespace, name) = (self.namespace(random), self.request_name(random));
-        let (attributes, payload) = (attributes(random), payload(random));
+        let (attributes, payload) = (attributes(random, exited), payload(random));
         Call::Set { namespace, name, attributes, payload }
     }
 

@@ -71,7 +71,7 @@ impl State {
             nv: Guarded::new(nv, 0),
             volatile: Guarded::new(volatile, 1),
             policy: Guarded::new(policy, 3),
-            switches: SwitchBytes { enabled: 1, locked: 1, disabling_allowed: 0 },
+            switches: SwitchBytes { enabled: 1, locked: 1, disabling_allowed: 0, exited: 0 },
         }
     }
 

@@ -5,19 +5,41 @@ use reference::{APPEND, BS, Entry, Kind, LockRule, MAX_PAYLOAD, MAX_UNITS, NV, P
 use varpolicy::Namespace;
 
 /// The steps of a set that end it, in their order.
-const STEPS: [&str; 11] = ["1", "2", "3", "4 size", "4 attributes", "4 lock", "5", "6", "7", "8", "9"];
-const SIZE: usize = 3;
-const DELETION: usize = 6;
-const EMPTY_APPEND: usize = 8;
-const LONG_APPEND: usize = 9;
+const STEPS: [&str; 14] = [
+    "1",
+    "2",
+    "3",
+    "3 after exit",
+    "4 size",
+    "4 attributes",
+    "4 lock",
+    "5 absent",
+    "5 without RT",
+    "5 volatile",
+    "6",
+    "7",
+    "8",
+    "9",
+];
+const AFTER_EXIT: usize = 3;
+const SIZE: usize = 4;
+const ATTRIBUTES: usize = 5;
+const LOCK: usize = 6;
+const ABSENT: usize = 7;
+const HIDDEN: usize = 8;
+const VOLATILE: usize = 9;
+const OTHERS: usize = 10;
+const EMPTY_APPEND: usize = 11;
+const LONG_APPEND: usize = 12;
 
-/// Whether two steps can hold for one set: a deletion is not asked for size and attributes and never comes
-/// to step 6, and an empty append makes nothing longer.
+/// Whether two steps can hold for one set: a deletion is not asked for its attributes after exit, nor for size and
+/// attributes, and never comes to step 6; what is absent has no attributes; and an empty append makes nothing longer.
 fn can_meet(first: usize, second: usize) -> bool {
-    let asked_of_deletions = |step: usize| step < SIZE || step == 5;
+    let asked_of_deletions = |step: usize| step < AFTER_EXIT || step == LOCK;
     match (first, second) {
-        (DELETION, _) => false,
-        (first, DELETION) => asked_of_deletions(first),
+        (HIDDEN, VOLATILE) => true,
+        (ABSENT..=VOLATILE, _) => false,
+        (first, ABSENT..=VOLATILE) => asked_of_deletions(first),
         (EMPTY_APPEND, LONG_APPEND) => false,
         _ => true,
     }
@@ -46,6 +68,8 @@ pub struct Met<'a> {
     pub length: usize,
     /// Whether the engine is enabled.
     pub enabled: bool,
+    /// Whether it has exited.
+    pub exited: bool,
     /// The entry that is chosen, whether or not it speaks.
     pub choice: Option<&'a Entry>,
     /// The entry that speaks, if the engine is enabled.
@@ -66,12 +90,14 @@ impl<'a> Met<'a> {
     ) -> Met<'a> {
         let units = units(name);
         let bad_name = name.len() % 2 == 1 || !(1..=MAX_UNITS).contains(&units.len()) || units.contains(&0);
-        let (enabled, choice) = (state.read_switches().enabled, policy.choose(namespace, &units));
+        let reference::Switches { enabled, exited, .. } = state.read_switches();
+        let choice = policy.choose(namespace, &units);
         Met {
             pair,
             attributes,
             length,
             enabled,
+            exited,
             choice,
             chosen: choice.filter(|_| enabled),
             found: pair.find(namespace, &units),
@@ -91,6 +117,11 @@ impl<'a> Met<'a> {
         !self.has(APPEND) && (self.length == 0 || !self.has(BS | RT))
     }
 
+    /// Whether its name, its payload's length and its attributes are known ones.
+    pub fn is_well_formed(&self) -> bool {
+        !self.holds(0) && !self.holds(1)
+    }
+
     /// Whether the entry's size and attribute rules are asked.
     pub fn comes_to_policy(&self) -> bool {
         (0..SIZE).all(|step| !self.holds(step))
@@ -103,6 +134,11 @@ impl<'a> Met<'a> {
             Some((Kind::NonVolatile, ..)) => 1,
             Some((Kind::Volatile, ..)) => 2,
         }
+    }
+
+    /// The attributes of the variable, if it exists.
+    pub fn stored(&self) -> Option<u32> {
+        self.found.map(|(_, _, variable)| variable.attributes)
     }
 
     /// The length of the payload that an append to what exists would make.
@@ -137,14 +173,14 @@ impl<'a> Met<'a> {
             0 => self.bad_name || self.length > MAX_PAYLOAD,
             1 => self.has(!0x47),
             2 => self.has(RT | APPEND) && !self.has(BS),
+            AFTER_EXIT => self.exited && !self.is_deletion() && self.attributes & 7 != 7,
             SIZE => !self.is_deletion() && self.chosen.is_some_and(|entry| self.refused_for_size(entry)),
-            4 => !self.is_deletion() && self.chosen.is_some_and(|entry| self.refused_for_attributes(entry)),
-            5 => self.chosen.is_some_and(|entry| self.is_locked(entry)),
-            DELETION => self.is_deletion() && self.found.is_none(),
-            7 => {
-                let other = |variable: &Variable| variable.attributes != self.attributes & !APPEND;
-                !self.is_deletion() && self.found.is_some_and(|(_, _, variable)| other(variable))
-            }
+            ATTRIBUTES => !self.is_deletion() && self.chosen.is_some_and(|entry| self.refused_for_attributes(entry)),
+            LOCK => self.chosen.is_some_and(|entry| self.is_locked(entry)),
+            ABSENT => self.is_deletion() && self.found.is_none(),
+            HIDDEN => self.exited && self.is_deletion() && self.stored().is_some_and(|stored| stored & RT == 0),
+            VOLATILE => self.exited && self.is_deletion() && self.stored().is_some_and(|stored| stored & NV == 0),
+            OTHERS => !self.is_deletion() && self.stored().is_some_and(|stored| stored != self.attributes & !APPEND),
             EMPTY_APPEND => self.has(APPEND) && self.length == 0,
             LONG_APPEND => self.joined().is_some_and(|length| length > MAX_PAYLOAD),
             _ => {
@@ -186,7 +222,7 @@ impl<'a> Met<'a> {
     }
 
     /// Whether each step behind the size of step 4 would end the set, if it came to it.
-    pub fn behind_size(&self) -> [bool; 7] {
+    pub fn behind_size(&self) -> [bool; 9] {
         std::array::from_fn(|place| self.holds(SIZE + 1 + place))
     }
 

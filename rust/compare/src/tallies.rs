@@ -1,6 +1,9 @@
 //! Inputs that are too many to be listed, and of which each must be hit: units of names, and places in names of every
-//! length; what the numbers of reports can be; what quarrels can be; and dumps in pieces.
+//! length; what the numbers of reports can be; what quarrels can be; dumps in pieces; and bytes of switches, and sets
+//! before exit and after.
 
+use crate::inputs::exit;
+use crate::inputs::labels::SWITCH_BYTES;
 use crate::make::LONGEST;
 use crate::reader::MAX_PIECE;
 use reference::{MAX_ENTRIES, MAX_UNITS};
@@ -61,6 +64,9 @@ pub enum Each {
     ReadRefused,
     ReadPieceEnd,
     ReadCut,
+    SwitchByte,
+    UnsoundAndExited,
+    AfterExit,
 }
 
 const UNITS: usize = 1 << 16;
@@ -79,11 +85,12 @@ const PAIRS: usize = 30 + 31 + 30 + 30;
 const FIRST_OF_REPORTS: usize = Each::ReportPlace as usize;
 const FIRST_OF_QUARRELS: usize = Each::QuarrelEarlier as usize;
 const FIRST_OF_READINGS: usize = Each::ReadEntries as usize;
+const FIRST_OF_SWITCHES: usize = Each::SwitchByte as usize;
 
 /// What is hit, in words, and how many there are of it; in the order of [`Each`]. No pattern and no trigger has the
 /// unit zero, and a name of one unit has no place between two. Names that quarrel have two units at least, at one place
 /// '#' and a digit and at another a digit and '#'.
-const TALLIES: [(Each, &str, usize); 51] = [
+const TALLIES: [(Each, &str, usize); 54] = [
     (Each::UnderSign, "units under '#', which is the whole pattern", UNITS),
     (Each::UnderSignOfFour, "units under '#', one of four units", UNITS),
     (Each::UnderSignOfEight, "units under '#', one of eight units", UNITS),
@@ -135,6 +142,9 @@ const TALLIES: [(Each, &str, usize); 51] = [
     (Each::ReadRefused, "lengths of pieces up to twice the most: 2", MAX_PIECE),
     (Each::ReadPieceEnd, "places in the longest entry where a piece ends", LONGEST - 1),
     (Each::ReadCut, "places in it where the dump ends", LONGEST - 1),
+    (Each::SwitchByte, "values of a byte, by the byte and the call", 256 * SWITCH_BYTES),
+    (Each::UnsoundAndExited, "values of exited beside 10, by the call", 256 * exit::CALLS_ON_BOTH.len()),
+    (Each::AfterExit, "sets before exit and after, by what they meet", exit::SETS),
 ];
 
 /// The number of a place in a name of so many units.
@@ -200,6 +210,7 @@ impl fmt::Display for Tallies {
                 FIRST_OF_REPORTS => writeln!(out, "\nreports")?,
                 FIRST_OF_QUARRELS => writeln!(out, "\nquarrels, and what is one but for this alone")?,
                 FIRST_OF_READINGS => writeln!(out, "\ndumps read in pieces")?,
+                FIRST_OF_SWITCHES => writeln!(out, "\nswitches")?,
                 _ => {}
             }
             writeln!(out, "  {title:<45}{hit:>8} of {count:>5}")?;

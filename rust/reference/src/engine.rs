@@ -10,7 +10,7 @@ use crate::{APPEND, BS, MAX_ENTRIES, MAX_PAYLOAD, MAX_STORE, NV, Namespace, POLI
 
 /// What a refused power-on or restart hands back.
 const REFUSED: (Status, Switches) =
-    (Status::VolumeCorrupted, Switches { enabled: true, locked: true, disabling_allowed: false });
+    (Status::VolumeCorrupted, Switches { enabled: true, locked: true, disabling_allowed: false, exited: false });
 
 /// Power-on: wipes the volatile store and the policy record.
 pub fn power_on(
@@ -37,7 +37,7 @@ pub fn restart(non_volatile: &[u8], volatile: &[u8], policy: &mut [u8], disablin
 
 fn started(policy: &mut [u8], disabling_allowed: bool) -> (Status, Switches) {
     policy.fill(0);
-    (Status::Success, Switches { enabled: true, locked: false, disabling_allowed })
+    (Status::Success, Switches { enabled: true, locked: false, disabling_allowed, exited: false })
 }
 
 /// What decided a registration, in the order tested.
@@ -45,6 +45,8 @@ fn started(policy: &mut [u8], disabling_allowed: bool) -> (Status, Switches) {
 pub enum RegisterGround {
     /// The policy record is not valid (docs/RULES.md, 7).
     BadRecord,
+    /// The operating system has started.
+    Exited,
     /// The engine is locked.
     Locked,
     /// The entry is malformed.
@@ -64,6 +66,7 @@ impl RegisterGround {
     pub fn status(self) -> Status {
         match self {
             RegisterGround::BadRecord => Status::VolumeCorrupted,
+            RegisterGround::Exited => Status::Unsupported,
             RegisterGround::Locked => Status::WriteProtected,
             RegisterGround::Malformed => Status::InvalidParameter,
             RegisterGround::Repeated => Status::AlreadyStarted,
@@ -78,6 +81,9 @@ pub fn register(record: &mut [u8], switches: Switches, entry: &[u8]) -> Register
     let Some(mut policy) = Policy::decode(record) else {
         return RegisterGround::BadRecord;
     };
+    if switches.exited {
+        return RegisterGround::Exited;
+    }
     if switches.locked {
         return RegisterGround::Locked;
     }
@@ -101,10 +107,13 @@ pub fn register(record: &mut [u8], switches: Switches, entry: &[u8]) -> Register
 }
 
 /// Dumps the entries: the status, and the length written or needed.
-pub fn dump(record: &[u8], buffer: &mut [u8]) -> (Status, usize) {
+pub fn dump(record: &[u8], switches: Switches, buffer: &mut [u8]) -> (Status, usize) {
     let Some(policy) = Policy::decode(record) else {
         return (Status::VolumeCorrupted, 0);
     };
+    if switches.exited {
+        return (Status::Unsupported, 0);
+    }
     let bytes = policy.encode();
     match buffer.get_mut(..bytes.len()) {
         None => (Status::BufferTooSmall, bytes.len()),
@@ -117,6 +126,9 @@ pub fn dump(record: &[u8], buffer: &mut [u8]) -> (Status, usize) {
 
 /// Closes registration.
 pub fn lock(switches: &mut Switches) -> Status {
+    if switches.exited {
+        return Status::Unsupported;
+    }
     if switches.locked {
         return Status::WriteProtected;
     }
@@ -126,6 +138,9 @@ pub fn lock(switches: &mut Switches) -> Status {
 
 /// Turns enforcement off.
 pub fn disable(switches: &mut Switches) -> Status {
+    if switches.exited {
+        return Status::Unsupported;
+    }
     if !switches.enabled {
         return Status::AlreadyStarted;
     }
@@ -133,6 +148,15 @@ pub fn disable(switches: &mut Switches) -> Status {
         return Status::WriteProtected;
     }
     switches.enabled = false;
+    Status::Success
+}
+
+/// Says that the operating system has started.
+pub fn exit(switches: &mut Switches) -> Status {
+    if switches.exited {
+        return Status::Unsupported;
+    }
+    switches.exited = true;
     Status::Success
 }
 
@@ -155,10 +179,19 @@ pub struct Found {
 }
 
 /// Reads a variable. The name is the bytes of its units.
-pub fn read(non_volatile: &[u8], volatile: &[u8], namespace: &Namespace, name: &[u8]) -> Result<Found, Status> {
+pub fn read(
+    non_volatile: &[u8],
+    volatile: &[u8],
+    switches: Switches,
+    namespace: &Namespace,
+    name: &[u8],
+) -> Result<Found, Status> {
     let pair = Pair::decode(non_volatile, volatile).ok_or(Status::VolumeCorrupted)?;
     let name = name::decode_request(name).ok_or(Status::InvalidParameter)?;
     let (kind, place, variable) = pair.find(namespace, &name).ok_or(Status::NotFound)?;
+    if switches.exited && !variable.is_runtime() {
+        return Err(Status::NotFound);
+    }
     let before: usize = pair.of(kind)[..place].iter().map(Variable::record_len).sum();
     Ok(Found {
         attributes: variable.attributes,
@@ -189,6 +222,11 @@ impl Request<'_> {
     fn is_deletion(&self) -> bool {
         !self.has(APPEND) && (self.payload.is_empty() || !self.has(BS | RT))
     }
+
+    /// Whether it may be made once the operating system has started, by its attributes.
+    fn is_for_runtime(&self) -> bool {
+        self.is_deletion() || [NV, BS, RT].into_iter().all(|attribute| self.has(attribute))
+    }
 }
 
 /// What decided a set: the ground, named after the step (docs/RULES.md, 10.9) that it belongs to.
@@ -206,6 +244,8 @@ pub enum SetGround {
     UnknownAttribute,
     /// Step 3.
     WithoutBootService,
+    /// Step 3, after exit: no deletion, and without NV, BS or RT.
+    NotForRuntime,
     /// Step 4, the payload as it would be afterwards shorter than MinSize.
     TooShort,
     /// Step 4, the payload as it would be afterwards longer than MaxSize.
@@ -222,6 +262,10 @@ pub enum SetGround {
     LockedOnVarState,
     /// Step 5, nothing to delete.
     DeleteAbsent,
+    /// Step 5, after exit: a variable without RT.
+    DeleteHidden,
+    /// Step 5, after exit: a variable with RT in the volatile store.
+    DeleteVolatile,
     /// Step 5.
     Deleted,
     /// Step 6.
@@ -250,9 +294,12 @@ impl SetGround {
             BadStores | BadRecord => Status::VolumeCorrupted,
             BadName | LongPayload | WithoutBootService => Status::InvalidParameter,
             UnknownAttribute => Status::Unsupported,
+            NotForRuntime => Status::InvalidParameter,
             TooShort | TooLong | AttributeMissing | AttributeProhibited => Status::InvalidParameter,
             LockedNow | LockedOnCreate | LockedOnVarState => Status::WriteProtected,
             DeleteAbsent => Status::NotFound,
+            DeleteHidden => Status::NotFound,
+            DeleteVolatile => Status::WriteProtected,
             OtherAttributes => Status::InvalidParameter,
             AppendTooLong | NoRoom => Status::OutOfResources,
             Deleted | EmptyAppend | Created | Rewritten | AppendCreated | AppendJoined => Status::Success,
@@ -286,7 +333,7 @@ fn carry_out(
     let Some(policy) = Policy::decode(record) else {
         return SetGround::BadRecord;
     };
-    let name = match well_formed(&request) {
+    let name = match well_formed(&request, switches.exited) {
         Ok(name) => name,
         Err(ground) => return ground,
     };
@@ -296,8 +343,9 @@ fn carry_out(
         return ground;
     }
     if request.is_deletion() {
-        let Some((kind, place, _)) = pair.find(request.namespace, &name) else {
-            return SetGround::DeleteAbsent;
+        let (kind, place) = match to_delete(&pair, &request, &name, switches.exited) {
+            Ok(found) => found,
+            Err(ground) => return ground,
         };
         pair.of_mut(kind).remove(place);
         write_back(non_volatile, &pair.non_volatile);
@@ -317,7 +365,7 @@ fn carry_out(
 }
 
 /// Steps 1 to 3: the name, if the request is well formed.
-fn well_formed(request: &Request) -> Result<Vec<u16>, SetGround> {
+fn well_formed(request: &Request, exited: bool) -> Result<Vec<u16>, SetGround> {
     let name = name::decode_request(request.name).ok_or(SetGround::BadName)?;
     if request.payload.len() > MAX_PAYLOAD {
         return Err(SetGround::LongPayload);
@@ -327,6 +375,9 @@ fn well_formed(request: &Request) -> Result<Vec<u16>, SetGround> {
     }
     if request.has(RT | APPEND) && !request.has(BS) {
         return Err(SetGround::WithoutBootService);
+    }
+    if exited && !request.is_for_runtime() {
+        return Err(SetGround::NotForRuntime);
     }
     Ok(name)
 }
@@ -369,6 +420,18 @@ fn payload_afterwards(pair: &Pair, request: &Request, name: &[u16]) -> Vec<u8> {
     }
 }
 
+/// Step 5: where the variable stands that is to be deleted, if it may be.
+fn to_delete(pair: &Pair, request: &Request, name: &[u16], exited: bool) -> Result<(Kind, usize), SetGround> {
+    let (kind, place, variable) = pair.find(request.namespace, name).ok_or(SetGround::DeleteAbsent)?;
+    if exited && !variable.is_runtime() {
+        return Err(SetGround::DeleteHidden);
+    }
+    if exited && kind == Kind::Volatile {
+        return Err(SetGround::DeleteVolatile);
+    }
+    Ok((kind, place))
+}
+
 /// Steps 6 to 8, and step 10 on the decoded variables.
 fn store_payload(pair: &mut Pair, request: &Request, name: &[u16]) -> SetGround {
     let attributes = request.attributes & !APPEND;
@@ -403,4 +466,92 @@ fn write_back(store: &mut [u8], variables: &[Variable]) {
     let mut bytes = store::encode(variables);
     bytes.resize(store.len(), 0xFF);
     store.copy_from_slice(&bytes);
+}
+
+#[cfg(test)]
+mod tests {
+    use super::*;
+
+    /// The switches of this number, one for each setting.
+    fn setting(number: u8) -> Switches {
+        let [enabled, locked, disabling_allowed, exited] = [8, 4, 2, 1].map(|bit| number & bit != 0);
+        Switches { enabled, locked, disabling_allowed, exited }
+    }
+
+    const EXITED: Switches = Switches { enabled: true, locked: false, disabling_allowed: true, exited: true };
+    const RECORD: [u8; POLICY_BYTES] = [0; POLICY_BYTES];
+
+    /// Stores with "A" of these attributes and one byte, in the one that they say; with 0 in none.
+    fn stores(attributes: u32) -> [Vec<u8>; 2] {
+        [NV, 0].map(|kind| {
+            let variable = Variable { namespace: [7; 16], name: vec![0x41], attributes, payload: vec![1] };
+            let mut bytes = store::encode(&[variable]);
+            if attributes == 0 || attributes & NV != kind {
+                bytes.clear();
+            }
+            bytes.resize(80, 0xFF);
+            bytes
+        })
+    }
+
+    /// What decides a set of "A" after exit, where it has these attributes.
+    fn decided(stored: u32, attributes: u32, payload: &[u8]) -> SetGround {
+        let [mut nv, mut volatile] = stores(stored);
+        let request = Request { namespace: &[7; 16], name: &[0x41, 0], attributes, payload };
+        set(&mut nv, &mut volatile, &RECORD, EXITED, request).0
+    }
+
+    #[test]
+    fn exit_moves_its_own_switch_and_is_refused_after_exit_alone() {
+        for number in 0..16 {
+            let (before, mut switches) = (setting(number), setting(number));
+            let expected = if before.exited { Status::Unsupported } else { Status::Success };
+            assert_eq!(exit(&mut switches), expected);
+            assert_eq!(switches, Switches { exited: true, ..before });
+        }
+    }
+
+    #[test]
+    fn after_exit_the_policy_is_closed_whatever_the_switches_are() {
+        for before in (0..16).map(setting).filter(|switches| switches.exited) {
+            let (mut locking, mut disabling, mut record) = (before, before, RECORD);
+            assert_eq!([lock(&mut locking), disable(&mut disabling)], [Status::Unsupported; 2]);
+            assert_eq!([locking, disabling], [before; 2]);
+            assert_eq!(register(&mut record, before, &[]), RegisterGround::Exited);
+            assert_eq!(dump(&RECORD, before, &mut []), (Status::Unsupported, 0));
+            assert_eq!(dump(&RECORD[1..], before, &mut []), (Status::VolumeCorrupted, 0));
+            assert_eq!(query(before), (Status::Success, before.enabled));
+        }
+    }
+
+    #[test]
+    fn after_exit_variables_with_rt_are_read() {
+        for (attributes, shown) in [(0, false), (2, false), (3, false), (6, true), (7, true)] {
+            let [nv, volatile] = stores(attributes);
+            let found = read(&nv, &volatile, EXITED, &[7; 16], &[0x41, 0]);
+            let expected = if shown { Ok(attributes) } else { Err(Status::NotFound) };
+            assert_eq!(found.map(|found| found.attributes), expected);
+        }
+    }
+
+    #[test]
+    fn after_exit_a_set_needs_nv_bs_and_rt_and_a_deletion_does_not() {
+        use SetGround::*;
+        let refused = [(2, NotForRuntime), (3, NotForRuntime), (6, NotForRuntime), (0x43, NotForRuntime)];
+        let granted = [(7, Created), (0x47, AppendCreated), (0, DeleteAbsent), (1, DeleteAbsent)];
+        for (attributes, expected) in refused.into_iter().chain(granted) {
+            assert_eq!(decided(0, attributes, &[1]), expected, "{attributes:#x}");
+        }
+    }
+
+    #[test]
+    fn after_exit_deletions_and_rewrites_go_by_the_stored_attributes() {
+        use SetGround::*;
+        let stored = [(2, DeleteHidden), (3, DeleteHidden), (6, DeleteVolatile), (7, Deleted)];
+        for (stored, expected) in stored {
+            assert_eq!(decided(stored, 0, &[]), expected, "{stored}");
+            let rewritten = if stored == 7 { Rewritten } else { OtherAttributes };
+            assert_eq!(decided(stored, 7, &[2]), rewritten, "{stored}");
+        }
+    }
 }

@@ -18,7 +18,7 @@ mod store;
 mod switches;
 
 pub use engine::{
-    Found, RegisterGround, Request, SetGround, disable, dump, lock, power_on, query, read, register, restart, set,
+    Found, RegisterGround, Request, SetGround, disable, dump, exit, lock, power_on, query, read, register, restart, set,
 };
 pub use entry::{Entry, LockRule, Trigger};
 pub use policy::Policy;

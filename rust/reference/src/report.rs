@@ -148,8 +148,9 @@ mod tests {
 
     #[test]
     fn without_a_ground_all_is_zero() {
-        for decided in [SetGround::BadName, SetGround::UnknownAttribute, SetGround::OtherAttributes, SetGround::Created]
-        {
+        use SetGround::*;
+        let steps_1_to_3 = [BadName, UnknownAttribute, NotForRuntime];
+        for decided in steps_1_to_3.into_iter().chain([DeleteHidden, DeleteVolatile, OtherAttributes, Created]) {
             assert_eq!(reported(&[entry("", NV, 2)], 2, decided), Report::NONE);
         }
     }

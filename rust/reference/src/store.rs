@@ -37,6 +37,11 @@ impl Variable {
         self.namespace == *namespace && self.name == name
     }
 
+    /// Whether it is visible at run time.
+    pub fn is_runtime(&self) -> bool {
+        self.attributes & RT != 0
+    }
+
     /// Where the payload begins in the record.
     pub fn payload_at(&self) -> usize {
         HEADER + 2 * self.name.len() + 2

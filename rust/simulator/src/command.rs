@@ -27,6 +27,7 @@ pub enum Command {
     List,
     Lock,
     Disable,
+    Exit,
     State,
     Rebuild(Order),
     Poke { part: Part, at: usize, bytes: Vec<u8> },
@@ -93,7 +94,7 @@ impl<'a> Words<'a> {
 }
 
 const COMMANDS: &str = "namespace, stores, power-on, restart, register, set, append, delete, read, dump, quarrels, \
-                        start-reader, feed, feed-dump, list, lock, disable, state, rebuild, poke or note";
+                        start-reader, feed, feed-dump, list, lock, disable, exit, state, rebuild, poke or note";
 const NAMESPACE: &str = "a namespace (an alias, a GUID or 32 hex digits)";
 const NAME: &str = "a name in quotes (or hex:DIGITS)";
 const ENTRY_NAME: &str = "a name of at most 64 units in quotes";
@@ -141,6 +142,7 @@ impl Parser {
             "list" => Command::List,
             "lock" => Command::Lock,
             "disable" => Command::Disable,
+            "exit" => Command::Exit,
             "state" => Command::State,
             "rebuild" => Command::Rebuild(order(&mut words)?),
             "poke" => poke(&mut words)?,

@@ -26,13 +26,14 @@ pub fn payload(bytes: &[u8]) -> String {
     }
 }
 
-/// The three switches.
+/// The switches; of exited only where it is set, which no start hands back.
 pub fn switches(bytes: SwitchBytes) -> String {
     let switches = Switches::from(bytes);
     let enabled = if switches.enabled { "enabled" } else { "disabled" };
     let locked = if switches.locked { "locked" } else { "unlocked" };
     let allowed = if switches.disabling_allowed { "allowed" } else { "not allowed" };
-    format!("{enabled}, {locked}, disabling {allowed}")
+    let exited = if switches.exited { ", exited" } else { "" };
+    format!("{enabled}, {locked}, disabling {allowed}{exited}")
 }
 
 /// The entries of a dump, one line each.

@@ -42,10 +42,14 @@ Reads a history from FILE or standard input, one call to a line:
   append NAMESPACE NAME ATTRIBUTES [PAYLOAD]
   delete NAMESPACE NAME                read NAMESPACE NAME
   dump [BUFFER-BYTES]                  lock, disable, state
+  exit                                 the operating system starts, and boot services are gone
   rebuild [reverse | PLACES]           restart, then the entries of a dump again, in order or as told
                                        (another order changes the entries' places in dumps and reports
                                        alone, unless two entries of equal rank target one variable and
-                                       change places: the line says so)
+                                       change places: the line says so); then disable, lock and exit, each
+                                       if it was so. After exit, when no dump is to be had, the dump is the
+                                       last one before it, or one that is made just before it: the line
+                                       says which, and PLACES count in it
   quarrels [raw HEX]                   of the engine's entries, or of these bytes as a dump, the first two of
                                        equal rank that target one variable, with the smallest such name
   start-reader                         a reader of a dump that arrives in pieces; nothing arrived yet
@@ -71,6 +75,11 @@ Reads a history from FILE or standard input, one call to a line:
 A refused call tells why. A refused set, append or delete begins with the step of docs/RULES.md, 10.9, and
 at step 4 names the entry, by its place in a dump and its name. A set without APPEND that has no payload, or
 neither BS nor RT, is a deletion, and its line says so.
+
+After exit, until the next power-on or restart, register, dump, lock, disable and a second exit are refused, and
+with dump the lines quarrels and feed-dump that need one; reads show variables with RT alone; a set needs NV, BS
+and RT; and no volatile variable is written or deleted. Entries are enforced as before, also by triggers that
+can no longer be read.
 
 ; and // begin a comment, but not in a note. Before the first power-on the engine is locked.
 

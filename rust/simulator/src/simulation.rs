@@ -9,17 +9,31 @@ use std::fmt::Display;
 use varpolicy::calls::{self, Request, Started};
 use varpolicy::{Attributes, Namespace, POLICY_BYTES, Quarrel, Status, SwitchBytes, Switches};
 
-/// The four parts of `docs/RULES.md`, 1.2, and a reader, which is none of the engine's.
+/// The four parts of `docs/RULES.md`, 1.2; and what is none of the engine's: a dump that is complete, if there is one,
+/// and a reader.
 pub struct Simulation {
     nv: Vec<u8>,
     volatile: Vec<u8>,
     policy: Vec<u8>,
     switches: SwitchBytes,
+    complete: Option<Dump>,
     reading: Reading,
 }
 
+/// A dump that is complete (docs/RULES.md, 12.2), and what a rebuild tells of it if it was not made at once: after exit no
+/// dump is granted, and a rebuild goes by one of before.
+#[derive(Clone)]
+struct Dump {
+    bytes: Vec<u8>,
+    told: Option<&'static str>,
+}
+
+/// Of a dump that the history made, and of one that was made for a rebuild only.
+const LAST_DUMP: &str = "from the last dump, which is complete";
+const MADE_FOR_IT: &str = "from a dump that was made just before exit";
+
 /// The switches before the first power-on, which are those of a refused one.
-const NOT_STARTED: SwitchBytes = SwitchBytes { enabled: 1, locked: 1, disabling_allowed: 0 };
+const NOT_STARTED: SwitchBytes = SwitchBytes { enabled: 1, locked: 1, disabling_allowed: 0, exited: 0 };
 
 impl Default for Simulation {
     fn default() -> Simulation {
@@ -28,6 +42,7 @@ impl Default for Simulation {
             volatile: vec![0xFF; 4096],
             policy: vec![0; POLICY_BYTES],
             switches: NOT_STARTED,
+            complete: None,
             reading: Reading::default(),
         }
     }
@@ -84,12 +99,13 @@ impl Simulation {
                 Err(refused) => refused,
             },
             Command::List => self.list(),
-            Command::Lock => answered(calls::lock(&mut self.switches), |_| reason::LOCKED_ALREADY),
+            Command::Lock => answered(calls::lock(&mut self.switches), reason::lock),
             Command::Disable => {
                 answered(calls::disable(&mut self.switches), |status| reason::disable(status, self.switches))
             }
+            Command::Exit => self.exit(),
             Command::State => self.state(),
-            Command::Rebuild(order) => match self.complete_dump() {
+            Command::Rebuild(order) => match self.dump_to_rebuild() {
                 Ok(dump) => self.rebuild(&dump, order, namespaces)?,
                 Err(refused) => refused,
             },
@@ -103,14 +119,19 @@ impl Simulation {
         let Started { status, switches } = started;
         let handed_back = describe::switches(switches);
         if status != Status::Success {
-            return format!("{status} {}; handed back: {handed_back}", reason(&self.nv, &self.volatile));
+            let goes_on = if self.has_exited() { "; the engine goes on with its own, exited among them" } else { "" };
+            return format!("{status} {}; handed back: {handed_back}{goes_on}", reason(&self.nv, &self.volatile));
         }
         self.switches = switches;
+        self.complete = None;
         format!("{status} {handed_back}")
     }
 
     fn register(&mut self, entry: &[u8]) -> String {
         let status = calls::register(&mut self.policy, self.switches, entry);
+        if status == Status::Success {
+            self.complete = None;
+        }
         answered(status, |status| reason::register(status, &self.policy, entry))
     }
 
@@ -120,48 +141,72 @@ impl Simulation {
         match written.status {
             Status::Success => granted.to_string(),
             status => {
+                let exited = self.has_exited();
                 let Simulation { nv, volatile, policy, .. } = self;
-                let refusal = Refusal { nv, volatile, policy, request, written, namespaces };
+                let refusal = Refusal { nv, volatile, policy, exited, request, written, namespaces };
                 format!("{status} {}", refusal.reason())
             }
         }
     }
 
     fn read(&self, namespace: &Namespace, name: &[u8]) -> String {
-        let found = calls::read(&self.nv, &self.volatile, namespace, name);
+        let found = calls::read(&self.nv, &self.volatile, self.switches, namespace, name);
         match found.status {
             Status::Success => format!("SUCCESS {}, {}", found.attributes, describe::payload(found.payload)),
-            refused => answered(refused, |status| reason::read(status, &self.nv, &self.volatile, name)),
+            refused => answered(refused, |status| reason::read(status, &self.nv, &self.volatile, namespace, name)),
         }
     }
 
-    fn dump(&self, buffer: usize, namespaces: &BTreeMap<String, Namespace>) -> String {
+    fn dump(&mut self, buffer: usize, namespaces: &BTreeMap<String, Namespace>) -> String {
         let mut buffer = vec![0; buffer];
-        let dumped = calls::dump(&self.policy, &mut buffer);
+        let dumped = calls::dump(&self.policy, self.switches, &mut buffer);
         match dumped.status {
             Status::Success => {
-                let entries = describe::entries(&buffer[..dumped.length], namespaces);
+                buffer.truncate(dumped.length);
+                let entries = describe::entries(&buffer, namespaces);
+                self.complete = Some(Dump { bytes: buffer, told: Some(LAST_DUMP) });
                 format!("SUCCESS {} bytes{entries}", dumped.length)
             }
             Status::BufferTooSmall => format!("BUFFER_TOO_SMALL {} bytes needed", dumped.length),
-            refused => answered(refused, |_| reason::BAD_RECORD),
+            refused => answered(refused, reason::dump),
         }
+    }
+
+    /// Makes an exit. If the history has no complete dump, one is made before it, for a rebuild behind it.
+    fn exit(&mut self) -> String {
+        if self.complete.is_none() {
+            self.complete = self.complete_dump().ok().map(|bytes| Dump { bytes, told: Some(MADE_FOR_IT) });
+        }
+        answered(calls::exit(&mut self.switches), |_| reason::EXITED_ALREADY)
+    }
+
+    fn has_exited(&self) -> bool {
+        Switches::from(self.switches).exited
     }
 
     fn state(&self) -> String {
         let (status, enabled) = calls::query(self.switches);
-        format!("{status} {}", if enabled { "enabled" } else { "disabled" })
+        let exited = if self.has_exited() { ", exited" } else { "" };
+        format!("{status} {}{exited}", if enabled { "enabled" } else { "disabled" })
     }
 
-    /// The bytes of a dump, or the refusal, told.
+    /// The bytes of a dump that is made now, or the refusal, told.
     fn complete_dump(&self) -> Result<Vec<u8>, String> {
         let mut buffer = vec![0; POLICY_BYTES];
-        let dumped = calls::dump(&self.policy, &mut buffer);
+        let dumped = calls::dump(&self.policy, self.switches, &mut buffer);
         if dumped.status != Status::Success {
-            return Err(format!("dump {}", answered(dumped.status, |_| reason::BAD_RECORD)));
+            return Err(format!("dump {}", answered(dumped.status, reason::dump)));
         }
         buffer.truncate(dumped.length);
         Ok(buffer)
+    }
+
+    /// A complete dump: one that is made now or, after exit, the one that is kept.
+    fn dump_to_rebuild(&self) -> Result<Dump, String> {
+        match &self.complete {
+            Some(dump) if self.has_exited() => Ok(dump.clone()),
+            _ => Ok(Dump { bytes: self.complete_dump()?, told: None }),
+        }
     }
 
     /// Feeds the reader a dump in pieces of so many bytes.
@@ -181,51 +226,60 @@ impl Simulation {
         lines.fold(Status::Success.to_string(), |told, line| format!("{told}\n    {line}"))
     }
 
-    /// A restart over the same stores with the old disable setting, each entry of the dump registered again,
-    /// then disable and lock, each only if the old engine was. Stops at the first refusal.
+    /// Makes the engine again over the same stores, with the entries of the dump as told.
     fn rebuild(
         &mut self,
-        dump: &[u8],
+        dump: &Dump,
         order: Order,
         namespaces: &BTreeMap<String, Namespace>,
     ) -> Result<String, Expected> {
-        let entries = describe::split(dump);
+        let entries = describe::split(&dump.bytes);
         let places = match order {
             Order::Kept => (0..entries.len()).collect(),
             Order::Reversed => (0..entries.len()).rev().collect(),
             Order::Places(places) => each_once(places, entries.len())?,
         };
-        let old = Switches::from(self.switches);
-        let started = calls::restart(&self.nv, &self.volatile, &mut self.policy, old.disabling_allowed);
-        if started.status != Status::Success {
-            return Ok(format!("restart {}", answered(started.status, |_| reason::restart(&self.nv, &self.volatile))));
+        let mut made = match self.make_again(&entries, &places) {
+            Ok(made) => format!("SUCCESS {made}"),
+            Err(refused) => return Ok(refused),
+        };
+        if let Some(told) = dump.told {
+            made += &format!("; {told}");
         }
-        self.switches = started.switches;
-        for &place in &places {
-            let status = calls::register(&mut self.policy, self.switches, entries[place]);
-            if status != Status::Success {
-                return Ok(format!("register of entry {place} {status}"));
-            }
-        }
-        let mut made = format!("SUCCESS restart, {} registered", entries.len());
-        for (wanted, name, call) in [
-            (!old.enabled, "disable", calls::disable as fn(&mut SwitchBytes) -> Status),
-            (old.locked, "lock", calls::lock),
-        ] {
-            if wanted {
-                let status = call(&mut self.switches);
-                if status != Status::Success {
-                    return Ok(format!("{name} {status}"));
-                }
-                made += &format!(", {name}");
-            }
-        }
-        if let Some(Quarrel { earlier, later, name }) = quarrel::changed(dump, &places) {
+        if let Some(Quarrel { earlier, later, name }) = quarrel::changed(&dump.bytes, &places) {
             let variable = describe::variable(&describe::fields(entries[later]).namespace, &name, namespaces);
             made += &format!(
                 "; entries {earlier} and {later} of equal rank both target {variable} and changed places: \
                  later answers may differ"
             );
+        }
+        Ok(made)
+    }
+
+    /// The calls of a rebuild (docs/RULES.md, 12.3): a restart with the old disable setting, the entries at these places
+    /// one after the other, then disable, lock and exit, each only if the old engine was. Tells what was made, or the
+    /// first refusal, at which it stops.
+    fn make_again(&mut self, entries: &[&[u8]], places: &[usize]) -> Result<String, String> {
+        let old = Switches::from(self.switches);
+        let started = calls::restart(&self.nv, &self.volatile, &mut self.policy, old.disabling_allowed);
+        if started.status != Status::Success {
+            return Err(format!("restart {}", answered(started.status, |_| reason::restart(&self.nv, &self.volatile))));
+        }
+        self.switches = started.switches;
+        for &place in places {
+            let status = calls::register(&mut self.policy, self.switches, entries[place]);
+            status.ok().map_err(|refused| format!("register of entry {place} {refused}"))?;
+        }
+        let mut made = format!("restart, {} registered", entries.len());
+        for (wanted, name, call) in [
+            (!old.enabled, "disable", calls::disable as fn(&mut SwitchBytes) -> Status),
+            (old.locked, "lock", calls::lock),
+            (old.exited, "exit", calls::exit),
+        ] {
+            if wanted {
+                call(&mut self.switches).ok().map_err(|refused| format!("{name} {refused}"))?;
+                made += &format!(", {name}");
+            }
         }
         Ok(made)
     }
@@ -240,6 +294,10 @@ impl Simulation {
         match lent.get_mut(at..at + bytes.len()) {
             Some(place) => {
                 place.copy_from_slice(bytes);
+                if matches!(part, Part::Policy) {
+                    // A dump of before may have other entries.
+                    self.complete = None;
+                }
                 Ok("written".to_string())
             }
             None => Err(format!("expected bytes within the {len} that are lent")),

@@ -30,7 +30,7 @@ fn examples_print_what_is_expected() {
         assert!(output.status.success());
         run += 1;
     }
-    assert!(run >= 10);
+    assert!(run >= 11);
 }
 
 #[test]
@@ -44,7 +44,7 @@ fn a_bad_line_is_told_and_the_rest_runs() {
     assert_eq!(output.status.code(), Some(1));
     let expected = "\
 1: power-off -> not understood: expected namespace, stores, power-on, restart, register, set, append, delete, read, \
-dump, quarrels, start-reader, feed, feed-dump, list, lock, disable, state, rebuild, poke or note, found power-off
+dump, quarrels, start-reader, feed, feed-dump, list, lock, disable, exit, state, rebuild, poke or note, found power-off
 2: set G \"A\" BS 01 -> not understood: expected a namespace (an alias, a GUID or 32 hex digits), found G
 4: power-on now -> not understood: expected allow-disable or the end of the line, found now
 5: power-on -> SUCCESS enabled, unlocked, disabling not allowed
@@ -138,13 +138,14 @@ MaxSize, 1
 }
 
 #[test]
-fn help_tells_what_another_order_a_number_sign_and_a_refused_call_do() {
+fn help_tells_what_another_order_a_number_sign_a_refused_call_and_exit_do() {
     let output = Command::new(env!("CARGO_BIN_EXE_simulate")).arg("--help").output().expect("simulate runs");
     let help = String::from_utf8_lossy(&output.stdout);
     let order = "of equal rank target one variable and\n";
     let trigger = "NAME is one variable's and may\n              have no #";
     let refused = "A refused call tells why. A refused set, append or delete";
-    for words in [order, "but not in a note", "matches a hex digit and nothing else", trigger, refused] {
+    let exit = "After exit, until the next power-on or restart, register, dump, lock, disable and a second exit";
+    for words in [order, "but not in a note", "matches a hex digit and nothing else", trigger, refused, exit] {
         assert!(help.contains(words), "{words}");
     }
 }

@@ -74,6 +74,7 @@ pub(crate) struct Listing {
 }
 
 unsafe extern "C" {
+    #[link_name = "varpolicy_power_on_e10"]
     pub(crate) fn varpolicy_power_on(
         nv: *const u8,
         nv_len: usize,
@@ -84,6 +85,7 @@ unsafe extern "C" {
         disabling_allowed: u8,
     ) -> Started;
 
+    #[link_name = "varpolicy_restart_e10"]
     pub(crate) fn varpolicy_restart(
         nv: *const u8,
         nv_len: usize,
@@ -94,6 +96,7 @@ unsafe extern "C" {
         disabling_allowed: u8,
     ) -> Started;
 
+    #[link_name = "varpolicy_register_e10"]
     pub(crate) fn varpolicy_register(
         policy: *mut u8,
         policy_len: usize,
@@ -102,25 +105,39 @@ unsafe extern "C" {
         entry_len: usize,
     ) -> u32;
 
-    pub(crate) fn varpolicy_dump(policy: *const u8, policy_len: usize, buffer: *mut u8, buffer_len: usize) -> Dumped;
+    #[link_name = "varpolicy_dump_e10"]
+    pub(crate) fn varpolicy_dump(
+        policy: *const u8,
+        policy_len: usize,
+        switches: SwitchBytes,
+        buffer: *mut u8,
+        buffer_len: usize,
+    ) -> Dumped;
 
+    #[link_name = "varpolicy_lock_e10"]
     pub(crate) fn varpolicy_lock(switches: *mut SwitchBytes) -> u32;
 
+    #[link_name = "varpolicy_disable_e10"]
     pub(crate) fn varpolicy_disable(switches: *mut SwitchBytes) -> u32;
 
+    pub(crate) fn varpolicy_exit(switches: *mut SwitchBytes) -> u32;
+
+    #[link_name = "varpolicy_query_e10"]
     pub(crate) fn varpolicy_query(switches: SwitchBytes) -> State;
 
+    #[link_name = "varpolicy_read_e10"]
     pub(crate) fn varpolicy_read(
         nv: *const u8,
         nv_len: usize,
         volatile: *const u8,
         volatile_len: usize,
+        switches: SwitchBytes,
         namespace: *const [u8; 16],
         name: *const u8,
         name_len: usize,
     ) -> Found;
 
-    #[link_name = "varpolicy_set_e1"]
+    #[link_name = "varpolicy_set_e10"]
     pub(crate) fn varpolicy_set(
         nv: *mut u8,
         nv_len: usize,
@@ -150,7 +167,7 @@ unsafe extern "C" {
 
 // The layout that the C declarations have.
 const _: () = {
-    assert!(size_of::<SwitchBytes>() == 3);
+    assert!(size_of::<SwitchBytes>() == 4);
     assert!(size_of::<Started>() == 8);
     assert!(size_of::<Dumped>() == 16);
     assert!(size_of::<State>() == 8);

@@ -12,7 +12,7 @@ impl Attributes {
     pub const NV: Attributes = Attributes(0x01);
     /// Visible to boot services. Every stored variable has it.
     pub const BS: Attributes = Attributes(0x02);
-    /// Visible at run time.
+    /// Visible at run time: after exit a variable without it is not read.
     pub const RT: Attributes = Attributes(0x04);
     /// Of a request only: the payload is joined to what is stored.
     pub const APPEND: Attributes = Attributes(0x40);

@@ -16,17 +16,17 @@ use crate::{Attributes, MAX_NAME_UNITS, Namespace, READER_BYTES, Refused, Report
 pub struct Started {
     /// SUCCESS or VOLUME_CORRUPTED.
     pub status: Status,
-    /// The switches of the engine, each byte 0 or 1. After a refusal the strictest, enabled, locked and
-    /// disabling not allowed; a running engine goes on with those it had.
+    /// The switches of the engine, each byte 0 or 1. After a refusal enabled, locked, disabling not allowed and not
+    /// exited; a running engine goes on with those it had.
     pub switches: SwitchBytes,
 }
 
 /// What a dump answers.
 #[derive(Clone, Copy, PartialEq, Eq, Debug)]
 pub struct Dumped {
-    /// SUCCESS, BUFFER_TOO_SMALL or VOLUME_CORRUPTED.
+    /// SUCCESS, UNSUPPORTED, BUFFER_TOO_SMALL or VOLUME_CORRUPTED.
     pub status: Status,
-    /// The length written or, with BUFFER_TOO_SMALL, needed.
+    /// The length written or, with BUFFER_TOO_SMALL, needed; else 0.
     pub length: usize,
 }
 
@@ -106,7 +106,7 @@ pub struct ReaderEntry {
 }
 
 /// Power-on. Fills `volatile` with 0xFF and `policy` with zeros; the engine is then enabled,
-/// unlocked and empty.
+/// unlocked and empty, and has not exited.
 ///
 /// * VOLUME_CORRUPTED: `nv` is unsound, `volatile` has more than 32,768 bytes, or `policy` does not
 ///   have [`POLICY_BYTES`](crate::POLICY_BYTES).
@@ -149,6 +149,7 @@ pub fn restart(nv: &[u8], volatile: &[u8], policy: &mut [u8], disabling_allowed:
 /// Registers a packed entry. A disabled engine still registers.
 ///
 /// * VOLUME_CORRUPTED: `policy` is not a policy record.
+/// * UNSUPPORTED: the engine has exited; see [`exit`].
 /// * WRITE_PROTECTED: the engine is locked.
 /// * INVALID_PARAMETER: the entry is malformed; `#` in its trigger's name makes it so.
 /// * ALREADY_STARTED: an entry of the same namespace and name is registered.
@@ -165,15 +166,19 @@ pub fn register(policy: &mut [u8], switches: impl Into<SwitchBytes>, entry: &[u8
 /// Writes the entries, one behind the other as they were registered, to the start of `buffer`; later bytes stay.
 ///
 /// * VOLUME_CORRUPTED: `policy` is not a policy record.
+/// * UNSUPPORTED: the engine has exited.
 /// * BUFFER_TOO_SMALL: `buffer` is shorter than the sum of Sizes, which is the length answered.
-pub fn dump(policy: &[u8], buffer: &mut [u8]) -> Dumped {
+pub fn dump(policy: &[u8], switches: impl Into<SwitchBytes>, buffer: &mut [u8]) -> Dumped {
     // SAFETY: each pointer and length is of one live slice, the mutable one apart from the other.
-    let answer = unsafe { abi::varpolicy_dump(policy.as_ptr(), policy.len(), buffer.as_mut_ptr(), buffer.len()) };
+    let answer = unsafe {
+        abi::varpolicy_dump(policy.as_ptr(), policy.len(), switches.into(), buffer.as_mut_ptr(), buffer.len())
+    };
     Dumped { status: Status::answered(answer.status), length: answer.length }
 }
 
 /// Closes registration until the next power-on or restart: `locked` is then 1.
 ///
+/// * UNSUPPORTED: the engine has exited.
 /// * WRITE_PROTECTED: locked already.
 pub fn lock(switches: &mut SwitchBytes) -> Status {
     // SAFETY: the pointer is of one live record that nothing else refers to.
@@ -182,6 +187,7 @@ pub fn lock(switches: &mut SwitchBytes) -> Status {
 
 /// Turns enforcement off until the next power-on or restart: `enabled` is then 0.
 ///
+/// * UNSUPPORTED: the engine has exited.
 /// * ALREADY_STARTED: disabled already.
 /// * WRITE_PROTECTED: locked, or disabling is not allowed.
 pub fn disable(switches: &mut SwitchBytes) -> Status {
@@ -189,7 +195,18 @@ pub fn disable(switches: &mut SwitchBytes) -> Status {
     Status::answered(unsafe { abi::varpolicy_disable(switches) })
 }
 
-/// Tells whether entries are enforced. The status is always SUCCESS.
+/// Tells the engine that the operating system starts and boot services are gone: `exited` is then 1, until the next
+/// power-on or restart. Meanwhile the policy is neither added to, handed out, locked nor disabled; reads show variables
+/// with RT alone; a set needs NV, BS and RT; and volatile variables are neither written nor deleted. Entries are enforced
+/// as before, also by triggers that can no longer be read.
+///
+/// * UNSUPPORTED: exited already.
+pub fn exit(switches: &mut SwitchBytes) -> Status {
+    // SAFETY: the pointer is of one live record that nothing else refers to.
+    Status::answered(unsafe { abi::varpolicy_exit(switches) })
+}
+
+/// Tells whether entries are enforced, after exit too. The status is always SUCCESS.
 pub fn query(switches: impl Into<SwitchBytes>) -> (Status, bool) {
     // SAFETY: only values are passed.
     let answer = unsafe { abi::varpolicy_query(switches.into()) };
@@ -200,8 +217,14 @@ pub fn query(switches: impl Into<SwitchBytes>) -> (Status, bool) {
 ///
 /// * VOLUME_CORRUPTED: the stores are unsound.
 /// * INVALID_PARAMETER: the name is not 1 to 64 units, none of them zero, or its bytes are odd in number.
-/// * NOT_FOUND: no such variable.
-pub fn read<'a>(nv: &'a [u8], volatile: &'a [u8], namespace: &Namespace, name: &[u8]) -> Found<'a> {
+/// * NOT_FOUND: no such variable; or the engine has exited, and the variable has no RT.
+pub fn read<'a>(
+    nv: &'a [u8],
+    volatile: &'a [u8],
+    switches: impl Into<SwitchBytes>,
+    namespace: &Namespace,
+    name: &[u8],
+) -> Found<'a> {
     // SAFETY: each pointer and length is of one live slice, and nothing is written.
     let answer = unsafe {
         abi::varpolicy_read(
@@ -209,6 +232,7 @@ pub fn read<'a>(nv: &'a [u8], volatile: &'a [u8], namespace: &Namespace, name: &
             nv.len(),
             volatile.as_ptr(),
             volatile.len(),
+            switches.into(),
             namespace,
             name.as_ptr(),
             name.len(),
@@ -244,12 +268,14 @@ pub struct Request<'a> {
 ///   or the payload is longer than 1,024 bytes.
 /// * UNSUPPORTED: an attribute bit outside 0x47.
 /// * INVALID_PARAMETER: RT or APPEND without BS.
+/// * INVALID_PARAMETER: the engine has exited, this is no deletion, and the attributes are without NV, BS or RT.
 /// * If the engine is enabled and an entry is chosen, and unless this is a deletion,
 ///   INVALID_PARAMETER: the payload as it would be afterwards, an append's with what is stored, is
 ///   shorter than MinSize or longer than MaxSize ([`Ground::Size`]), or the attributes lack a required
 ///   bit or have a prohibited one ([`Ground::Attributes`]). Then, for a deletion too, WRITE_PROTECTED:
 ///   the entry locks the variable ([`Ground::Lock`]).
-/// * NOT_FOUND: the variable to delete does not exist.
+/// * NOT_FOUND: the variable to delete does not exist; or the engine has exited, and the variable has no RT.
+/// * WRITE_PROTECTED: the engine has exited, and the variable to delete is volatile.
 /// * INVALID_PARAMETER: the variable exists with other attributes.
 /// * OUT_OF_RESOURCES: an append would make the payload longer than 1,024 bytes, or the records
 ///   would be longer than their store.

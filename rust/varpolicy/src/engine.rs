@@ -2,8 +2,8 @@ use crate::calls::{self, Dumped, Request, Started};
 use crate::{Attributes, Namespace, Quarrel, Refused, Status, SwitchBytes, Switches, quarrels};
 
 /// An engine over three lent byte slices, with its switches. Every method but [`Engine::resume`],
-/// [`Engine::switches`] and [`Engine::quarrels`] is one call of [`calls`]; a refusal is an `Err` and leaves everything
-/// as it was.
+/// [`Engine::switches`], [`Engine::has_exited`] and [`Engine::quarrels`] is one call of [`calls`]; a refusal is an `Err`
+/// and leaves everything as it was.
 ///
 /// A refused start does not end an engine that is running, which keeps its own switches:
 /// [`Engine::power_on_again`] and [`Engine::restart_again`] leave it as it was, and after a refused
@@ -48,7 +48,7 @@ pub struct Variable<'a> {
 /// A refused dump.
 #[derive(Clone, Copy, PartialEq, Eq, Debug)]
 pub struct NotDumped {
-    /// BUFFER_TOO_SMALL or VOLUME_CORRUPTED.
+    /// BUFFER_TOO_SMALL, UNSUPPORTED or VOLUME_CORRUPTED.
     pub status: Status,
     /// The needed length, with BUFFER_TOO_SMALL; else 0.
     pub needed: usize,
@@ -121,7 +121,7 @@ impl<'a> Engine<'a> {
 
     /// Dumps the entries and tells their length: see [`calls::dump`].
     pub fn dump(&self, buffer: &mut [u8]) -> Result<usize, NotDumped> {
-        let dumped = calls::dump(self.policy, buffer);
+        let dumped = calls::dump(self.policy, self.switches, buffer);
         match dumped.status {
             Status::Success => Ok(dumped.length),
             status => Err(NotDumped { status, needed: dumped.length }),
@@ -134,8 +134,9 @@ impl<'a> Engine<'a> {
     /// It needs no buffer: a dump into none tells the length, and the policy record begins with the entries.
     ///
     /// * VOLUME_CORRUPTED: the lent policy record is not one.
+    /// * UNSUPPORTED: the engine has exited, and nothing is told of its entries; ask of a dump that was made before.
     pub fn quarrels(&self) -> Result<Option<Quarrel>, Status> {
-        match calls::dump(self.policy, &mut []) {
+        match calls::dump(self.policy, self.switches, &mut []) {
             Dumped { status: Status::Success | Status::BufferTooSmall, length } => quarrels(&self.policy[..length]),
             refused => Err(refused.status),
         }
@@ -151,6 +152,16 @@ impl<'a> Engine<'a> {
         calls::disable(&mut self.switches).ok()
     }
 
+    /// Tells the engine that the operating system starts: see [`calls::exit`].
+    pub fn exit(&mut self) -> Result<(), Status> {
+        calls::exit(&mut self.switches).ok()
+    }
+
+    /// Whether the operating system has started: since a granted [`Engine::exit`] no start was granted.
+    pub fn has_exited(&self) -> bool {
+        self.switches().exited
+    }
+
     /// Whether entries are enforced: see [`calls::query`].
     pub fn is_enabled(&self) -> bool {
         calls::query(self.switches).1
@@ -158,7 +169,7 @@ impl<'a> Engine<'a> {
 
     /// Reads a variable: see [`calls::read`].
     pub fn read(&self, namespace: &Namespace, name: &[u8]) -> Result<Variable<'_>, Status> {
-        let found = calls::read(self.nv, self.volatile, namespace, name);
+        let found = calls::read(self.nv, self.volatile, self.switches, namespace, name);
         found.status.ok()?;
         Ok(Variable { attributes: found.attributes, payload: found.payload })
     }

@@ -1,7 +1,7 @@
 //! Safe calls of `libvarpolicy.a`, the proved engine for UEFI variable policy.
 //!
 //! The engine keeps no memory of its own. The caller lends it two stores of variables (non-volatile
-//! and volatile, 0 to [`MAX_STORE_BYTES`] each), a policy record of [`POLICY_BYTES`], and three switches. A call
+//! and volatile, 0 to [`MAX_STORE_BYTES`] each), a policy record of [`POLICY_BYTES`], and four switches. A call
 //! checks all of each store and policy record that it is lent; but of the volatile store at power-on,
 //! and of the policy record at power-on and restart, it checks the length alone. Of the switches every
 //! byte has a meaning. A call that is refused leaves everything as it was.
@@ -29,6 +29,11 @@
 //! assert_eq!((refused.status, refused.report.ground), (Status::WriteProtected, Ground::Lock));
 //! assert_eq!(refused.to_string(), "WRITE_PROTECTED: entry 0 (rank 0) locks the variable");
 //! assert_eq!(engine.read(&board, &serial)?.payload, b"0042");
+//!
+//! // The operating system starts: what has no RT is not for it.
+//! engine.exit()?;
+//! assert_eq!(engine.read(&board, &serial), Err(Status::NotFound));
+//! assert_eq!(engine.lock(), Err(Status::Unsupported));
 //! # Ok::<(), Status>(())
 //! ```
 #![no_std]

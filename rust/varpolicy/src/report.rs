@@ -57,7 +57,7 @@ pub struct Report {
     /// Why the chosen entry refused the set.
     pub ground: Ground,
     /// The place of that entry, counted from 0 as a dump has them. A refused set changes nothing, so the entry is
-    /// still there.
+    /// still there, and before exit a dump has it.
     pub place: u32,
     /// How many `#` the name of that entry has, or [`WHOLE_NAMESPACE_RANK`].
     pub rank: u32,

@@ -8,17 +8,18 @@ pub enum Status {
     Success = 0,
     /// A malformed entry, name, size or attributes.
     InvalidParameter = 2,
-    /// An attribute bit outside 0x47.
+    /// An attribute bit outside 0x47, or a call that is not to be had after exit.
     Unsupported = 3,
     /// The buffer of a dump is too short; how long it must be is told too.
     BufferTooSmall = 5,
-    /// The engine or the variable is locked.
+    /// The engine or the variable is locked, or disabling is not allowed; after exit also: the variable to delete is
+    /// volatile.
     WriteProtected = 8,
     /// No room in the store, the policy record or the variable.
     OutOfResources = 9,
     /// A lent store is unsound, or the lent policy record is not one.
     VolumeCorrupted = 10,
-    /// No such variable.
+    /// No such variable, or after exit one without RT.
     NotFound = 14,
     /// The entry is registered already, or the engine is disabled already.
     AlreadyStarted = 20,

@@ -16,14 +16,14 @@ fn name(text: &str) -> Name {
 fn power_on_wipes_what_it_should() {
     let (nv, mut volatile, mut policy) = ([0xFF; 64], [7; 65], [9; POLICY_BYTES]);
     let started = calls::power_on(&nv, &mut volatile, &mut policy, true);
-    let fresh = Switches { enabled: true, locked: false, disabling_allowed: true };
+    let fresh = Switches { enabled: true, locked: false, disabling_allowed: true, exited: false };
     assert_eq!((started.status, started.switches), (Status::Success, fresh.into()));
     assert_eq!((volatile, policy), ([0xFF; 65], [0; POLICY_BYTES]));
 }
 
 #[test]
 fn refused_starts_hand_back_closed_switches_and_write_nothing() {
-    let closed = Switches { enabled: true, locked: true, disabling_allowed: false };
+    let closed = Switches { enabled: true, locked: true, disabling_allowed: false, exited: false };
     let (mut volatile, mut policy) = ([7; 65], [9; POLICY_BYTES]);
     for started in [
         calls::power_on(&[0; 4], &mut volatile, &mut policy, true),
@@ -78,8 +78,12 @@ fn entries_are_registered_dumped_and_enforced() {
     assert!(!engine.is_enabled());
     engine.lock().unwrap();
     assert_eq!(engine.lock(), Err(Status::WriteProtected));
-    assert_eq!(engine.switches(), Switches { enabled: false, locked: true, disabling_allowed: true });
+    let used = Switches { enabled: false, locked: true, disabling_allowed: true, exited: false };
+    assert_eq!(engine.switches(), used);
     engine.delete(&G, &name("A")).unwrap();
+    engine.exit().unwrap();
+    assert_eq!(engine.exit(), Err(Status::Unsupported));
+    assert_eq!(engine.switches(), Switches { exited: true, ..used });
 }
 
 /// Two stores, and a policy record with these entries, at their places.
@@ -171,6 +175,114 @@ fn no_ground_but_of_an_entry() {
     assert_eq!(bench.set("A0", bs, &[1, 2, 3]), (Status::Success, Report::NONE));
     bench.policy[POLICY_BYTES - 1] = 1;
     assert_eq!(bench.set("A0", bs, &[1, 2, 3]), (Status::VolumeCorrupted, Report::NONE));
+}
+
+/// NV, BS and RT, with which alone a set is granted after exit.
+const ALL: Attributes = Attributes(7);
+
+/// The stores of docs/RULES.md, 13, with these entries: `A` with NV and BS, `B` with BS and RT, `C` with all; after exit.
+fn exited(entries: &[Entry]) -> Bench {
+    let mut bench = Bench::with(&[]);
+    for (name, attributes) in [("A", Attributes(3)), ("B", Attributes(6)), ("C", ALL)] {
+        assert_eq!(bench.set(name, attributes, &[1]), (Status::Success, Report::NONE));
+    }
+    for entry in entries {
+        assert_eq!(calls::register(&mut bench.policy, bench.switches, &entry.pack()), Status::Success);
+    }
+    assert_eq!(calls::exit(&mut bench.switches), Status::Success);
+    bench
+}
+
+#[test]
+fn after_exit_the_policy_is_closed_and_a_damaged_record_is_told_first() {
+    let mut bench = exited(&three_grounds());
+    let entry = Entry::new(G, name("D")).pack();
+    for status in [Status::Unsupported, Status::VolumeCorrupted] {
+        let (policy, switches) = (bench.policy, bench.switches);
+        assert_eq!(calls::register(&mut bench.policy, switches, &entry), status);
+        assert_eq!(calls::register(&mut bench.policy, switches, &entry[..43]), status, "a malformed one");
+        let mut buffer = [7; 200];
+        for room in [0, 200] {
+            let dumped = calls::dump(&bench.policy, switches, &mut buffer[..room]);
+            assert_eq!((dumped.status, dumped.length), (status, 0));
+        }
+        assert_eq!((buffer, bench.policy), ([7; 200], policy));
+        assert_eq!(calls::lock(&mut bench.switches), Status::Unsupported);
+        assert_eq!(calls::disable(&mut bench.switches), Status::Unsupported);
+        assert_eq!(calls::exit(&mut bench.switches), Status::Unsupported);
+        assert_eq!((bench.switches, calls::query(switches)), (switches, (Status::Success, true)));
+        bench.policy[POLICY_BYTES - 1] = 1;
+    }
+}
+
+#[test]
+fn after_exit_a_read_shows_what_has_rt() {
+    let bench = exited(&[]);
+    let read = |name: &str| calls::read(&bench.nv, &bench.volatile, bench.switches, &G, &Name::new(name).unwrap());
+    let shown = |name| (read(name).status, read(name).attributes, read(name).payload.to_vec());
+    assert_eq!(shown("B"), (Status::Success, Attributes(6), vec![1]));
+    assert_eq!(shown("C"), (Status::Success, ALL, vec![1]));
+    let hidden = read("A");
+    assert_eq!(hidden, read("D"));
+    assert_eq!((hidden.status, hidden.attributes, hidden.payload), (Status::NotFound, Attributes::NONE, &[][..]));
+    assert!(!hidden.non_volatile && hidden.offset == 0);
+    assert_eq!(read("").status, Status::InvalidParameter);
+    let damaged = calls::read(&[0; 4], &bench.volatile, bench.switches, &G, b"A\0");
+    assert_eq!(damaged.status, Status::VolumeCorrupted);
+}
+
+#[test]
+fn after_exit_a_set_needs_nv_bs_and_rt() {
+    let mut bench = exited(&[]);
+    let refused = (Status::InvalidParameter, Report::NONE);
+    let granted = (Status::Success, Report::NONE);
+    for bits in 0..8 {
+        let plain = if bits == 7 { granted } else { refused };
+        assert_eq!(bench.set("D", Attributes(bits | 0x40), &[1]), plain, "append, {bits}");
+        let deletion = bits & 6 == 0;
+        let expected = match (deletion, bits) {
+            (true, _) => (Status::NotFound, Report::NONE),
+            _ => plain,
+        };
+        assert_eq!(bench.set("D", Attributes(bits), &[1]), expected, "{bits}");
+    }
+    assert_eq!(bench.set("D", Attributes(0x47), &[]), granted, "an empty append");
+    assert_eq!(bench.set("D", Attributes(8), &[1]), (Status::Unsupported, Report::NONE));
+    for stored in ["A", "B"] {
+        assert_eq!(bench.set(stored, ALL, &[1]), refused, "it is stored with other attributes: {stored}");
+    }
+}
+
+#[test]
+fn after_exit_a_deletion_needs_rt_and_nv() {
+    let mut bench = exited(&[]);
+    for (name, status) in [
+        ("E", Status::NotFound),
+        ("A", Status::NotFound),
+        ("B", Status::WriteProtected),
+        ("C", Status::Success),
+        ("C", Status::NotFound),
+    ] {
+        assert_eq!(bench.set(name, Attributes::NONE, &[]), (status, Report::NONE), "{name}");
+    }
+}
+
+/// The chosen entry is asked before step 5, also by what can no longer be read.
+#[test]
+fn after_exit_entries_are_enforced() {
+    let on_state = |trigger: &str| Lock::OnVarState { namespace: G, name: name(trigger), value: 1 };
+    let entry = |lock| Entry { lock, max_size: 1, ..Entry::new(G, Name::EMPTY) };
+    let report = |ground| Report { ground, rank: 65, ..Report::NONE };
+    for lock in [Lock::Now, on_state("A"), on_state("B")] {
+        let mut bench = exited(&[entry(lock)]);
+        let locked = (Status::WriteProtected, report(Ground::Lock));
+        for name in ["A", "B", "C", "D"] {
+            assert_eq!(bench.set(name, Attributes::NONE, &[]), locked, "{name}");
+            assert_eq!(bench.set(name, ALL, &[2]), locked, "{name}");
+            assert_eq!(bench.set(name, Attributes(3), &[2]), (Status::InvalidParameter, Report::NONE), "{name}");
+        }
+        assert_eq!(bench.set("C", ALL, &[1, 2]), (Status::InvalidParameter, report(Ground::Size)));
+    }
 }
 
 #[test]

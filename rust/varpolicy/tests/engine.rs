@@ -1,11 +1,14 @@
-//! An engine that is started anew: refused, it keeps its own switches and its history goes on. An engine that refuses a
-//! set, and the sentence that it tells.
+//! An engine that is started anew: refused, it keeps its own switches and its history goes on. An engine that has exited.
+//! An engine that refuses a set, and the sentence that it tells.
 
-use varpolicy::{Attributes, Engine, Entry, Ground, Lock, Name, POLICY_BYTES, Refused, Report, Status, Switches};
+use varpolicy::{
+    Attributes, Engine, Entry, Ground, Lock, Name, NotDumped, POLICY_BYTES, Refused, Report, Status, Switches,
+};
 
 const G: [u8; 16] = [0x5C, 0x67, 0xD1, 0x81, 0xF6, 0x86, 0xDF, 0x48, 0xBD, 0x95, 0x9A, 0x6E, 0x4F, 0x09, 0x25, 0xC3];
-const FRESH: Switches = Switches { enabled: true, locked: false, disabling_allowed: false };
-const USED: Switches = Switches { enabled: false, locked: true, disabling_allowed: true };
+const FRESH: Switches = Switches { enabled: true, locked: false, disabling_allowed: false, exited: false };
+const USED: Switches = Switches { enabled: false, locked: true, disabling_allowed: true, exited: false };
+const EXITED: Switches = Switches { exited: true, ..USED };
 
 /// What an engine is lent.
 struct Lent {
@@ -100,6 +103,83 @@ fn a_refused_power_on_leaves_the_engine_its_switches() {
     assert_eq!(engine.power_on_again(false), Err(Status::VolumeCorrupted));
     expect_used(&mut engine);
     assert_eq!(lent.volatile, volatile);
+}
+
+/// The engine as `Lent::used` left it, but for the stores and after exit.
+fn expect_exited(engine: &mut Engine) {
+    assert_eq!((engine.switches(), engine.has_exited(), engine.is_enabled()), (EXITED, true, false));
+    assert_eq!(engine.dump(&mut [0; 100]), Err(NotDumped { status: Status::Unsupported, needed: 0 }));
+    assert_eq!(engine.register(&Entry::new(G, name("C")).pack()), Err(Status::Unsupported));
+    assert_eq!(engine.lock(), Err(Status::Unsupported));
+    assert_eq!(engine.disable(), Err(Status::Unsupported));
+    assert_eq!(engine.exit(), Err(Status::Unsupported));
+}
+
+#[test]
+fn after_exit_an_engine_shows_what_has_rt() {
+    let mut lent = Lent::used();
+    let mut engine = lent.resumed();
+    let all = Attributes::NV | Attributes::BS | Attributes::RT;
+    engine.set(&G, &name("C"), all, &[3]).unwrap();
+    assert!(!engine.has_exited());
+    engine.exit().unwrap();
+    expect_exited(&mut engine);
+    assert_eq!(engine.read(&G, &name("C")).unwrap().payload, [3]);
+    assert_eq!(engine.read(&G, &name("A")), Err(Status::NotFound));
+    assert_eq!(engine.read(&G, &name("B")), Err(Status::NotFound));
+    engine.set(&G, &name("C"), all, &[4]).unwrap();
+    engine.delete(&G, &name("C")).unwrap();
+    let told = |refused: Result<(), Refused>| refused.unwrap_err().to_string();
+    assert_eq!(told(engine.set(&G, &name("C"), Attributes::BS, &[4])), "INVALID_PARAMETER");
+    assert_eq!(told(engine.delete(&G, &name("A"))), "NOT_FOUND");
+}
+
+#[test]
+fn a_granted_start_ends_what_an_exit_began() {
+    for power_on in [true, false] {
+        let mut lent = Lent::used();
+        let mut engine = lent.resumed();
+        engine.exit().unwrap();
+        match power_on {
+            true => engine.power_on_again(false).unwrap(),
+            false => engine.restart_again(false).unwrap(),
+        }
+        assert_eq!((engine.switches(), engine.dump(&mut [])), (FRESH, Ok(0)));
+        assert_eq!(engine.read(&G, &name("A")).unwrap().payload, [1]);
+        engine.exit().unwrap();
+    }
+}
+
+#[test]
+fn a_refused_start_leaves_the_engine_exited() {
+    let mut lent = Lent::used();
+    lent.nv[0] = 0;
+    let mut engine = Engine::resume(&mut lent.nv, &mut lent.volatile, &mut lent.policy, EXITED);
+    assert_eq!(engine.power_on_again(true), Err(Status::VolumeCorrupted));
+    expect_exited(&mut engine);
+    assert_eq!(engine.restart_again(true), Err(Status::VolumeCorrupted));
+    expect_exited(&mut engine);
+}
+
+/// An engine is made anew from a dump that was made before the exit, as often as wanted.
+#[test]
+fn an_engine_that_has_exited_is_rebuilt_from_an_earlier_dump() {
+    let mut lent = Lent::used();
+    let mut buffer = [0; 100];
+    let length = lent.resumed().dump(&mut buffer).unwrap();
+    let mut engine = lent.resumed();
+    engine.exit().unwrap();
+    for _ in 0..2 {
+        let old = engine.switches();
+        engine.restart_again(old.disabling_allowed).unwrap();
+        engine.register(&buffer[..length]).unwrap();
+        engine.disable().unwrap();
+        engine.lock().unwrap();
+        engine.exit().unwrap();
+        expect_exited(&mut engine);
+    }
+    let as_it_was = Lent::used();
+    assert!(lent.nv == as_it_was.nv && lent.volatile == as_it_was.volatile && lent.policy == as_it_was.policy);
 }
 
 /// A set and a delete of `A` by an engine with this entry; the first that is refused.

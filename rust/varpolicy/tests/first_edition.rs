@@ -18,7 +18,7 @@ const SIGNS: &[u8] = include_bytes!("first_edition/signs.dump");
 const DUMPS: [(&[u8], &[usize]); 4] =
     [(FULL_COUNT, &[]), (FULL_SUM, &[]), (MIXED, &[7, 11, 19, 23]), (SIGNS, &[0, 10, 19])];
 
-const OPEN: SwitchBytes = SwitchBytes { enabled: 1, locked: 0, disabling_allowed: 0 };
+const OPEN: SwitchBytes = SwitchBytes { enabled: 1, locked: 0, disabling_allowed: 0, exited: 0 };
 
 /// The entries of a dump: each takes as many bytes as its Size says.
 fn entries(mut dump: &[u8]) -> Vec<&[u8]> {
@@ -81,9 +81,9 @@ fn entries_with_a_sign_in_the_trigger_are_refused_and_the_others_come_back() {
         let old = others.concat();
         assert_eq!(old == dump, refused.is_empty());
         let mut buffer = vec![0x5A; old.len() + 1];
-        let short = calls::dump(&policy, &mut buffer[..old.len() - 1]);
+        let short = calls::dump(&policy, OPEN, &mut buffer[..old.len() - 1]);
         assert_eq!((short.status, short.length), (Status::BufferTooSmall, old.len()));
-        let dumped = calls::dump(&policy, &mut buffer);
+        let dumped = calls::dump(&policy, OPEN, &mut buffer);
         assert_eq!((dumped.status, dumped.length), (Status::Success, old.len()));
         assert_eq!(buffer, [&old[..], &[0x5A]].concat());
         assert_eq!((nv, volatile), ([0xFF; 64], [0xFF; 64]));
@@ -97,7 +97,7 @@ fn answers_to(content: &[u8]) -> [Status; 3] {
     let (mut policy, mut buffer, mut volatile) = (content.to_vec(), vec![9; POLICY_BYTES], [0xFF; 64]);
     let registered = calls::register(&mut policy, OPEN, &entry);
     assert_eq!(policy == content, registered != Status::Success);
-    let dumped = calls::dump(content, &mut buffer);
+    let dumped = calls::dump(content, OPEN, &mut buffer);
     assert_eq!(dumped.length > 0, dumped.status == Status::Success);
     assert!(dumped.status == Status::Success || buffer == [9; POLICY_BYTES]);
     let request = Request { namespace: &[0x77; 16], name: &name, attributes: Attributes::BS, payload: b"1" };

@@ -110,8 +110,10 @@ fn header_and_crate_have_the_same_records() {
 fn renamed() -> Vec<(&'static str, &'static str)> {
     let lines = HEADER.lines().filter_map(|line| line.strip_prefix("#define varpolicy_"));
     lines
-        .filter_map(|line| line.split_once(' '))
-        .map(|(name, behind)| (name, behind.split(' ').next().unwrap()))
+        .map(|line| {
+            let mut words = line.split_whitespace();
+            (words.next().expect("a name"), words.next().expect("its name in the archive"))
+        })
         .collect()
 }
 
@@ -122,4 +124,29 @@ fn header_and_crate_link_the_same_functions() {
         assert!(RECORDS.contains(&declared), "{name}");
     }
     assert_eq!(RECORDS.matches("#[link_name").count(), renamed().len());
+}
+
+/// The names of all functions that the header declares.
+fn functions() -> Vec<&'static str> {
+    let declared = HEADER.lines().filter_map(|line| line.strip_prefix("varpolicy_")?.strip_suffix(" ("));
+    declared.collect()
+}
+
+/// Whether one function of the header is lent the switches, is given them or hands them back.
+fn has_switches(function: &str) -> bool {
+    let (before, behind) = HEADER.split_once(&format!("\nvarpolicy_{function} (\n")).expect("its declaration");
+    let (parameters, _) = behind.split_once(");").expect("its parameters");
+    before.ends_with("varpolicy_started") || parameters.contains("varpolicy_switches")
+}
+
+/// E10 gave the switches a fourth byte: what was compiled with three may not link. `exit` is as old as the fourth.
+#[test]
+fn every_function_with_switches_has_the_name_of_e10() {
+    let mut with_switches: Vec<&str> = functions().into_iter().filter(|function| has_switches(function)).collect();
+    assert_eq!(with_switches.len(), 10);
+    with_switches.retain(|function| *function != "exit");
+    let expected: Vec<(&str, String)> =
+        with_switches.into_iter().map(|function| (function, format!("varpolicy_{function}_e10"))).collect();
+    let renamed: Vec<(&str, String)> = renamed().into_iter().map(|(name, archived)| (name, archived.into())).collect();
+    assert_eq!(renamed, expected);
 }

@@ -34,10 +34,10 @@ fn registered(entries: &[Vec<u8>]) -> Vec<Status> {
 
 /// What a dump, a registration and a set of a new variable answer to a lent policy record.
 fn answers_to(mut policy: Vec<u8>) -> [Status; 3] {
-    let switches = Switches { enabled: false, locked: false, disabling_allowed: true };
+    let switches = Switches { enabled: false, locked: false, disabling_allowed: true, exited: false };
     let request = Request { namespace: &namespace(0), name: b"N\0", attributes: Attributes::BS, payload: b"1" };
     let set = calls::set(&mut [], &mut [0xFF; 64], &policy, switches, request).status;
-    let dump = calls::dump(&policy, &mut vec![0; MAX_ENTRIES * MIN_ENTRY_SIZE]).status;
+    let dump = calls::dump(&policy, switches, &mut vec![0; MAX_ENTRIES * MIN_ENTRY_SIZE]).status;
     [dump, calls::register(&mut policy, switches, &shortest(POLICY_BYTES)), set]
 }
 

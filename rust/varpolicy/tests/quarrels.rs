@@ -207,6 +207,9 @@ fn an_engine_tells_of_its_own_entries() {
     assert_eq!(quarrels(&buffer[..length]), Ok(Some(quarrel)));
     assert_eq!(quarrels(&buffer), Err(Status::InvalidParameter), "the buffer, with zeros behind the entries");
     engine.lock().unwrap();
+    assert_eq!(engine.quarrels(), Ok(Some(quarrel)));
+    engine.exit().unwrap();
+    assert_eq!(engine.quarrels(), Err(Status::Unsupported));
     let switches = engine.switches();
     policy[POLICY_BYTES - 1] = 1;
     let engine = Engine::resume(&mut nv, &mut volatile, &mut policy, switches);

@@ -40,7 +40,7 @@ fn lines(reader: &Reader) -> Vec<String> {
 
 /// The same of a dump, by registering one entry after the other.
 fn expected(dump: &[u8]) -> Vec<String> {
-    let open = Switches { enabled: true, locked: false, disabling_allowed: false };
+    let open = Switches { enabled: true, locked: false, disabling_allowed: false, exited: false };
     let mut policy = [0; POLICY_BYTES];
     let (mut lines, mut at) = (vec![], 0);
     while at < dump.len() {

@@ -1,5 +1,5 @@
 -- `engine::dump` meets its contract: each return is one law of `Registered.antt`. Assumes nothing.
-use Rattle.engine.proofs.Registered.{dump-invalid, dump-needs, dump-granted}
+use Rattle.engine.proofs.Registered.{dump-invalid, dump-exited, dump-needs, dump-granted}
 use Rattle.engine.proofs.Checked.{dump-short, dump-done}
 use Rattle.policy.specs.PolicyLaws.{Checked, sizesSum-flat, check-valid, check-invalid}
 use Rattle.policy.specs.Policy.{entriesOf}
@@ -26,6 +26,10 @@ Buffer c = Start c .args .buffer .now
 valid : (c : tie.After-checked) → Checked (Policy c) (c .checked .given .0 .0) (c .checked .given .0 .1 .0)
 valid c = check-valid _ _ _ (sym (c .before .before .check .ensures) ∙ c .checked .given .1)
 
+-- the engine not exited
+abbrev Valid : tie.Else1 → tie.After-checked
+Valid u = u .before .before
+
 -- ---- the needs
 check-requires : tie.Need-check-requires
 check-requires c κs = search needs
@@ -37,28 +41,31 @@ enum-told : tie.Need-enum-told
 enum-told c = search needs
 
 returns : tie.Need-returns
-returns c = dump-invalid _ _ (check-invalid _ (sym (c .before .before .check .ensures) ∙ c .enum-told .given .1))
+returns c = dump-invalid _ _ _ (check-invalid _ (sym (c .before .before .check .ensures) ∙ c .enum-told .given .1))
 
 returns-2 : tie.Need-returns-2
-returns-2 c =
-    let v = c .before .before in
+returns-2 c = dump-exited _ _ _ (valid (c .before .before) .valid) (c .if1 .taken)
+
+returns-3 : tie.Need-returns-3
+returns-3 c =
+    let v = Valid (c .before) in
     let k = valid v in
-    let m : length (Buffer v) < length (flat (entriesOf (Policy v))) = omega (arith, k .summed, sizesSum-flat (Policy v), c .if1 .taken) in
-    dump-needs _ _ (k .valid) (k .summed) (dump-short _ _ m)
+    let m : length (Buffer v) < length (flat (entriesOf (Policy v))) = omega (arith, k .summed, sizesSum-flat (Policy v), c .if2 .taken) in
+    dump-needs _ _ _ (k .valid) (c .before .if1 .left) (k .summed) (dump-short _ _ m)
 
 dump-into-requires : tie.Need-dump-into-requires
-dump-into-requires c κs = let k = valid (c .before .before .before) in (k .summed, omega (arith, c .before .if1 .left))
+dump-into-requires c κs = let k = valid (Valid (c .before .before)) in (k .summed, omega (arith, c .before .if2 .left))
 
 same-length : tie.Need-same-length
 same-length c = search needs
 
-returns-3 : tie.Need-returns-3
-returns-3 c =
+returns-4 : tie.Need-returns-4
+returns-4 c =
     let r = c .before .before .before .before in
-    let v = r .before .before in
+    let v = Valid (r .before) in
     let k = valid v in
-    let m : length (flat (entriesOf (Policy v))) ≤ length (Buffer v) = omega (arith, k .summed, sizesSum-flat (Policy v), r .if1 .left) in
-    dump-granted _ _ (k .valid) (k .summed) (dump-done _ _ m) (c .before .before .dump-into .ensures)
+    let m : length (flat (entriesOf (Policy v))) ≤ length (Buffer v) = omega (arith, k .summed, sizesSum-flat (Policy v), r .if2 .left) in
+    dump-granted _ _ _ (k .valid) (r .before .if1 .left) (k .summed) (dump-done _ _ m) (c .before .before .dump-into .ensures)
 
 pub dump-spec : {M : Type 1} → statement M
 dump-spec =
@@ -69,6 +76,7 @@ dump-spec =
     enum-told
     returns
     returns-2
+    returns-3
     dump-into-requires
     same-length
-    returns-3)
+    returns-4)

@@ -8,34 +8,34 @@ read-requires : tie.Need-read-requires
 read-requires c κs = search needs
 
 sub-result : tie.Need-sub-result
-sub-result c = named-from _ _ _ (c .before .read .ensures .0) (c .before .read .ensures .1)
+sub-result c = named-from _ _ _ _ (c .before .read .ensures .0) (c .before .read .ensures .1)
 
 part-result-start : tie.Need-part-result-start
-part-result-start c = named-from _ _ _ (c .before .read .ensures .0) (c .before .read .ensures .1)
+part-result-start c = named-from _ _ _ _ (c .before .read .ensures .0) (c .before .read .ensures .1)
 
 part-result-end : tie.Need-part-result-end
-part-result-end c = within-nv _ _ _ (c .before .read .ensures .0) (c .before .read .ensures .1) (c .if1 .taken)
+part-result-end c = within-nv _ _ _ _ (c .before .read .ensures .0) (c .before .read .ensures .1) (c .if1 .taken)
 
 sub-result-2 : tie.Need-sub-result-2
-sub-result-2 c = named-from _ _ _ (c .before .read .ensures .0) (c .before .read .ensures .1)
+sub-result-2 c = named-from _ _ _ _ (c .before .read .ensures .0) (c .before .read .ensures .1)
 
 part-result-start-2 : tie.Need-part-result-start-2
-part-result-start-2 c = named-from _ _ _ (c .before .read .ensures .0) (c .before .read .ensures .1)
+part-result-start-2 c = named-from _ _ _ _ (c .before .read .ensures .0) (c .before .read .ensures .1)
 
 part-result-end-2 : tie.Need-part-result-end-2
-part-result-end-2 c = within-vol _ _ _ (c .before .read .ensures .0) (c .before .read .ensures .1) (c .if1 .left)
+part-result-end-2 c = within-vol _ _ _ _ (c .before .read .ensures .0) (c .before .read .ensures .1) (c .if1 .left)
 
 returns : tie.Need-returns
 returns c =
     let i = c .before in
     let r = i .before .read .ensures in
-    (part-nv _ _ _ (r .0) (r .1) (i .if1 .taken), place-in-nv _ _ _ (r .0) (r .1) _ _ (i .if1 .taken))
+    (part-nv _ _ _ _ (r .0) (r .1) (i .if1 .taken), place-in-nv _ _ _ _ (r .0) (r .1) _ _ (i .if1 .taken))
 
 returns-2 : tie.Need-returns-2
 returns-2 c =
     let i = c .before in
     let r = i .before .read .ensures in
-    (part-vol _ _ _ (r .0) (r .1) (i .if1 .left), place-in-vol _ _ _ (r .0) (r .1) _ _ (i .if1 .left))
+    (part-vol _ _ _ _ (r .0) (r .1) (i .if1 .left), place-in-vol _ _ _ _ (r .0) (r .1) _ _ (i .if1 .left))
 
 pub payload-spec : {M : Type 1} → statement M
 payload-spec =

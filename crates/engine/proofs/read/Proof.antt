@@ -33,7 +33,7 @@ abbrev Good : tie.After-locate → tie.Else1
 Good c = c .before .before
 
 abbrev Asked : tie.After-locate → Variable
-Asked c = variable (Start (Sound (Good c)) .args .t3) (Start (Sound (Good c)) .args .name .now)
+Asked c = variable (Start (Sound (Good c)) .args .t4) (Start (Sound (Good c)) .args .name .now)
 
 -- its namespace has 16 bytes
 slice-aggregate-locate : tie.Need-slice-aggregate-locate
@@ -43,9 +43,13 @@ good : (c : tie.After-locate) → named (Asked c) ≡ true
 unfolding named _and_
 good c =
     let i = Good c in
-    let l : length (Start (Sound i) .args .t3) ≡ namespaceBytes = sym (slice-aggregate-locate (c .before)) in
+    let l : length (Start (Sound i) .args .t4) ≡ namespaceBytes = sym (slice-aggregate-locate (c .before)) in
     let n : isName (Start (Sound i) .args .name .now) ≡ true = sym (i .before .is-name .ensures) ∙ not-false (i .before .is-name .result) (i .if1 .left) in
     simp (eq-eqb _ _ l, n)
+
+-- where it stands is within the stores
+within : (c : tie.After-locate) → Within (Start (Sound (Good c)) .args .nv .now) (Start (Sound (Good c)) .args .vol .now) (c .locate .result)
+within c = subst (Within _ _) (sym (c .locate .ensures)) (place-within-stores _ _ _)
 
 -- ---- the needs
 check-requires : tie.Need-check-requires
@@ -63,7 +67,7 @@ refused-reading-requires c κs = search needs
 returns : tie.Need-returns
 returns c =
     let t = c .before in
-    reads _ _ _ (c .refused-reading .ensures ∙ reading-unsound _ _ _ (check-unsound _ _ (sym (t .before .before .check .ensures) ∙ t .enum-told .given .1)))
+    reads _ _ _ _ (c .refused-reading .ensures ∙ reading-unsound _ _ _ _ (check-unsound _ _ (sym (t .before .before .check .ensures) ∙ t .enum-told .given .1)))
 
 is-name-requires : tie.Need-is-name-requires
 is-name-requires c κs = search needs
@@ -77,13 +81,13 @@ returns-2 c =
     let i = c .before in
     let s = i .before .before .before in
     let n : isName (Start s .args .name .now) ≡ false = sym (i .before .is-name .ensures) ∙ not-true (i .before .is-name .result) (i .if1 .taken) in
-    reads _ _ _ (c .refused-reading2 .ensures ∙ reading-unnamed _ _ _ (checked s .0) (simp (n, and-no)))
+    reads _ _ _ _ (c .refused-reading2 .ensures ∙ reading-unnamed _ _ _ _ (checked s .0) (simp (n, and-no)))
 
 locate-requires : tie.Need-locate-requires
 locate-requires c κs = checked (Sound (c .before)) .1
 
-is-somewhere-requires : tie.Need-is-somewhere-requires
-is-somewhere-requires c κs = search needs
+is-shown-requires : tie.Need-is-shown-requires
+is-shown-requires c κs = within c
 
 refused-reading-requires-3 : tie.Need-refused-reading-requires-3
 refused-reading-requires-3 c κs = search needs
@@ -92,18 +96,18 @@ returns-3 : tie.Need-returns-3
 returns-3 c =
     let i = c .before in
     let l = i .before .before in
-    reads _ _ _ (c .refused-reading3 .ensures ∙ reading-absent _ _ _ (checked (Sound (Good l)) .0) (good l) _ (l .locate .ensures)
-    (sym (i .before .is-somewhere .ensures) ∙ not-true (i .before .is-somewhere .result) (i .if2 .taken)))
+    reads _ _ _ _ (c .refused-reading3 .ensures ∙ reading-absent _ _ _ _ (checked (Sound (Good l)) .0) (good l) _ (l .locate .ensures)
+    (i .before .is-shown .ensures) (not-true (i .before .is-shown .result) (i .if2 .taken)))
 
 reading-at-requires : tie.Need-reading-at-requires
-reading-at-requires c κs = subst (Within _ _) (sym (c .before .before .locate .ensures)) (place-within-stores _ _ _)
+reading-at-requires c κs = within (c .before .before)
 
 returns-4 : tie.Need-returns-4
 returns-4 c =
     let i = c .before in
     let l = i .before .before in
-    reads _ _ _ (c .reading-at .ensures ∙ reading-found _ _ _ (checked (Sound (Good l)) .0) (good l) _ (l .locate .ensures)
-    (sym (i .before .is-somewhere .ensures) ∙ not-false (i .before .is-somewhere .result) (i .if2 .left)))
+    reads _ _ _ _ (c .reading-at .ensures ∙ reading-found _ _ _ _ (checked (Sound (Good l)) .0) (good l) _ (l .locate .ensures)
+    (i .before .is-shown .ensures) (not-false (i .before .is-shown .result) (i .if2 .left)))
 
 pub read-spec : {M : Type 1} → statement M
 read-spec =
@@ -119,7 +123,7 @@ read-spec =
     returns-2
     slice-aggregate-locate
     locate-requires
-    is-somewhere-requires
+    is-shown-requires
     refused-reading-requires-3
     returns-3
     reading-at-requires

@@ -1,7 +1,7 @@
 -- `engine::register` meets its contract. Each return is one law of `Registered.antt`; the status is told by the tests so far, each of which is
--- named here by the place where it has been made: the record valid, the engine unlocked, the entry well formed, its target new, entries
--- and bytes within the limits. Assumes nothing.
-use Rattle.engine.proofs.Registered.{register-invalid, register-refused, register-granted}
+-- named here by the place where it has been made: the record valid, the engine not exited, the engine unlocked, the entry well formed, its
+-- target new, entries and bytes within the limits. Assumes nothing.
+use Rattle.engine.proofs.Registered.{register-invalid, register-exited, register-refused, register-granted}
 use Rattle.engine.proofs.Checked.{parse-formed, parse-malformed, register-locked, register-malformed, register-repeated, register-many, register-long, register-done}
 use Rattle.status.specs.declared.Status.the-variants.{WriteProtected, InvalidParameter, AlreadyStarted, OutOfResources}
 use Rattle.policy.specs.PolicyLaws.{Checked, sizesSum-flat, sizesSum-within, policyValid-length, check-valid, check-invalid}
@@ -33,23 +33,23 @@ Entry c = Start c .args .entry .now
 valid : (c : tie.After-checked) → Checked (Policy c) (c .checked .given .0 .0) (c .checked .given .0 .1 .0)
 valid c = check-valid _ _ _ (sym (c .before .before .check .ensures) ∙ c .checked .given .1)
 
--- the engine unlocked
-abbrev Valid : tie.Else1 → tie.After-checked
-Valid u = u .before .before
+-- the engine not exited and unlocked
+abbrev Valid : tie.Else2 → tie.After-checked
+Valid u = u .before .before .before
 
 -- the entry well formed
-abbrev Unlocked : tie.After-enum-told2 → tie.Else1
+abbrev Unlocked : tie.After-enum-told2 → tie.Else2
 Unlocked f = f .before .before .before
 
 formed : (f : tie.After-enum-told2) → wellFormed (Entry (Valid (Unlocked f))) ≡ true
 formed f = parse-formed _ _ (sym (f .before .before .parse .ensures) ∙ f .enum-told2 .given .1)
 
 -- its target new
-abbrev Formed : tie.Else2 → tie.After-enum-told2
+abbrev Formed : tie.Else3 → tie.After-enum-told2
 Formed n = n .before .before .before
 
-new : (n : tie.Else2) → contains (sameTarget (Entry (Valid (Unlocked (Formed n))))) (entriesOf (Policy (Valid (Unlocked (Formed n))))) ≡ false
-new n = sym (n .before .contains .ensures) ∙ n .if2 .left
+new : (n : tie.Else3) → contains (sameTarget (Entry (Valid (Unlocked (Formed n))))) (entriesOf (Policy (Valid (Unlocked (Formed n))))) ≡ false
+new n = sym (n .before .contains .ensures) ∙ n .if3 .left
 
 -- ---- the needs
 check-requires : tie.Need-check-requires
@@ -71,7 +71,14 @@ same-length-2 : tie.Need-same-length-2
 same-length-2 c = search needs
 
 returns-2 : tie.Need-returns-2
-returns-2 c = register-refused _ _ _ (valid (c .before .before) .valid) WriteProtected refl (register-locked _ _ _ (c .if1 .taken))
+returns-2 c = register-exited _ _ _ (valid (c .before .before) .valid) (c .if1 .taken)
+
+same-length-3 : tie.Need-same-length-3
+same-length-3 c = search needs
+
+returns-3 : tie.Need-returns-3
+returns-3 c =
+    register-refused _ _ _ (valid (c .before .before .before) .valid) (c .before .if1 .left) WriteProtected refl (register-locked _ _ _ (c .if2 .taken))
 
 parse-requires : tie.Need-parse-requires
 parse-requires c κs = search needs
@@ -82,76 +89,76 @@ enum-told-2 c = search needs
 enum-told-3 : tie.Need-enum-told-3
 enum-told-3 c = search needs
 
-same-length-3 : tie.Need-same-length-3
-same-length-3 c = search needs
-
-returns-3 : tie.Need-returns-3
-returns-3 c =
-    let u = c .before .before .before in
-    register-refused _ _ _ (valid (Valid u) .valid) InvalidParameter refl
-    (register-malformed _ _ _ (u .if1 .left) (parse-malformed _ (sym (c .before .before .parse .ensures) ∙ c .enum-told3 .given .1)))
-
-contains-requires : tie.Need-contains-requires
-contains-requires c κs = let f = c .before in (valid (Valid (Unlocked f)) .counted, formed f)
-
 same-length-4 : tie.Need-same-length-4
 same-length-4 c = search needs
 
 returns-4 : tie.Need-returns-4
 returns-4 c =
-    let f = c .before .before .before in
-    let u = Unlocked f in
-    register-refused _ _ _ (valid (Valid u) .valid) AlreadyStarted refl
-    (register-repeated _ _ _ (u .if1 .left) (formed f) (sym (c .before .contains .ensures) ∙ c .if2 .taken))
+    let u = c .before .before .before in
+    register-refused _ _ _ (valid (Valid u) .valid) (u .before .if1 .left) InvalidParameter refl
+    (register-malformed _ _ _ (u .if2 .left) (parse-malformed _ (sym (c .before .before .parse .ensures) ∙ c .enum-told3 .given .1)))
+
+contains-requires : tie.Need-contains-requires
+contains-requires c κs = let f = c .before in (valid (Valid (Unlocked f)) .counted, formed f)
 
 same-length-5 : tie.Need-same-length-5
 same-length-5 c = search needs
 
 returns-5 : tie.Need-returns-5
 returns-5 c =
-    let n = c .before in
-    let u = Unlocked (Formed n) in
-    let k = valid (Valid u) in
-    let m : maxEntries ≤ length (entriesOf (Policy (Valid u))) = omega (arith, k .counted, c .if3 .taken) in
-    register-refused _ _ _ (k .valid) OutOfResources refl (register-many _ _ _ (u .if1 .left) (formed (Formed n)) (new n) m)
-
-add-if4 : tie.Need-add-if4
-add-if4 c =
-    let f = Formed (c .before) in
-    let v = Valid (Unlocked f) in
-    let k = valid v in
-    omega (arith, k .summed, sizesSum-within (Policy v), policyValid-length (Policy v) (k .valid), sized (Entry v) (formed f) .most)
+    let f = c .before .before .before in
+    let u = Unlocked f in
+    register-refused _ _ _ (valid (Valid u) .valid) (u .before .if1 .left) AlreadyStarted refl
+    (register-repeated _ _ _ (u .if2 .left) (formed f) (sym (c .before .contains .ensures) ∙ c .if3 .taken))
 
 same-length-6 : tie.Need-same-length-6
 same-length-6 c = search needs
 
 returns-6 : tie.Need-returns-6
 returns-6 c =
-    let n = c .before .before in
+    let n = c .before in
     let u = Unlocked (Formed n) in
-    let v = Valid u in
-    let k = valid v in
-    let m : policyBytes < length (flat (entriesOf (Policy v))) + length (Entry v) = omega (arith, k .summed, sizesSum-flat (Policy v), c .if4 .taken) in
-    register-refused _ _ _ (k .valid) OutOfResources refl (register-long _ _ _ (u .if1 .left) (formed (Formed n)) (new n) m)
+    let k = valid (Valid u) in
+    let m : maxEntries ≤ length (entriesOf (Policy (Valid u))) = omega (arith, k .counted, c .if4 .taken) in
+    register-refused _ _ _ (k .valid) (u .before .if1 .left) OutOfResources refl (register-many _ _ _ (u .if2 .left) (formed (Formed n)) (new n) m)
 
-append-requires : tie.Need-append-requires
-append-requires c κs =
-    let k = valid (Valid (Unlocked (Formed (c .before .before .before)))) in
-    (k .valid, k .summed, omega (arith, c .before .if4 .left))
+add-if5 : tie.Need-add-if5
+add-if5 c =
+    let f = Formed (c .before) in
+    let v = Valid (Unlocked f) in
+    let k = valid v in
+    omega (arith, k .summed, sizesSum-within (Policy v), policyValid-length (Policy v) (k .valid), sized (Entry v) (formed f) .most)
 
 same-length-7 : tie.Need-same-length-7
 same-length-7 c = search needs
 
 returns-7 : tie.Need-returns-7
 returns-7 c =
+    let n = c .before .before in
+    let u = Unlocked (Formed n) in
+    let v = Valid u in
+    let k = valid v in
+    let m : policyBytes < length (flat (entriesOf (Policy v))) + length (Entry v) = omega (arith, k .summed, sizesSum-flat (Policy v), c .if5 .taken) in
+    register-refused _ _ _ (k .valid) (u .before .if1 .left) OutOfResources refl (register-long _ _ _ (u .if2 .left) (formed (Formed n)) (new n) m)
+
+append-requires : tie.Need-append-requires
+append-requires c κs =
+    let k = valid (Valid (Unlocked (Formed (c .before .before .before)))) in
+    (k .valid, k .summed, omega (arith, c .before .if5 .left))
+
+same-length-8 : tie.Need-same-length-8
+same-length-8 c = search needs
+
+returns-8 : tie.Need-returns-8
+returns-8 c =
     let r = c .before .before .before .before in
     let n = r .before .before in
     let u = Unlocked (Formed n) in
     let v = Valid u in
     let k = valid v in
-    let m : length (entriesOf (Policy v)) < maxEntries = omega (arith, k .counted, r .before .if3 .left) in
-    let l : length (flat (entriesOf (Policy v))) + length (Entry v) ≤ policyBytes = omega (arith, k .summed, sizesSum-flat (Policy v), r .if4 .left) in
-    register-granted _ _ _ (k .valid) (register-done _ _ _ (u .if1 .left) (formed (Formed n)) (new n) m l) (c .before .before .append .ensures)
+    let m : length (entriesOf (Policy v)) < maxEntries = omega (arith, k .counted, r .before .if4 .left) in
+    let l : length (flat (entriesOf (Policy v))) + length (Entry v) ≤ policyBytes = omega (arith, k .summed, sizesSum-flat (Policy v), r .if5 .left) in
+    register-granted _ _ _ (k .valid) (u .before .if1 .left) (register-done _ _ _ (u .if2 .left) (formed (Formed n)) (new n) m l) (c .before .before .append .ensures)
 
 pub register-spec : {M : Type 1} → statement M
 register-spec =
@@ -164,19 +171,21 @@ register-spec =
     returns
     same-length-2
     returns-2
+    same-length-3
+    returns-3
     parse-requires
     enum-told-2
     enum-told-3
-    same-length-3
-    returns-3
-    contains-requires
     same-length-4
     returns-4
+    contains-requires
     same-length-5
     returns-5
-    add-if4
     same-length-6
     returns-6
-    append-requires
+    add-if5
     same-length-7
-    returns-7)
+    returns-7
+    append-requires
+    same-length-8
+    returns-8)

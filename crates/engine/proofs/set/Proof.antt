@@ -126,7 +126,7 @@ carry-out-requires : tie.Need-carry-out-requires
 carry-out-requires c κs =
     let d = c .before .before .before .before in
     let l = Located d in
-    (checked (Sound (Valid l)) .0, knows l .located, (_, decides _ _ _ _ (Asked l) (d .decide .ensures)))
+    (checked (Sound (Valid l)) .0, knows l .located, (_, _, decides _ _ _ _ (Asked l) (d .decide .ensures)))
 
 status-of-requires : tie.Need-status-of-requires
 status-of-requires c κs = search needs

@@ -36,7 +36,7 @@ put-variable-requires : tie.Need-put-variable-requires
 put-variable-requires c κs =
     let t = c .before .before in
     let p = Stores t .pre in
-    (p .0, p .1, stored-facts (p .2 .0) _ _ _ (sym (p .2 .1) ∙ t .enum-told5 .given .1))
+    (p .0, p .1, stored-facts (p .2 .0) (p .2 .1) _ _ _ (sym (p .2 .2) ∙ t .enum-told5 .given .1))
 
 returns : tie.Need-returns
 returns c = carried _ _ _ _ _ (c .enum-told .given .1) (refused-left _ _ _ _ _)

@@ -9,8 +9,9 @@ use Rattle.slices.specs.Bytes.{Bytes}
 use Rattle.set.specs.Decided.{decidedBy}
 use Rattle.set.proofs.Decisions.{spokenGround, decided-silent, silent-report, decided-blocked, ground-in}
 use Rattle.status.specs.Status.{isSuccess}
+use Rattle.switches.specs.declared.Switches.{Switches}
 use borrow.Author.Tests.{not-true, not-false}
-use mathlib.Core.Bool.{Bool, true, false}
+use mathlib.Core.Bool.{true, false}
 use mathlib.Core.List.{List}
 use mathlib.Core.Path.{_≡_, refl, sym, ap, _∙_}
 use borrow.Author.Needs.{needs}
@@ -27,8 +28,8 @@ Asked c = requestOf (Start c .args .namespace .now) (Start c .args .name .now) (
 abbrev Entries : tie.After-check-request → List Bytes
 Entries c = entriesOf (Start c .args .policy .now)
 
-abbrev Enabled : tie.After-check-request → Bool
-Enabled c = Start c .args .enabled
+abbrev Lent : tie.After-check-request → Switches
+Lent c = Start c .args .switches
 
 abbrev NV : tie.After-check-request → Bytes
 NV c = Start c .args .nv .now
@@ -36,14 +37,14 @@ NV c = Start c .args .nv .now
 abbrev Vol : tie.After-check-request → Bytes
 Vol c = Start c .args .vol .now
 
-checked : (c : tie.After-check-request) → c .check-request .result ≡ requestStatus (Asked c)
+checked : (c : tie.After-check-request) → c .check-request .result ≡ requestStatus (Lent c .exited) (Asked c)
 checked c = c .check-request .ensures _ (Start c .pre .1 .located .namespace)
 
 -- where steps 1 to 3 take it
 abbrev Checked : tie.Else1 → tie.After-check-request
 Checked c = c .before .before
 
-taken : (c : tie.Else1) → isSuccess (requestStatus (Asked (Checked c))) ≡ true
+taken : (c : tie.Else1) → isSuccess (requestStatus (Lent (Checked c) .exited) (Asked (Checked c))) ≡ true
 taken c = sym (c .before .is-success .ensures ∙ ap isSuccess (checked (Checked c))) ∙ not-false (c .before .is-success .result) (c .if1 .left)
 
 -- ---- the needs
@@ -60,8 +61,8 @@ returns : tie.Need-returns
 returns c =
     let b = c .before in
     let k = b .before .before in
-    decided-silent (Entries k) (Enabled k) (NV k) (Vol k) (Asked k) _ (ap (λ p. record { decision = Refuse (k .check-request .result); report = p }) (c .no-report .ensures))
-    (sym (decision-refused _ _ _ _ _ (sym (checked k)) (sym (b .before .is-success .ensures) ∙ not-true (b .before .is-success .result) (b .if1 .taken)))) refl
+    decided-silent (Entries k) (Lent k) (NV k) (Vol k) (Asked k) _ (ap (λ p. record { decision = Refuse (k .check-request .result); report = p }) (c .no-report .ensures))
+    (sym (decision-refused _ _ _ _ _ _ (sym (checked k)) (sym (b .before .is-success .ensures) ∙ not-true (b .before .is-success .result) (b .if1 .taken)))) refl
 
 report-requires : tie.Need-report-requires
 report-requires c κs = (Start (Checked c) .pre .1, Start (Checked c) .pre .2)
@@ -73,17 +74,17 @@ decide-write-requires : tie.Need-decide-write-requires
 decide-write-requires c κs =
     let t = c .before .before .before in
     let p = Start (Checked t) .pre in
-    (p .0, p .1 .located, taken-named (Asked (Checked t)) (taken t))
+    (p .0, p .1 .located, taken-named _ (Asked (Checked t)) (taken t))
 
 -- the ground of step 4 is the one in the report
 abbrev Reported : tie.After-report → tie.After-check-request
 Reported c = Checked (c .before)
 
 speaks : (c : tie.After-report) (g : Ground) → c .report .result .ground ≡ g
-    → spokenGround (Entries (Reported c)) (Enabled (Reported c)) (NV (Reported c)) (Vol (Reported c)) (Asked (Reported c)) ≡ g
+    → spokenGround (Entries (Reported c)) (Lent (Reported c)) (NV (Reported c)) (Vol (Reported c)) (Asked (Reported c)) ≡ g
 speaks c g e =
     let k = Reported c in
-    sym (ground-in (Entries k) (Enabled k) (NV k) (Vol k) (Asked k) (c .report .ensures)) ∙ e
+    sym (ground-in (Entries k) (Lent k) (NV k) (Vol k) (Asked k) (c .report .ensures)) ∙ e
 
 returns-2 : tie.Need-returns-2
 returns-2 c =
@@ -91,15 +92,15 @@ returns-2 c =
     let k = Reported g in
     let d = c .decide-write .ensures in
     let q = speaks g NoGround (c .before .enum-told .given .1) in
-    decided-silent (Entries k) (Enabled k) (NV k) (Vol k) (Asked k) _
-    (ap (λ p. record { decision = c .decide-write .result; report = p }) (silent-report (Entries k) (Enabled k) (NV k) (Vol k) (Asked k) (g .report .ensures) q))
-    (d ∙ sym (decision-written _ _ _ _ (taken (g .before)) q)) (ap blockedBy d ∙ write-unblocked (NV k) (Vol k) _ (Asked k))
+    decided-silent (Entries k) (Lent k) (NV k) (Vol k) (Asked k) _
+    (ap (λ p. record { decision = c .decide-write .result; report = p }) (silent-report (Entries k) (Lent k) (NV k) (Vol k) (Asked k) (g .report .ensures) q))
+    (d ∙ sym (decision-written _ _ _ _ _ (taken (g .before)) q)) (ap blockedBy d ∙ write-unblocked _ (NV k) (Vol k) _ (Asked k))
 
 blocked : (c : tie.After-report) (g : Ground) → c .report .result .ground ≡ g → isSuccess (groundStatus g) ≡ false
-    → record { decision = Block g; report = c .report .result } ≡ decidedBy (Entries (Reported c)) (Enabled (Reported c)) (NV (Reported c)) (Vol (Reported c)) (Asked (Reported c))
+    → record { decision = Block g; report = c .report .result } ≡ decidedBy (Entries (Reported c)) (Lent (Reported c)) (NV (Reported c)) (Vol (Reported c)) (Asked (Reported c))
 blocked c g e b =
     let k = Reported c in
-    decided-blocked (Entries k) (Enabled k) (NV k) (Vol k) (Asked k) g (decision-blocked _ _ _ _ g (taken (c .before)) (speaks c g e) b) (c .report .ensures) (speaks c g e)
+    decided-blocked (Entries k) (Lent k) (NV k) (Vol k) (Asked k) g (decision-blocked _ _ _ _ _ g (taken (c .before)) (speaks c g e) b) (c .report .ensures) (speaks c g e)
 
 enum-told-2 : tie.Need-enum-told-2
 enum-told-2 c = search needs

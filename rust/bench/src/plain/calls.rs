@@ -22,12 +22,16 @@ pub struct Switches {
     pub enabled: bool,
     pub locked: bool,
     pub disabling_allowed: bool,
+    pub exited: bool,
 }
 
 pub fn register(policy: &mut [u8], switches: Switches, entry: &[u8]) -> u32 {
     let Some(entries) = Entries::check(policy) else {
         return VOLUME_CORRUPTED;
     };
+    if switches.exited {
+        return UNSUPPORTED;
+    }
     if switches.locked {
         return WRITE_PROTECTED;
     }
@@ -45,10 +49,13 @@ pub fn register(policy: &mut [u8], switches: Switches, entry: &[u8]) -> u32 {
     SUCCESS
 }
 
-pub fn dump(policy: &[u8], buffer: &mut [u8]) -> (u32, usize) {
+pub fn dump(policy: &[u8], switches: Switches, buffer: &mut [u8]) -> (u32, usize) {
     let Some(entries) = Entries::check(policy) else {
         return (VOLUME_CORRUPTED, 0);
     };
+    if switches.exited {
+        return (UNSUPPORTED, 0);
+    }
     let end = entries.end();
     if buffer.len() < end {
         return (BUFFER_TOO_SMALL, end);
@@ -88,7 +95,13 @@ pub struct Found {
     pub length: usize,
 }
 
-pub fn read<'a, I: Index<'a>>(nv: &'a [u8], volatile: &'a [u8], namespace: &[u8; 16], name: &[u8]) -> Found {
+pub fn read<'a, I: Index<'a>>(
+    nv: &'a [u8],
+    volatile: &'a [u8],
+    switches: Switches,
+    namespace: &[u8; 16],
+    name: &[u8],
+) -> Found {
     let Some(stores) = Stores::<I>::check(nv, volatile) else {
         return Found { status: VOLUME_CORRUPTED, ..Found::default() };
     };
@@ -99,9 +112,13 @@ pub fn read<'a, I: Index<'a>>(nv: &'a [u8], volatile: &'a [u8], namespace: &[u8;
         return Found { status: NOT_FOUND, ..Found::default() };
     };
     let record = stores.record(place);
+    let attributes = le32(record, 4);
+    if switches.exited && attributes & RT == 0 {
+        return Found { status: NOT_FOUND, ..Found::default() };
+    }
     Found {
         status: SUCCESS,
-        attributes: le32(record, 4),
+        attributes,
         non_volatile: place.non_volatile,
         offset: usize::from(place.at) + HEADER + le32(record, 8) as usize,
         length: le32(record, 12) as usize,
@@ -192,17 +209,9 @@ fn decide<'a, I: Index<'a>>(
     let stores = Stores::<I>::check(nv, volatile).ok_or(VOLUME_CORRUPTED)?;
     let entries = Entries::check(policy).ok_or(VOLUME_CORRUPTED)?;
     let Request { namespace, name, attributes, payload } = *request;
-    if !is_name(name) || payload.len() > MAX_PAYLOAD_BYTES {
-        return Err(INVALID_PARAMETER.into());
-    }
-    if attributes & !(NV | BS | RT | APPEND) != 0 {
-        return Err(UNSUPPORTED.into());
-    }
-    if attributes & (RT | APPEND) != 0 && attributes & BS == 0 {
-        return Err(INVALID_PARAMETER.into());
-    }
     let append = attributes & APPEND != 0;
     let deletion = !append && (payload.is_empty() || attributes & (BS | RT) == 0);
+    check_request(request, deletion, switches.exited)?;
     let found = stores.find(Key::new(namespace, name).bytes());
     if switches.enabled
         && let Some(chosen) = entries.choose(namespace, name)
@@ -211,6 +220,9 @@ fn decide<'a, I: Index<'a>>(
     }
     if deletion {
         let place = found.ok_or(NOT_FOUND)?;
+        if switches.exited {
+            check_deletion(le32(stores.record(place), 4))?;
+        }
         return Ok((Edit::Delete(place), stores.ends[usize::from(place.non_volatile)]));
     }
     if let Some(place) = found
@@ -235,6 +247,32 @@ fn decide<'a, I: Index<'a>>(
         return Err(OUT_OF_RESOURCES.into());
     }
     Ok((Edit::Rewrite { place, end, kept }, 0))
+}
+
+/// Steps 1 to 3: the request by itself.
+fn check_request(request: &Request, deletion: bool, exited: bool) -> Result<(), Written> {
+    let Request { name, attributes, payload, .. } = *request;
+    if !is_name(name) || payload.len() > MAX_PAYLOAD_BYTES {
+        return Err(INVALID_PARAMETER.into());
+    }
+    if attributes & !(NV | BS | RT | APPEND) != 0 {
+        return Err(UNSUPPORTED.into());
+    }
+    if attributes & (RT | APPEND) != 0 && attributes & BS == 0 {
+        return Err(INVALID_PARAMETER.into());
+    }
+    if exited && !deletion && attributes & (NV | BS | RT) != NV | BS | RT {
+        return Err(INVALID_PARAMETER.into());
+    }
+    Ok(())
+}
+
+/// Step 5 after exit: whether a variable with these attributes may be deleted.
+fn check_deletion(attributes: u32) -> Result<(), Written> {
+    if attributes & RT == 0 {
+        return Err(NOT_FOUND.into());
+    }
+    if attributes & NV == 0 { Err(WRITE_PROTECTED.into()) } else { Ok(()) }
 }
 
 /// Step 4: what the chosen entry says.

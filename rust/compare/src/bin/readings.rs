@@ -1,5 +1,5 @@
 //! The bench readings (docs/RULES.md, 13), each run by the library and by the reference. Of those on an engine the last
-//! seven, from the store of 40 bytes on, are not proved, and of those of dumps the last six, from the names of 64 units
+//! eleven, from the store of 40 bytes on, are not proved, and of those of dumps the last six, from the names of 64 units
 //! on; this program is what checks them. Those of dumps in pieces are read in as few pieces as there can be, and byte by
 //! byte.
 
@@ -20,7 +20,7 @@ type Implementation = fn(&mut State, &Call) -> Answer;
 /// A reading: its text, what answers it, and the numbers expected, most of them statuses.
 type Reading = (&'static str, fn(Implementation) -> Vec<u32>, &'static [u32]);
 
-const READINGS: [Reading; 25] = [
+const READINGS: [Reading; 34] = [
     ("an entry of 43 bytes, one of 44", least_entry, &[2, 0]),
     ("a name of no units, closed", zero_unit_name, &[2]),
     ("a trigger's name of no units, of one", trigger_name, &[2, 0]),
@@ -41,6 +41,23 @@ const READINGS: [Reading; 25] = [
     ("RT without BS; an unknown bit", attributes, &[2, 3]),
     ("disable and lock, lock and disable, disable twice", switches, &[0, 0, 0, 8, 0, 20]),
     (
+        "exit; exit, register, dump, lock, disable; query; power-on, which undoes it; lock",
+        exit,
+        &[0, 3, 3, 3, 3, 3, 0, 0, 0],
+    ),
+    (
+        "`A` with NV, BS, `B` with BS, RT, `C` with all three; exit; reads of these and of `D`",
+        reads_after_exit,
+        &[0, 0, 0, 0, 14, 0, 0, 14],
+    ),
+    (
+        "after the same: `D` with NV, BS, with BS, RT, with all three; appends to it with all three, with NV, BS",
+        sets_after_exit,
+        &[2, 2, 0, 0, 2],
+    ),
+    ("after the same: deletions of `E`, `A`, `B`, `C`; `A` with all three", deletions_after_exit, &[14, 14, 8, 0, 2]),
+    ("the whole namespace, locked now; exit; a deletion, a set with NV, BS", locked_after_exit, &[0, 0, 8, 2]),
+    (
         "reports of sets of `A0` under `A#`, behind `B`: size, attributes, lock, none; disabled",
         reports,
         GROUNDS.as_flattened(),
@@ -58,7 +75,25 @@ const READINGS: [Reading; 25] = [
     ),
     ("the record with `A#`: power-on, restart, and whether each cleared it", start_over_sign, &[0, 1, 0, 1]),
     ("the dump of two entries, 94 bytes", whole_dump, &[0, 94, 1]),
+    (
+        "rebuilt twice after exit from a dump of before, locked: granted, the state as it was; then dump, exit",
+        rebuilt_after_exit,
+        &[0, 1, 0, 1, 3, 3],
+    ),
+    (
+        "after exit a trigger without RT: its read, a set that it locks and the ground, its deletion",
+        trigger_after_exit,
+        &[14, 8, 3, 14],
+    ),
+    (
+        "after exit over a damaged volatile store: restart, exited as handed back, lock; power-on, lock",
+        starts_after_exit,
+        &[10, 0, 3, 0, 0],
+    ),
+    ("exited is 2, 0x80, 0xff: exit, dump, lock, disable, a read without RT", stray_exited, STRAY.as_flattened()),
 ];
+
+const STRAY: &[[u32; 5]] = &[[3, 3, 3, 3, 14]; 3];
 
 /// A status and its report: ground, place, rank, missing, prohibited, lowest bit.
 type Reported = [u32; 7];
@@ -244,6 +279,10 @@ impl Bench {
     fn delete(&mut self, name: &str) -> u32 {
         self.set_with(name, 0, &[])
     }
+
+    fn read(&mut self, name: &str) -> u32 {
+        self.call(&Call::Read { namespace: G, name: unit_bytes(&units(name)) })
+    }
 }
 
 fn entry(name: &str) -> EntryFields {
@@ -358,6 +397,100 @@ fn switches(implementation: Implementation) -> Vec<u32> {
         calls.each_ref().map(|call| bench.call(call))
     });
     answers.collect()
+}
+
+fn exit(implementation: Implementation) -> Vec<u32> {
+    let mut bench = Bench::new(implementation, 256);
+    let refused = [
+        Call::Exit,
+        Call::Register { entry: entry("").pack() },
+        Call::Dump { buffer: Vec::new() },
+        Call::Lock,
+        Call::Disable,
+    ];
+    let calls = [Call::Exit].into_iter().chain(refused).chain([Call::Query]);
+    let again = [Call::PowerOn { disabling_allowed: 1 }, Call::Lock];
+    calls.chain(again).map(|call| bench.call(&call)).collect()
+}
+
+/// An engine that has exited, with `A`, `B` and `C`, and the statuses so far.
+fn exited(implementation: Implementation) -> (Bench, [u32; 4]) {
+    let mut bench = Bench::new(implementation, 256);
+    let [a, b, c] = [("A", 3), ("B", 6), ("C", 7)].map(|(name, attributes)| bench.set_with(name, attributes, &[1]));
+    let exit = bench.call(&Call::Exit);
+    (bench, [a, b, c, exit])
+}
+
+fn reads_after_exit(implementation: Implementation) -> Vec<u32> {
+    let (mut bench, statuses) = exited(implementation);
+    [statuses, ["A", "B", "C", "D"].map(|name| bench.read(name))].concat()
+}
+
+fn sets_after_exit(implementation: Implementation) -> Vec<u32> {
+    let (mut bench, _) = exited(implementation);
+    [3, 6, 7, 0x47, 0x43].map(|attributes| bench.set_with("D", attributes, &[1])).to_vec()
+}
+
+fn deletions_after_exit(implementation: Implementation) -> Vec<u32> {
+    let (mut bench, _) = exited(implementation);
+    let deleted = ["E", "A", "B", "C"].map(|name| bench.delete(name));
+    [&deleted[..], &[bench.set_with("A", 7, &[1])]].concat()
+}
+
+fn locked_after_exit(implementation: Implementation) -> Vec<u32> {
+    let mut bench = Bench::new(implementation, 256);
+    let statuses = [bench.register(&locked_now("")), bench.call(&Call::Exit)];
+    [&statuses[..], &[bench.delete("A"), bench.set("A", &[1])]].concat()
+}
+
+/// Of each of two rebuilds the highest status, and 1 if the state is as it was; then a dump and an exit.
+fn rebuilt_after_exit(implementation: Implementation) -> Vec<u32> {
+    let (mut bench, entries) = (Bench::new(implementation, 256), [locked_now("A#"), entry("B")]);
+    assert_eq!(entries.each_ref().map(|fields| bench.register(fields)), [0, 0]);
+    assert_eq!([bench.set("B", &[1]), bench.set_with("C", 6, &[2])], [0, 0]);
+    let dump = Call::Dump { buffer: vec![0; 200] };
+    assert_eq!([&dump, &Call::Lock, &Call::Exit].map(|call| bench.call(call)), [0, 0, 0]);
+    let before = bench.state.clone();
+    let registrations = entries.map(|fields| Call::Register { entry: fields.pack() });
+    let mut rebuild = || {
+        let restart = [Call::Restart { disabling_allowed: 1 }];
+        let calls = restart.iter().chain(&registrations).chain(&[Call::Lock, Call::Exit]);
+        let highest = calls.map(|call| bench.call(call)).max();
+        [highest.unwrap_or(0), u32::from(bench.state == before)]
+    };
+    let rebuilt = [rebuild(), rebuild()].concat();
+    [&rebuilt[..], &[bench.call(&dump), bench.call(&Call::Exit)]].concat()
+}
+
+fn trigger_after_exit(implementation: Implementation) -> Vec<u32> {
+    let mut bench = Bench::new(implementation, 256);
+    assert_eq!(bench.register(&entry("A").with_trigger(G, &units("T"), 1)), 0);
+    assert_eq!([bench.set_with("T", 2, &[1]), bench.call(&Call::Exit)], [0, 0]);
+    let [status, ground, ..] = bench.report("A", 7, &[1]);
+    vec![bench.read("T"), status, ground, bench.delete("T")]
+}
+
+fn starts_after_exit(implementation: Implementation) -> Vec<u32> {
+    let mut bench = Bench::new(implementation, 256);
+    assert_eq!(bench.call(&Call::Exit), 0);
+    bench.state.volatile[0] = 0;
+    let restart = implementation(&mut bench.state, &Call::Restart { disabling_allowed: 1 });
+    let Values::Started(handed) = restart.values else {
+        panic!("a start hands back switches");
+    };
+    let later = [Call::Lock, Call::PowerOn { disabling_allowed: 1 }, Call::Lock].map(|call| bench.call(&call));
+    [&[restart.status.number(), handed.exited.into()], &later[..]].concat()
+}
+
+fn stray_exited(implementation: Implementation) -> Vec<u32> {
+    let answers = [2, 0x80, 0xFF].map(|exited| {
+        let mut bench = Bench::new(implementation, 256);
+        assert_eq!(bench.set("A", &[1]), 0);
+        bench.state.switches.exited = exited;
+        let calls = [Call::Exit, Call::Dump { buffer: vec![0; 100] }, Call::Lock, Call::Disable];
+        [&calls.map(|call| bench.call(&call))[..], &[bench.read("A")]].concat()
+    });
+    answers.concat()
 }
 
 fn reports(implementation: Implementation) -> Vec<u32> {

@@ -54,5 +54,5 @@ fn count_length(coverage: &mut Coverage, lent: &State, call: &Call) {
         return;
     };
     let entries = usize::from(!policy.entries.is_empty());
-    coverage.input(Input::FormerLength, 6 * call + 3 * entries + setting(lent));
+    coverage.input(Input::FormerLength, 8 * call + 4 * entries + setting(lent));
 }

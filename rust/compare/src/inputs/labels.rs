@@ -29,7 +29,7 @@ pub const START: [&str; 22] = [
 ];
 
 /// Registrations at the limits, and with two grounds at once. Every Size is even, so that no sum is one byte off.
-pub const REGISTRATION: [&str; 15] = [
+pub const REGISTRATION: [&str; 21] = [
     "to the limit of entries",
     "to a sum two under the limit",
     "to a sum at the limit",
@@ -45,6 +45,12 @@ pub const REGISTRATION: [&str; 15] = [
     "malformed repeat",
     "malformed, engine locked",
     "repeat, engine locked",
+    "after exit, nothing else wrong",
+    "after exit, engine locked",
+    "after exit, malformed",
+    "after exit, repeat",
+    "after exit, one entry over the limit",
+    "after exit, sum over the limit",
 ];
 
 /// Registrations whose names '#' would tell apart otherwise, if it did there what it does in a choice.
@@ -63,7 +69,7 @@ pub const BEYOND: [&str; 7] = [
 ];
 
 pub(super) const CALLS_ON_RECORD: [&str; 5] = ["power-on", "restart", "register", "dump", "set"];
-const SETTINGS: [&str; 3] = ["open", "disabled", "locked"];
+const SETTINGS: [&str; 4] = ["open", "disabled", "locked", "exited"];
 
 /// Every call that is lent the policy record, with what stands in it and the switches.
 pub fn former_length_labels() -> Vec<String> {
@@ -84,12 +90,13 @@ pub const TRIGGER_SIGN: [&str; 9] = [
 ];
 
 /// What holds beside '#' in the trigger's name.
-pub const SIGN_REFUSED: [&str; 6] = [
+pub const SIGN_REFUSED: [&str; 7] = [
     "engine locked",
     "a repeat",
     "as many entries as the limit",
     "sum over the limit",
     "engine disabled",
+    "after exit",
     "policy record not valid",
 ];
 
@@ -137,7 +144,7 @@ pub const PACKED_NAME: [&str; 8] = [
 ];
 
 /// Buffers of a dump, against the sum of Sizes.
-pub const DUMP_BUFFER: [&str; 7] = [
+pub const DUMP_BUFFER: [&str; 11] = [
     "no entries, no bytes",
     "entries, no bytes",
     "one byte less",
@@ -145,6 +152,10 @@ pub const DUMP_BUFFER: [&str; 7] = [
     "one byte more",
     "longer",
     "2^16 bytes or more",
+    "after exit, no entries, no bytes",
+    "after exit, no bytes",
+    "after exit, too short",
+    "after exit, long enough",
 ];
 
 /// Names of requests.
@@ -267,19 +278,23 @@ pub fn data_size_labels() -> [&'static str; 8] {
 }
 
 /// Calls that are lent something unsound, with what is wrong besides.
-pub const UNSOUND: [&str; 8] = [
+pub const UNSOUND: [&str; 12] = [
     "register, locked",
     "register, malformed",
+    "register, after exit",
     "dump, buffer too short",
+    "dump, after exit",
     "read, bad name",
+    "read, after exit",
     "set, step 1",
     "set, step 2",
     "set, step 3",
     "set, engine disabled",
+    "set, step 3 after exit",
 ];
 
-pub(super) const CALLS: [&str; 9] =
-    ["power-on", "restart", "register", "dump", "lock", "disable", "query", "read", "set"];
+pub(super) const CALLS: [&str; 10] =
+    ["power-on", "restart", "register", "dump", "lock", "disable", "exit", "query", "read", "set"];
 const PLACES: [&str; 3] = ["absent", "non-volatile", "volatile"];
 
 /// The labels of `rows` with each of `columns`.
@@ -289,15 +304,18 @@ pub(super) fn crossed(rows: &[impl Display], columns: &[impl Display]) -> Vec<St
 
 /// Every call under every setting of the switches.
 pub fn switch_labels() -> Vec<String> {
-    CALLS.iter().flat_map(|call| (0..8).map(move |bits| format!("{call} {bits:03b}"))).collect()
+    CALLS.iter().flat_map(|call| (0..16).map(move |bits| format!("{call} {bits:04b}"))).collect()
 }
 
-pub(super) const CALLS_ON_BYTES: [&str; 5] = ["register", "lock", "disable", "query", "set"];
+pub(super) const CALLS_ON_BYTES: [&str; 8] = ["register", "dump", "lock", "disable", "exit", "query", "read", "set"];
+
+/// How many bytes the calls are given that say a switch.
+pub const SWITCH_BYTES: usize = 2 + 4 * CALLS_ON_BYTES.len();
 
 /// Every byte that says a switch, for every call that is given it.
 pub fn switch_byte_labels() -> Vec<String> {
     let starts = ["power-on, disabling allowed", "restart, disabling allowed"].map(str::to_string);
-    [starts.to_vec(), crossed(&CALLS_ON_BYTES, &["enabled", "locked", "disabling allowed"])].concat()
+    [starts.to_vec(), crossed(&CALLS_ON_BYTES, &["enabled", "locked", "disabling allowed", "exited"])].concat()
 }
 
 pub(super) const LOCK_TYPES: [&str; 4] = ["no lock", "lock now", "lock on create", "lock on state"];
@@ -312,11 +330,12 @@ pub fn lock_labels() -> Vec<String> {
     crossed(&["set", "delete"], &locks_by_place())
 }
 
+pub(super) const DELETION_FORMS: [&str; 6] =
+    ["no bits, payload", "no bits, empty", "NV alone, payload", "NV alone, empty", "BS, empty", "empty append"];
+
 /// Every form of deletion, and the empty append, with where the variable is.
 pub fn deletion_labels() -> Vec<String> {
-    let forms =
-        ["no bits, payload", "no bits, empty", "NV alone, payload", "NV alone, empty", "BS, empty", "empty append"];
-    crossed(&forms, &PLACES)
+    crossed(&DELETION_FORMS, &PLACES)
 }
 
 /// What is stored, with the padding of its record, in a store that is long enough or one byte short.

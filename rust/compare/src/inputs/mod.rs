@@ -1,6 +1,7 @@
 //! Counts what the calls are given: the classes of inputs in which a slip of the one or the other
 //! implementation would hide.
 
+pub mod exit;
 mod former;
 pub mod labels;
 pub mod pieces;
@@ -16,9 +17,10 @@ use crate::coverage::{Coverage, Input};
 use crate::damage::entry_sizes;
 use crate::state::State;
 use crate::steps;
+use crate::tallies::Each;
 use labels::{CALLS, CALLS_ON_BYTES, DATA_SIZES, NAME_SIZES, START};
 use reference::{Entry, MAX_ENTRIES, POLICY_BYTES, Pair, Policy, Switches};
-use varpolicy::{MAX_STORE_BYTES, Status};
+use varpolicy::{MAX_STORE_BYTES, Status, SwitchBytes};
 
 /// Counts what a call was given that got this answer, for this reason.
 pub fn count(coverage: &mut Coverage, state: &State, call: &Call, answer: &Answer, decided: Ground) {
@@ -28,10 +30,10 @@ pub fn count(coverage: &mut Coverage, state: &State, call: &Call, answer: &Answe
         Call::PowerOn { .. } => count_start(coverage, state, 0),
         Call::Restart { .. } => count_start(coverage, state, START.len() / 2),
         Call::Register { entry } => count_registration(coverage, state, entry),
-        Call::Dump { buffer } => count_dump(coverage, &state.policy, buffer.len()),
+        Call::Dump { buffer } => count_dump(coverage, state, buffer.len()),
         Call::Read { name, .. } => count_request_name(coverage, name),
         Call::Set { name, .. } => count_request_name(coverage, name),
-        Call::Lock | Call::Disable | Call::Query => {}
+        Call::Lock | Call::Disable | Call::Exit | Call::Query => {}
     }
     if let Call::PowerOn { .. } | Call::Restart { .. } | Call::Read { .. } | Call::Set { .. } = call {
         count_first_record(coverage, &state.nv);
@@ -40,6 +42,7 @@ pub fn count(coverage: &mut Coverage, state: &State, call: &Call, answer: &Answe
     if answer.status == Status::VolumeCorrupted {
         count_unsound(coverage, state.read_switches(), call);
     }
+    exit::count(coverage, state, call, answer.status);
     former::count(coverage, state, call, answer.status);
     triggers::count(coverage, state, call, answer.status);
     if let (Ground::Set(decided), Values::Written(report)) = (decided, &answer.values) {
@@ -51,44 +54,48 @@ pub fn count(coverage: &mut Coverage, state: &State, call: &Call, answer: &Answe
 fn count_unsound(coverage: &mut Coverage, switches: Switches, call: &Call) {
     match call {
         Call::Register { entry } => {
-            count_if(coverage, Input::Unsound, &[switches.locked, Entry::decode(entry).is_none()], 0);
+            let malformed = Entry::decode(entry).is_none();
+            count_if(coverage, Input::Unsound, &[switches.locked, malformed, switches.exited], 0);
         }
-        Call::Dump { buffer } => count_if(coverage, Input::Unsound, &[buffer.is_empty()], 2),
-        Call::Read { name, .. } => count_if(coverage, Input::Unsound, &[name.len() % 2 == 1 || name.is_empty()], 3),
+        Call::Dump { buffer } => count_if(coverage, Input::Unsound, &[buffer.is_empty(), switches.exited], 3),
+        Call::Read { name, .. } => {
+            count_if(coverage, Input::Unsound, &[name.len() % 2 == 1 || name.is_empty(), switches.exited], 5);
+        }
         Call::Set { name, attributes, payload, .. } => {
             let bad = name.is_empty() || payload.len() > 1024;
             let without_bs = attributes & 0x44 != 0 && attributes & 2 == 0;
-            let wrong = [bad, attributes & !0x47 != 0, without_bs, !switches.enabled];
-            count_if(coverage, Input::Unsound, &wrong, 4);
+            let not_for_runtime = switches.exited && attributes & 2 != 0 && attributes & 7 != 7 && !payload.is_empty();
+            let wrong = [bad, attributes & !0x47 != 0, without_bs, !switches.enabled, not_for_runtime];
+            count_if(coverage, Input::Unsound, &wrong, 7);
         }
         _ => {}
     }
 }
 
 fn count_switches(coverage: &mut Coverage, switches: Switches, call: &str) {
-    let bits = [switches.enabled, switches.locked, switches.disabling_allowed];
+    let bits = [switches.enabled, switches.locked, switches.disabling_allowed, switches.exited];
     let bits = bits.into_iter().fold(0, |number, bit| 2 * number + usize::from(bit));
     if let Some(call) = CALLS.iter().position(|known| *known == call) {
-        coverage.input(Input::Switches, 8 * call + bits);
+        coverage.input(Input::Switches, 16 * call + bits);
     }
 }
 
-/// Counts the bytes that are neither 0 nor 1, of the calls that are given them.
+/// Counts the bytes of the calls that are given them: those that are neither 0 nor 1, and each by its value.
 fn count_switch_bytes(coverage: &mut Coverage, state: &State, call: &Call) {
-    let other = |byte: u8| byte > 1;
+    let mut count = |label: usize, byte: u8| {
+        count_if(coverage, Input::SwitchBytes, &[byte > 1], label);
+        coverage.each(Each::SwitchByte, 256 * label + usize::from(byte));
+    };
     match call {
-        Call::PowerOn { disabling_allowed } => {
-            count_if(coverage, Input::SwitchBytes, &[other(*disabling_allowed)], 0);
-        }
-        Call::Restart { disabling_allowed } => {
-            count_if(coverage, Input::SwitchBytes, &[other(*disabling_allowed)], 1);
-        }
+        Call::PowerOn { disabling_allowed } => count(0, *disabling_allowed),
+        Call::Restart { disabling_allowed } => count(1, *disabling_allowed),
         _ => {
-            let bytes = state.switches;
-            let others = [bytes.enabled, bytes.locked, bytes.disabling_allowed].map(other);
-            if let Some(place) = CALLS_ON_BYTES.iter().position(|known| *known == call.name()) {
-                count_if(coverage, Input::SwitchBytes, &others, 2 + 3 * place);
-            }
+            let SwitchBytes { enabled, locked, disabling_allowed, exited } = state.switches;
+            let place = CALLS_ON_BYTES.iter().position(|known| *known == call.name());
+            let first_label = 2 + 4 * place.expect("every other call is given the switches");
+            (first_label..)
+                .zip([enabled, locked, disabling_allowed, exited])
+                .for_each(|(label, byte)| count(label, byte));
         }
     }
 }
@@ -123,7 +130,7 @@ fn count_start(coverage: &mut Coverage, state: &State, first_label: usize) {
 fn count_registration(coverage: &mut Coverage, state: &State, entry: &[u8]) {
     count_packed_names(coverage, entry);
     let decoded = Entry::decode(entry);
-    let locked = state.read_switches().locked;
+    let Switches { locked, exited, .. } = state.read_switches();
     let Some(policy) = Policy::decode(&state.policy) else {
         return;
     };
@@ -132,7 +139,8 @@ fn count_registration(coverage: &mut Coverage, state: &State, entry: &[u8]) {
     let (many, long) = (entries == MAX_ENTRIES, sum + entry.len() > POLICY_BYTES);
     let malformed = decoded.is_none();
     let repeat = decoded.as_ref().is_some_and(|entry| policy.holds(entry));
-    let fresh = !malformed && !repeat && !locked;
+    let (good, takes) = (!malformed && !repeat, !locked && !exited);
+    let fresh = good && takes;
     let holds = [
         fresh && entries == MAX_ENTRIES - 1,
         fresh && sum + entry.len() == POLICY_BYTES - 2,
@@ -142,16 +150,22 @@ fn count_registration(coverage: &mut Coverage, state: &State, entry: &[u8]) {
         fresh && many && !long,
         fresh && long && !many,
         fresh && many && long,
-        repeat && !locked && many,
-        repeat && !locked && sum == POLICY_BYTES,
-        malformed && !locked && many,
-        malformed && !locked && sum == POLICY_BYTES,
-        malformed && !locked && with_sizes_in_order(entry).is_some_and(|entry| policy.holds(&entry)),
-        malformed && locked,
-        repeat && locked,
+        repeat && takes && many,
+        repeat && takes && sum == POLICY_BYTES,
+        malformed && takes && many,
+        malformed && takes && sum == POLICY_BYTES,
+        malformed && takes && with_sizes_in_order(entry).is_some_and(|entry| policy.holds(&entry)),
+        malformed && locked && !exited,
+        repeat && locked && !exited,
+        exited && good && !locked && !many && !long,
+        exited && locked,
+        exited && malformed,
+        exited && repeat,
+        exited && good && many && !long,
+        exited && good && long && !many,
     ];
     count_if(coverage, Input::Registration, &holds, 0);
-    if let Some(entry) = decoded.filter(|_| !locked) {
+    if let Some(entry) = decoded.filter(|_| takes) {
         signs::count_registration(coverage, &policy, &entry);
     }
 }
@@ -159,6 +173,7 @@ fn count_registration(coverage: &mut Coverage, state: &State, entry: &[u8]) {
 /// The place in [`labels::SETTINGS`] of the switches.
 fn setting(lent: &State) -> usize {
     match lent.read_switches() {
+        Switches { exited: true, .. } => 3,
         Switches { locked: true, .. } => 2,
         Switches { enabled: false, .. } => 1,
         _ => 0,
@@ -210,12 +225,15 @@ fn packed_name(bytes: &[u8]) -> Option<usize> {
     }
 }
 
-fn count_dump(coverage: &mut Coverage, record: &[u8], len: usize) {
-    if Policy::decode(record).is_none() {
+fn count_dump(coverage: &mut Coverage, state: &State, len: usize) {
+    if Policy::decode(&state.policy).is_none() {
         return;
     }
-    let needed = entry_sizes(record).iter().sum();
+    let needed = entry_sizes(&state.policy).iter().sum();
+    let exited = state.read_switches().exited;
     let label = match len {
+        0 if exited => 7 + usize::from(needed > 0),
+        len if exited => 9 + usize::from(len >= needed),
         0 if needed == 0 => 0,
         0 => 1,
         len if len + 1 == needed => 2,

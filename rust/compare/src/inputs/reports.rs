@@ -49,14 +49,17 @@ fn says(met: &Met) -> Saying {
 }
 
 /// What decides a set that has no report, in words.
-const ENDINGS: [(SetGround, &str); 16] = [
+const ENDINGS: [(SetGround, &str); 19] = [
     (SetGround::BadStores, "stores"),
     (SetGround::BadRecord, "policy record"),
     (SetGround::BadName, "1 name"),
     (SetGround::LongPayload, "1 payload"),
     (SetGround::UnknownAttribute, "2"),
     (SetGround::WithoutBootService, "3"),
+    (SetGround::NotForRuntime, "3 after exit"),
     (SetGround::DeleteAbsent, "5 absent"),
+    (SetGround::DeleteHidden, "5 without RT"),
+    (SetGround::DeleteVolatile, "5 volatile"),
     (SetGround::Deleted, "5 deleted"),
     (SetGround::OtherAttributes, "6"),
     (SetGround::EmptyAppend, "7"),
@@ -83,8 +86,10 @@ fn can_be((ending, enabled, saying): Unreported) -> bool {
     match ending {
         SetGround::BadRecord => saying == Saying::NoEntry,
         SetGround::BadStores | SetGround::BadName | SetGround::LongPayload => true,
-        SetGround::UnknownAttribute | SetGround::WithoutBootService => true,
-        SetGround::DeleteAbsent | SetGround::Deleted => allowed || !enabled && saying == Saying::Lock,
+        SetGround::UnknownAttribute | SetGround::WithoutBootService | SetGround::NotForRuntime => true,
+        SetGround::DeleteAbsent | SetGround::DeleteHidden | SetGround::DeleteVolatile | SetGround::Deleted => {
+            allowed || !enabled && saying == Saying::Lock
+        }
         _ => allowed || !enabled,
     }
 }

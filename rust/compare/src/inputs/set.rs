@@ -2,7 +2,7 @@
 
 use super::labels::SIZE_VALUES;
 use super::signs::{self, NUMBER_SIGN, lock_number, would_match};
-use super::{count_if, former, reports};
+use super::{count_if, exit, former, reports};
 use crate::call::Call;
 use crate::coverage::{Coverage, Input};
 use crate::state::State;
@@ -30,6 +30,7 @@ pub(super) fn count(coverage: &mut Coverage, state: &State, call: &Call, decided
     reports::count(coverage, (&policy, namespace), &met, decided, report);
     if sound {
         count_met(coverage, state, (&policy, namespace), &met);
+        exit::count_set(coverage, &met, decided);
     }
 }
 
@@ -159,7 +160,7 @@ fn count_sum(coverage: &mut Coverage, met: &Met, entry: &Entry) {
         _ => return,
     };
     let later = met.behind_size();
-    let [attributes, lock, _, others, empty, long, no_room] = later;
+    let [attributes, lock, _, _, _, others, empty, long, no_room] = later;
     let differ = met.found.map_or(0, |(_, _, variable)| variable.attributes ^ met.attributes);
     let (other_nv, other_rt) = (lock && differ & NV != 0, lock && differ & RT != 0);
     let none = !later.contains(&true);
@@ -209,15 +210,21 @@ fn is_matched_by_some(pair: &Pair, trigger: &Trigger) -> bool {
 }
 
 fn count_deletion(coverage: &mut Coverage, met: &Met) {
+    if let Some(form) = deletion_form(met) {
+        coverage.input(Input::Deletion, 3 * form + met.place());
+    }
+}
+
+/// The place in [`super::labels::DELETION_FORMS`] of a request.
+pub(super) fn deletion_form(met: &Met) -> Option<usize> {
     let empty = met.length == 0;
-    let form = match met.attributes {
-        0 => usize::from(empty),
-        1 => 2 + usize::from(empty),
-        attributes if attributes & 0x40 != 0 && empty => 5,
-        _ if empty => 4,
-        _ => return,
-    };
-    coverage.input(Input::Deletion, 3 * form + met.place());
+    match met.attributes {
+        0 => Some(usize::from(empty)),
+        1 => Some(2 + usize::from(empty)),
+        attributes if attributes & 0x40 != 0 && empty => Some(5),
+        _ if empty => Some(4),
+        _ => None,
+    }
 }
 
 fn count_room(coverage: &mut Coverage, met: &Met) {

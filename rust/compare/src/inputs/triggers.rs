@@ -64,16 +64,16 @@ fn count_refused(coverage: &mut Coverage, lent: &State, entry: &[u8], status: St
         return;
     };
     let Some(policy) = Policy::decode(&lent.policy) else {
-        coverage.input(Input::SignRefused, 5);
+        coverage.input(Input::SignRefused, 6);
         return;
     };
     let switches = lent.read_switches();
     let sum: usize = entry_sizes(&lent.policy).iter().sum();
     let (repeat, many) = (policy.holds(&decoded), policy.entries.len() == MAX_ENTRIES);
     let long = sum + entry.len() > POLICY_BYTES;
-    let beside = [switches.locked, repeat, many, long, !switches.enabled];
+    let beside = [switches.locked, repeat, many, long, !switches.enabled, switches.exited];
     count_if(coverage, Input::SignRefused, &beside, 0);
-    if beside == [false; 5] && status == Status::InvalidParameter {
+    if beside == [false; 6] && status == Status::InvalidParameter {
         count_alone(coverage, &decoded, &places);
     }
 }
@@ -121,7 +121,8 @@ fn count_defect(coverage: &mut Coverage, lent: &State, entry: &[u8]) {
         Some(7) => 3,
         _ => 4,
     };
-    if !lent.read_switches().locked && Policy::decode(&lent.policy).is_some() {
+    let switches = lent.read_switches();
+    if !switches.locked && !switches.exited && Policy::decode(&lent.policy).is_some() {
         coverage.input(Input::SignDefect, label);
     }
 }
@@ -180,7 +181,7 @@ fn count_record(coverage: &mut Coverage, lent: &State, call: &Call) {
     let (Some(policy), Some(_)) = (Policy::decode(&plain), Pair::decode(&lent.nv, &lent.volatile)) else {
         return;
     };
-    coverage.input(Input::SignSetting, 3 * call + setting(lent));
+    coverage.input(Input::SignSetting, 4 * call + setting(lent));
     let last = policy.entries.len() - 1;
     let place = match signed[..] {
         [(0, _)] if last == 0 => 0,

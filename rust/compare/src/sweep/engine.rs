@@ -16,12 +16,15 @@ pub(super) fn run(sweep: &mut Sweep) -> Outcome {
     dumps(sweep)
 }
 
-/// Every setting of the switches by 0 and 1.
+/// Every setting of the switches by 0 and 1, before exit.
 pub(super) fn settings() -> impl Iterator<Item = SwitchBytes> {
-    (0..8).map(|bits| SwitchBytes { enabled: bits >> 2 & 1, locked: bits >> 1 & 1, disabling_allowed: bits & 1 })
+    (0..8).map(|bits| {
+        let [enabled, locked, disabling_allowed] = [2, 1, 0].map(|place| bits >> place & 1);
+        SwitchBytes { enabled, locked, disabling_allowed, exited: 0 }
+    })
 }
 
-/// Every call under every setting of the switches.
+/// Every call under every setting of the switches, before exit.
 fn switches(sweep: &mut Sweep) -> Outcome {
     for switches in settings() {
         let nv = store(128, &[record(&G, &units("A"), 3, &[1])]);

@@ -5,6 +5,7 @@ mod choices;
 mod dumps;
 mod engine;
 mod entries;
+mod exit;
 mod limits;
 mod names;
 mod pieces;
@@ -35,7 +36,7 @@ type Outcome = Result<(), String>;
 
 type Part = (&'static str, fn(&mut Sweep) -> Outcome);
 
-const PARTS: [Part; 16] = [
+const PARTS: [Part; 17] = [
     ("entries", entries::run),
     ("engine", engine::run),
     ("choices", choices::run),
@@ -52,6 +53,7 @@ const PARTS: [Part; 16] = [
     ("dumps", dumps::run),
     ("reading", reading::run),
     ("pieces", pieces::run),
+    ("exit", exit::run),
 ];
 
 struct Sweep<'a> {
@@ -85,8 +87,8 @@ impl Sweep<'_> {
 /// An erased store.
 const ERASED: &[u8] = &[0xFF; 128];
 
-/// The switches of an engine that is enabled, unlocked and may be disabled.
-const OPEN: SwitchBytes = SwitchBytes { enabled: 1, locked: 0, disabling_allowed: 1 };
+/// The switches of an engine that is enabled, unlocked, may be disabled and has not exited.
+const OPEN: SwitchBytes = SwitchBytes { enabled: 1, locked: 0, disabling_allowed: 1, exited: 0 };
 
 /// An open engine over these stores, with these entries.
 fn state(nv: &[u8], volatile: &[u8], entries: &[Vec<u8>]) -> State {

@@ -168,7 +168,7 @@ fn deletions(sweep: &mut Sweep) -> Outcome {
 
 /// Stores in which the variable is absent, or in one of them with these attributes and this length, with
 /// room for more and without.
-fn places() -> Vec<(Vec<u8>, Vec<u8>)> {
+pub(super) fn places() -> Vec<(Vec<u8>, Vec<u8>)> {
     let roomy = 2200;
     let mut places =
         vec![(vec![0xFF; roomy], vec![0xFF; roomy]), (Vec::new(), Vec::new()), (vec![0xFF; 35], vec![0xFF; 35])];
@@ -182,13 +182,13 @@ fn places() -> Vec<(Vec<u8>, Vec<u8>)> {
     places
 }
 
-/// Requests of all kinds over entries of all kinds, so that every two steps that can hold at once do.
-fn steps_at_once(sweep: &mut Sweep) -> Outcome {
+/// Entries that ask for all that an entry can.
+pub(super) fn asking() -> [EntryFields; 12] {
     let sizes = |min_size, max_size| EntryFields { min_size, max_size, ..entry("A") };
     let bits = |must_have, cant_have| EntryFields { must_have, cant_have, ..entry("A") };
     let locking = |fields: EntryFields, lock_type| EntryFields { lock_type, ..fields };
     let whole = EntryFields { name: Vec::new(), ..locking(sizes(2, 3), 1) };
-    let entries = [
+    [
         locking(entry("A"), 0),
         locking(entry("A"), 1),
         locking(entry("A"), 2),
@@ -201,8 +201,12 @@ fn steps_at_once(sweep: &mut Sweep) -> Outcome {
         locking(bits(3, 0x40), 1),
         locking(bits(0x40, 4), 2),
         whole,
-    ];
-    for fields in entries {
+    ]
+}
+
+/// Requests of all kinds over entries of all kinds, so that every two steps that can hold at once do.
+fn steps_at_once(sweep: &mut Sweep) -> Outcome {
+    for fields in asking() {
         for (nv, volatile) in places() {
             let mut state = state(&nv, &volatile, &[fields.pack()]);
             sweep.each(&state, requests())?;

@@ -7,8 +7,8 @@ use crate::make::{G, units};
 use crate::state::State;
 use varpolicy::SwitchBytes;
 
-/// Every value of every byte of the switches, beside every setting of the other two, and of the leave to
-/// disable that a start is given.
+/// Every value of the first three bytes of the switches, beside every setting of the other two before exit, and of the
+/// leave to disable that a start is given. The fourth byte, and the calls of E10, are in [`super::exit`].
 pub(super) fn run(sweep: &mut Sweep) -> Outcome {
     let state = super::state(ERASED, ERASED, &[locking(G, &units("A"))]);
     let calls = [register(entry("B").pack()), Call::Lock, Call::Disable, Call::Query, set(&units("A"), 2, vec![2])];

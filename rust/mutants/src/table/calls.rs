@@ -2,10 +2,10 @@
 
 use super::{Edit, edit};
 
-const REFUSED: &str = "Switches { enabled: true, locked: true, disabling_allowed: false });";
+pub(super) const REFUSED: &str = "Switches { enabled: true, locked: true, disabling_allowed: false, exited: false });";
 pub(super) const POWER_ON: &str = "if !sound || volatile.len() > MAX_STORE || policy.len() != POLICY_BYTES {";
 pub(super) const RESTART: &str = "if Pair::decode(non_volatile, volatile).is_none() || policy.len() != POLICY_BYTES {";
-const STARTED: &str = "Switches { enabled: true, locked: false, disabling_allowed })";
+pub(super) const STARTED: &str = "Switches { enabled: true, locked: false, disabling_allowed, exited: false })";
 pub(super) const REGISTER_LOCKED: &str =
     "if switches.locked {\n        return RegisterGround::Locked;\n    }\n    let Some(decoded)";
 pub(super) const REPEATED: &str = "if policy.holds(&decoded) {\n        return RegisterGround::Repeated;";
@@ -22,43 +22,43 @@ pub(super) const EDITS: &[Edit] = &[
     edit(
         "start-refused-disabled",
         REFUSED,
-        "Switches { enabled: false, locked: true, disabling_allowed: false });",
+        "Switches { enabled: false, locked: true, disabling_allowed: false, exited: false });",
         "a refused start hands back a disabled engine",
     ),
     edit(
         "start-refused-unlocked",
         REFUSED,
-        "Switches { enabled: true, locked: false, disabling_allowed: false });",
+        "Switches { enabled: true, locked: false, disabling_allowed: false, exited: false });",
         "a refused start hands back an unlocked engine",
     ),
     edit(
         "start-refused-allowed",
         REFUSED,
-        "Switches { enabled: true, locked: true, disabling_allowed: true });",
+        "Switches { enabled: true, locked: true, disabling_allowed: true, exited: false });",
         "a refused start hands back leave to disable",
     ),
     edit(
         "start-disabled",
         STARTED,
-        "Switches { enabled: false, locked: false, disabling_allowed })",
+        "Switches { enabled: false, locked: false, disabling_allowed, exited: false })",
         "an engine starts disabled",
     ),
     edit(
         "start-locked",
         STARTED,
-        "Switches { enabled: true, locked: true, disabling_allowed })",
+        "Switches { enabled: true, locked: true, disabling_allowed, exited: false })",
         "an engine starts locked",
     ),
     edit(
         "start-allowed",
         STARTED,
-        "Switches { enabled: true, locked: false, disabling_allowed: true })",
+        "Switches { enabled: true, locked: false, disabling_allowed: true, exited: false })",
         "every engine may be disabled",
     ),
     edit(
         "start-not-allowed",
         STARTED,
-        "Switches { enabled: true, locked: false, disabling_allowed: !disabling_allowed })",
+        "Switches { enabled: true, locked: false, disabling_allowed: !disabling_allowed, exited: false })",
         "leave to disable is turned round",
     ),
     edit("start-keeps-entries", "    policy.fill(0);\n", "", "a start keeps the policy record"),

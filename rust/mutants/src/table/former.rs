@@ -135,7 +135,7 @@ pub(super) const EDITS: &[Edit] = &[
     edit(
         "former-length-in-dump",
         DUMPED,
-        "if record.len() == 8192 { return dump(&[record, &[0; 8192]].concat(), buffer); } let Some(policy) = \
+        "if record.len() == 8192 { return dump(&[record, &[0; 8192]].concat(), switches, buffer); } let Some(policy) = \
          Policy::decode(record) else { return (Status::VolumeCorrupted, 0);",
         "dump takes a record of the former length too",
     ),

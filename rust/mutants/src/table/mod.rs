@@ -10,10 +10,13 @@
 //! least, asked of it; a '#' in a trigger's name that a set takes for a pattern, or for no variable (no trigger has
 //! one); a report that never counts BS as missing, or tells 5 bits of the number of missing bits (every set that
 //! is asked for attributes has BS); a quarrel that is not looked for among names of one unit, names of '#' alone
-//! or whole namespaces (none of them has any), and 16 bits of a dump's length (128 entries have fewer bytes).
+//! or whole namespaces (none of them has any), and 16 bits of a dump's length (128 entries have fewer bytes);
+//! after exit BS not asked for beside NV and RT (step 3 has refused RT without BS), NV and RT asked for before the rest
+//! of step 3 (one status, and no report), and volatile records that need no room (nothing is written there).
 
 mod calls;
 mod entry;
+mod exit;
 mod former;
 mod limits;
 mod name;
@@ -55,7 +58,7 @@ impl Edit {
 }
 
 /// The edits of each file in `reference/src`.
-const FILES: [(&str, &[Edit]); 26] = [
+const FILES: [(&str, &[Edit]); 29] = [
     ("lib.rs", limits::EDITS),
     ("lib.rs", former::LIMIT_EDITS),
     ("cursor.rs", limits::CURSOR_EDITS),
@@ -82,6 +85,9 @@ const FILES: [(&str, &[Edit]); 26] = [
     ("switches.rs", switches::EDITS),
     ("quarrel.rs", quarrels::EDITS),
     ("reading.rs", reading::EDITS),
+    ("engine.rs", exit::EDITS),
+    ("switches.rs", exit::SWITCH_EDITS),
+    ("report.rs", exit::REPORT_EDITS),
 ];
 
 /// All edits, each with its file.

@@ -5,10 +5,10 @@ use super::{Edit, edit};
 const DELETION: &str = "!self.has(APPEND) && (self.payload.is_empty() || !self.has(BS | RT))";
 pub(super) const LOOKS_AT_RECORD: &str =
     "    let Some(policy) = Policy::decode(record) else {\n        return SetGround::BadRecord;\n    };\n";
-const LOOKS_AT_STORES: &str = "    let Some(mut pair) = Pair::decode(non_volatile, volatile) else {";
-const STEPS_1_TO_3: &str = "    let name = match well_formed(&request) {";
+pub(super) const LOOKS_AT_STORES: &str = "    let Some(mut pair) = Pair::decode(non_volatile, volatile) else {";
+pub(super) const STEPS_1_TO_3: &str = "    let name = match well_formed(&request, switches.exited) {";
 const PAYLOAD: &str = "if request.payload.len() > MAX_PAYLOAD {";
-const UNKNOWN: &str = "if request.has(!(NV | BS | RT | APPEND)) {";
+pub(super) const UNKNOWN: &str = "if request.has(!(NV | BS | RT | APPEND)) {";
 pub(super) const NAME: &str = "    let name = name::decode_request(request.name).ok_or(SetGround::BadName)?;\n";
 const WITHOUT_BS: &str = "if request.has(RT | APPEND) && !request.has(BS) {";
 pub(super) const POLICY: &str = "    if switches.enabled\n        && let Some(ground)";
@@ -22,8 +22,10 @@ const ON_CREATE: &str = "pair.find(request.namespace, name).map(|_| SetGround::L
 pub(super) const TRIGGER: &str = "pair.find(&trigger.namespace, &trigger.name)?;";
 const TRIGGERED: &str = "(variable.payload == [trigger.value]).then_some(SetGround::LockedOnVarState)";
 pub(super) const CHOSEN: &str = "    let entry = policy.choose(request.namespace, name)?;\n";
-const DELETED: &str = "pair.of_mut(kind).remove(place);";
-const DELETES: &str = "    if request.is_deletion() {\n        let Some((kind, place, _))";
+pub(super) const DELETED: &str = "pair.of_mut(kind).remove(place);";
+const DELETES: &str = "    if request.is_deletion() {\n        let (kind, place)";
+pub(super) const FOUND: &str =
+    "let (kind, place, variable) = pair.find(request.namespace, name).ok_or(SetGround::DeleteAbsent)?;";
 const OTHERS: &str = "stored != attributes)";
 const EMPTY_APPEND: &str =
     "    if append && request.payload.is_empty() {\n        return SetGround::EmptyAppend;\n    }\n";
@@ -33,7 +35,7 @@ const CREATED: &str = "pair.of_mut(kind).push(Variable { namespace, name: name.t
 const JOINED: &str = "    let payload = payload_afterwards(pair, request, name);\n";
 const LONG: &str = "    if append && payload.len() > MAX_PAYLOAD {\n        return SetGround::AppendTooLong;";
 const REWRITTEN: &str = "    pair.of_mut(kind)[place].payload = payload;\n";
-const ROOM: &str =
+pub(super) const ROOM: &str =
     "if encoded_len(&pair.non_volatile) > non_volatile.len() || encoded_len(&pair.volatile) > volatile.len() {";
 
 pub(super) const EDITS: &[Edit] = &[
@@ -54,21 +56,21 @@ pub(super) const EDITS: &[Edit] = &[
     edit(
         "set-steps-before-stores",
         LOOKS_AT_STORES,
-        "if let Err(ground) = well_formed(&request) { return ground; } let Some(mut pair) = \
+        "if let Err(ground) = well_formed(&request, switches.exited) { return ground; } let Some(mut pair) = \
          Pair::decode(non_volatile, volatile) else {",
         "set: steps 1 to 3 before 10 for a store",
     ),
     edit(
         "set-steps-before-record",
         LOOKS_AT_RECORD,
-        "if let Err(ground) = well_formed(&request) { return ground; } let Some(policy) = Policy::decode(record) \
-         else { return SetGround::BadRecord; };",
+        "if let Err(ground) = well_formed(&request, switches.exited) { return ground; } let Some(policy) = \
+         Policy::decode(record) else { return SetGround::BadRecord; };",
         "set: steps 1 to 3 before 10 for the policy record",
     ),
     edit(
         "set-locked-engine",
         STEPS_1_TO_3,
-        "if switches.locked { return SetGround::LockedNow; } let name = match well_formed(&request) {",
+        "if switches.locked { return SetGround::LockedNow; } let name = match well_formed(&request, switches.exited) {",
         "a locked engine sets nothing",
     ),
     // What a deletion is.
@@ -194,7 +196,7 @@ pub(super) const EDITS: &[Edit] = &[
         STEPS_1_TO_3,
         "if switches.enabled && let Some(name) = name::decode_request(request.name) && let Some(ground) = \
          refused_by_policy(&policy, &pair, &request, &name) { return ground; } let name = match \
-         well_formed(&request) {",
+         well_formed(&request, switches.exited) {",
         "step 4 before steps 2 and 3",
     ),
     edit(
@@ -202,7 +204,7 @@ pub(super) const EDITS: &[Edit] = &[
         STEPS_1_TO_3,
         "if switches.enabled && !request.has(!(NV | BS | RT | APPEND)) && request.payload.len() <= MAX_PAYLOAD && \
          let Some(name) = name::decode_request(request.name) && let Some(ground) = refused_by_policy(&policy, \
-         &pair, &request, &name) { return ground; } let name = match well_formed(&request) {",
+         &pair, &request, &name) { return ground; } let name = match well_formed(&request, switches.exited) {",
         "step 4 before step 3",
     ),
     edit("step4-deletion-size", ASKED, "if true { let length", "a deletion is asked for size and attributes"),
@@ -483,21 +485,21 @@ pub(super) const EDITS: &[Edit] = &[
         DELETES,
         "if request.is_deletion() && request.attributes != 0 && pair.find(request.namespace, \
          &name).is_some_and(|found| found.2.attributes != request.attributes) { return SetGround::OtherAttributes; \
-         } if request.is_deletion() { let Some((kind, place, _))",
+         } if request.is_deletion() { let (kind, place)",
         "a deletion is asked for the stored attributes",
     ),
     edit(
         "step5-nv",
-        "let Some((kind, place, _)) = pair.find(request.namespace, &name) else {",
-        "let Some((kind, place, _)) = pair.find(request.namespace, &name).filter(|found| found.0 == \
-         Kind::NonVolatile) else {",
+        FOUND,
+        "let (kind, place, variable) = pair.find(request.namespace, name).filter(|found| found.0 == \
+         Kind::NonVolatile).ok_or(SetGround::DeleteAbsent)?;",
         "only the non-volatile store is deleted from",
     ),
     edit(
         "step5-store-of-request",
-        "let Some((kind, place, _)) = pair.find(request.namespace, &name) else {",
-        "let Some((kind, place, _)) = pair.find(request.namespace, &name).filter(|found| request.attributes == 0 \
-         || request.has(NV) == (found.0 == Kind::NonVolatile)) else {",
+        FOUND,
+        "let (kind, place, variable) = pair.find(request.namespace, name).filter(|found| request.attributes == 0 || \
+         request.has(NV) == (found.0 == Kind::NonVolatile)).ok_or(SetGround::DeleteAbsent)?;",
         "a deletion looks in the store that its NV bit names",
     ),
     edit("step5-last-fills-gap", DELETED, "pair.of_mut(kind).swap_remove(place);", "the last record fills the gap"),
@@ -535,7 +537,7 @@ pub(super) const EDITS: &[Edit] = &[
         "step6-before-5",
         DELETES,
         "if pair.find(request.namespace, &name).is_some_and(|found| found.2.attributes != request.attributes & \
-         !APPEND) { return SetGround::OtherAttributes; } if request.is_deletion() { let Some((kind, place, _))",
+         !APPEND) { return SetGround::OtherAttributes; } if request.is_deletion() { let (kind, place)",
         "step 6 before step 5",
     ),
     edit("step6-nv-only", OTHERS, "(stored ^ attributes) & NV != 0)", "only NV is compared"),

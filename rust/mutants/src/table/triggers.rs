@@ -13,25 +13,6 @@ const WITH_TRIGGER: &str = "3 => LockRule::LockOnVarState(Trigger::decode(before
 const IN_RECORD: &str = "let entry = Entry::decode(bytes)?;";
 const MALFORMED: &str =
     "let Some(decoded) = Entry::decode(entry) else {\n        return RegisterGround::Malformed;\n    };";
-const STATUS_AND_REGISTER: &str = "RegisterGround::Malformed => Status::InvalidParameter,
-            RegisterGround::Repeated => Status::AlreadyStarted,
-            RegisterGround::TooMany | RegisterGround::TooLong => Status::OutOfResources,
-            RegisterGround::Registered => Status::Success,
-        }
-    }
-}
-
-/// Registers an entry.
-pub fn register(record: &mut [u8], switches: Switches, entry: &[u8]) -> RegisterGround {
-    let Some(mut policy) = Policy::decode(record) else {
-        return RegisterGround::BadRecord;
-    };
-    if switches.locked {
-        return RegisterGround::Locked;
-    }
-    let Some(decoded) = Entry::decode(entry) else {
-        return RegisterGround::Malformed;
-    };";
 
 /// This text behind a function `plain`, which decodes an entry with 0 for each '#' in its trigger's name.
 macro_rules! with_plain {
@@ -446,18 +427,10 @@ pub(super) const EDITS: &[Edit] = &[
     ),
     edit(
         "register-trigger-sign-3",
-        STATUS_AND_REGISTER,
-        concat!(
-            "RegisterGround::Malformed if SIGN.swap(false, Relaxed) => Status::Unsupported, RegisterGround::Malformed => \
-             Status::InvalidParameter, RegisterGround::Repeated => Status::AlreadyStarted, RegisterGround::TooMany | \
-             RegisterGround::TooLong => Status::OutOfResources, RegisterGround::Registered => Status::Success, } } } use \
-             std::sync::atomic::{AtomicBool, Ordering::Relaxed}; static SIGN: AtomicBool = AtomicBool::new(false); pub fn \
-             register(record: &mut [u8], switches: Switches, entry: &[u8]) -> RegisterGround { ",
-            with_plain!(
-                "let Some(mut policy) = Policy::decode(record) else { return RegisterGround::BadRecord; }; if \
-                 switches.locked { return RegisterGround::Locked; } let Some(decoded) = Entry::decode(entry) else { \
-                 SIGN.store(plain(entry).is_some(), Relaxed); return RegisterGround::Malformed; };"
-            )
+        MALFORMED,
+        with_plain!(
+            "let Some(decoded) = Entry::decode(entry) else { return if plain(entry).is_some() { RegisterGround::Exited } \
+             else { RegisterGround::Malformed }; };"
         ),
         "'#' in the trigger's name: registration answers 3",
     ),

@@ -1,9 +1,7 @@
 //! Why bytes are not a dump (docs/RULES.md, 10.11): the first entry that an engine with those before it refuses.
 
-use super::{entry, register};
-use varpolicy::{POLICY_BYTES, Status, Switches, calls};
-
-const OPEN: Switches = Switches { enabled: true, locked: false, disabling_allowed: false };
+use super::{OPEN, entry, register};
+use varpolicy::{POLICY_BYTES, Status, calls};
 
 /// The first entry that is malformed, repeated or past the limits, by its place and its first byte. None of a dump.
 pub fn fault(bytes: &[u8]) -> Option<String> {

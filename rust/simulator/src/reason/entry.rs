@@ -103,8 +103,9 @@ fn name_defect(which: &str, closed: &[u8]) -> Option<String> {
 
 #[cfg(test)]
 mod tests {
+    use super::super::OPEN;
     use super::*;
-    use varpolicy::{Entry, Lock, Name, POLICY_BYTES, Status, Switches, calls};
+    use varpolicy::{Entry, Lock, Name, POLICY_BYTES, Status, calls};
 
     fn plain(name: &str) -> Vec<u8> {
         Entry::new([1; 16], Name::new(name).unwrap()).pack().to_vec()
@@ -169,8 +170,7 @@ mod tests {
 
     /// Whether an engine without entries finds an entry malformed.
     fn is_malformed(entry: &[u8]) -> bool {
-        let open = Switches { enabled: true, locked: false, disabling_allowed: false };
-        calls::register(&mut [0; POLICY_BYTES], open, entry) == Status::InvalidParameter
+        calls::register(&mut [0; POLICY_BYTES], OPEN, entry) == Status::InvalidParameter
     }
 
     /// Entries with each byte changed to some others, cut at each place, and with a byte more.

@@ -7,17 +7,24 @@ mod set;
 
 use crate::describe;
 use varpolicy::calls;
-use varpolicy::{MAX_ENTRIES, MAX_NAME_UNITS, MAX_STORE_BYTES, POLICY_BYTES, Status, SwitchBytes, Switches};
+use varpolicy::{MAX_ENTRIES, MAX_NAME_UNITS, MAX_STORE_BYTES, Namespace, POLICY_BYTES, Status, SwitchBytes, Switches};
 
 pub use set::{Refusal, is_deletion};
 
 /// Of every call that is lent a policy record and is no start.
-pub const BAD_RECORD: &str = "the policy record is not valid";
+const BAD_RECORD: &str = "the policy record is not valid";
 
-/// Of a lock.
-pub const LOCKED_ALREADY: &str = "the engine is locked already";
+/// Of a second exit.
+pub const EXITED_ALREADY: &str = "the engine has exited already";
+
+/// Of every other call that is not to be had after exit.
+const EXITED: &str = "the operating system has started";
 
 const ABSENT: &str = "the variable does not exist";
+const HIDDEN: &str = "the variable has no RT, and the operating system has started";
+
+/// The switches of an engine from which entries and variables can be had: a reason is looked for in them after exit too.
+const OPEN: Switches = Switches { enabled: true, locked: false, disabling_allowed: false, exited: false };
 
 /// Of a power-on, which takes any content of the volatile store.
 pub fn power_on(nv: &[u8], volatile: &[u8]) -> String {
@@ -33,9 +40,10 @@ pub fn restart(nv: &[u8], volatile: &[u8]) -> String {
 /// Of a registration that was answered so.
 pub fn register(status: Status, policy: &[u8], entry: &[u8]) -> String {
     let mut buffer = vec![0; POLICY_BYTES];
-    let length = calls::dump(policy, &mut buffer).length;
+    let length = calls::dump(policy, OPEN, &mut buffer).length;
     let entries = describe::split(&buffer[..length]);
     match status {
+        Status::Unsupported => EXITED.to_string(),
         Status::WriteProtected => "the engine is locked".to_string(),
         Status::InvalidParameter => entry::defect(entry).unwrap_or_default(),
         Status::AlreadyStarted => {
@@ -51,6 +59,22 @@ pub fn register(status: Status, policy: &[u8], entry: &[u8]) -> String {
     }
 }
 
+/// Of a dump that was answered so and told no length.
+pub fn dump(status: Status) -> &'static str {
+    match status {
+        Status::Unsupported => EXITED,
+        _ => BAD_RECORD,
+    }
+}
+
+/// Of a lock that was answered so.
+pub fn lock(status: Status) -> &'static str {
+    match status {
+        Status::Unsupported => EXITED,
+        _ => "the engine is locked already",
+    }
+}
+
 /// Of bytes in which quarrels are looked for.
 pub fn no_dump(bytes: &[u8]) -> String {
     format!("not a dump: {}", dump::fault(bytes).unwrap_or_default())
@@ -59,6 +83,7 @@ pub fn no_dump(bytes: &[u8]) -> String {
 /// Of a disable that was answered so.
 pub fn disable(status: Status, switches: SwitchBytes) -> &'static str {
     match status {
+        Status::Unsupported => EXITED,
         Status::AlreadyStarted => "the engine is disabled already",
         _ if Switches::from(switches).locked => "the engine is locked",
         _ => "disabling is not allowed",
@@ -66,11 +91,19 @@ pub fn disable(status: Status, switches: SwitchBytes) -> &'static str {
 }
 
 /// Of a read that was answered so.
-pub fn read(status: Status, nv: &[u8], volatile: &[u8], name: &[u8]) -> String {
+pub fn read(status: Status, nv: &[u8], volatile: &[u8], namespace: &Namespace, name: &[u8]) -> String {
     match status {
         Status::InvalidParameter => bad_name(name),
-        Status::NotFound => ABSENT.to_string(),
+        Status::NotFound => not_found(nv, volatile, namespace, name).to_string(),
         _ => bad_stores(nv, volatile).unwrap_or_default(),
+    }
+}
+
+/// Of a variable that is not found: there is none, or one that is hidden after exit.
+fn not_found(nv: &[u8], volatile: &[u8], namespace: &Namespace, name: &[u8]) -> &'static str {
+    match calls::read(nv, volatile, OPEN, namespace, name).status {
+        Status::Success => HIDDEN,
+        _ => ABSENT,
     }
 }
 
@@ -93,7 +126,7 @@ fn too_long(kind: &str, store: &[u8]) -> Option<String> {
 
 /// These words, if the pair is not sound.
 fn unsound(nv: &[u8], volatile: &[u8], words: &str) -> Option<String> {
-    let status = calls::read(nv, volatile, &[0; 16], b"A\0").status;
+    let status = calls::read(nv, volatile, OPEN, &[0; 16], b"A\0").status;
     (status == Status::VolumeCorrupted).then(|| words.to_string())
 }
 
@@ -191,10 +224,71 @@ mod tests {
     }
 
     #[test]
+    fn after_exit_a_call_tells_that_the_system_has_started() {
+        let exited = "UNSUPPORTED the operating system has started";
+        for line in ["register G \"A\"", "register raw", "dump", "dump 0", "lock", "disable"] {
+            assert_eq!(told(&["exit"], line), exited, "{line}");
+            assert_eq!(told(&["register G \"A\"", "disable", "lock", "exit"], line), exited, "{line}");
+        }
+        for line in ["quarrels", "feed-dump"] {
+            assert_eq!(told(&["exit"], line), format!("dump {exited}"));
+        }
+        for line in ["register G \"A\"", "dump"] {
+            let bad = "VOLUME_CORRUPTED the policy record is not valid";
+            assert_eq!(told(&["exit", "poke policy 16383 01"], line), bad, "{line}");
+        }
+        assert_eq!(told(&["exit"], "exit"), "UNSUPPORTED the engine has exited already");
+    }
+
+    #[test]
+    fn an_exit_is_shown_until_a_start() {
+        assert_eq!(told(&["exit"], "state"), "SUCCESS enabled, exited");
+        assert_eq!(told(&["disable", "lock", "exit"], "state"), "SUCCESS disabled, exited");
+        for start in [POWER_ON, "restart"] {
+            assert_eq!(told(&["exit", start], "state"), "SUCCESS enabled");
+            let goes_on = "; the engine goes on with its own, exited among them";
+            let refused = format!("VOLUME_CORRUPTED the non-volatile store is not sound{REFUSED_START}{goes_on}");
+            assert_eq!(told(&["exit", "poke nv 0 00"], start), refused);
+        }
+    }
+
+    #[test]
+    fn a_rebuild_after_exit_tells_its_dump() {
+        let entries = ["register G \"A#\"", "register G \"#B\""];
+        let rebuilt = |before: &[&str], line: &str| told(&[&entries[..], before].concat(), line);
+        let made = "SUCCESS restart, 2 registered, lock, exit; from";
+        let (last, made_for_it) = ("the last dump, which is complete", "a dump that was made just before exit");
+        assert_eq!(rebuilt(&["lock", "exit"], "rebuild"), format!("{made} {made_for_it}"));
+        assert_eq!(rebuilt(&["dump", "lock", "exit", "rebuild"], "rebuild"), format!("{made} {last}"));
+        assert_eq!(rebuilt(&["dump", "rebuild reverse", "lock", "exit"], "rebuild"), format!("{made} {last}"));
+        let changed =
+            "; entries 0 and 1 of equal rank both target G \"AB\" and changed places: later answers may differ";
+        assert_eq!(rebuilt(&["dump", "lock", "exit"], "rebuild reverse"), format!("{made} {last}{changed}"));
+        let outdated = ["dump", "restart", "register G \"C\"", "exit"];
+        let one = "SUCCESS restart, 1 registered, exit; from a dump that was made just before exit";
+        assert_eq!(rebuilt(&outdated, "rebuild"), one);
+        let none = "dump UNSUPPORTED the operating system has started";
+        assert_eq!(rebuilt(&["dump", "exit", "poke policy 16383 00"], "rebuild"), none);
+        let old = ["disable", "dump", "lock", "exit", "rebuild"];
+        assert_eq!(rebuilt(&old, "state"), "SUCCESS disabled, exited");
+        assert_eq!(
+            rebuilt(&old, "rebuild"),
+            format!("SUCCESS restart, 2 registered, disable, lock, exit; from {last}")
+        );
+    }
+
+    #[test]
     fn a_read_tells_its_ground() {
         assert_eq!(told(&[], "read G \"A\""), "NOT_FOUND the variable does not exist");
         assert_eq!(told(&[], "read G hex:410000"), "INVALID_PARAMETER the name has 3 bytes, an odd number");
         let unsound = "VOLUME_CORRUPTED the non-volatile store is not sound";
         assert_eq!(told(&["poke nv 0 00"], "read G \"\""), unsound);
+        let hidden = "NOT_FOUND the variable has no RT, and the operating system has started";
+        for set in ["set G \"A\" NV|BS 00", "set G \"A\" BS 00"] {
+            assert_eq!(told(&[set, "exit"], "read G \"A\""), hidden);
+            assert_eq!(told(&[set, "exit"], "read G \"B\""), "NOT_FOUND the variable does not exist");
+        }
+        assert_eq!(told(&["set G \"A\" BS|RT 00", "exit"], "read G \"A\""), "SUCCESS BS|RT, 1 byte: 00");
+        assert_eq!(told(&["exit", "poke nv 0 00"], "read G \"A\""), unsound);
     }
 }

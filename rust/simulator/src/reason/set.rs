@@ -1,17 +1,21 @@
 //! Why a set was refused: the step (docs/RULES.md, 10.9) and what it found. Which ground of step 4 spoke, and of which
 //! entry, is the library's report (10.10); the other steps are told from the status, the request and reads.
 
-use super::{ABSENT, BAD_RECORD, bad_name, bad_stores};
+use super::{BAD_RECORD, OPEN, bad_name, bad_stores, not_found};
 use crate::{describe, text};
 use std::collections::BTreeMap;
 use varpolicy::calls::{self, Found, Request, Written};
 use varpolicy::{Attributes, Entry, Ground, Lock, MAX_PAYLOAD_BYTES, Namespace, POLICY_BYTES, Status};
+
+/// What a request has to have after exit, if it is no deletion: NV, BS and RT.
+const AFTER_EXIT: Attributes = Attributes(7);
 
 /// A set that was refused, and what it was lent, which it left as it was.
 pub struct Refusal<'a> {
     pub nv: &'a [u8],
     pub volatile: &'a [u8],
     pub policy: &'a [u8],
+    pub exited: bool,
     pub request: Request<'a>,
     pub written: Written,
     pub namespaces: &'a BTreeMap<String, Namespace>,
@@ -44,7 +48,7 @@ impl Refusal<'_> {
     fn entry_says(&self, against: fn(&Self, &Entry) -> String) -> String {
         let place = self.written.report.place;
         let mut buffer = vec![0; POLICY_BYTES];
-        let dumped = calls::dump(self.policy, &mut buffer);
+        let dumped = calls::dump(self.policy, OPEN, &mut buffer);
         let entry = describe::fields(describe::split(&buffer[..dumped.length])[place as usize]);
         let target = describe::variable(&entry.namespace, &entry.name, self.namespaces);
         format!("entry {place}, {target}, {}", against(self, &entry))
@@ -92,9 +96,11 @@ impl Refusal<'_> {
 
     /// The step other than 4, by the status.
     fn other_step(&self) -> (u32, String) {
+        let Request { namespace, name, attributes, .. } = self.request;
         match self.written.status {
-            Status::Unsupported => (2, format!("attribute bits outside 0x47: {}", unknown(self.request.attributes))),
-            Status::NotFound => (5, ABSENT.to_string()),
+            Status::Unsupported => (2, format!("attribute bits outside 0x47: {}", unknown(attributes))),
+            Status::NotFound => (5, not_found(self.nv, self.volatile, namespace, name).to_string()),
+            Status::WriteProtected => (5, "the variable is volatile, and the operating system has started".to_string()),
             Status::OutOfResources => self.no_room(),
             _ => self.invalid(),
         }
@@ -114,6 +120,10 @@ impl Refusal<'_> {
         let needing = Attributes(attributes.0 & (Attributes::RT | Attributes::APPEND).0);
         if needing != Attributes::NONE && !attributes.contains(Attributes::BS) {
             return (3, format!("{needing} without BS"));
+        }
+        let missing = Attributes(AFTER_EXIT.0 & !attributes.0);
+        if self.exited && !is_deletion(&self.request) && missing != Attributes::NONE {
+            return (3, format!("after exit a set needs {AFTER_EXIT}, and the request lacks {missing}"));
         }
         let asked = Attributes(attributes.0 & !Attributes::APPEND.0);
         (6, format!("it is stored with {}, and the request has {asked}", found.attributes))
@@ -147,7 +157,7 @@ impl Refusal<'_> {
     }
 
     fn read(&self, namespace: &Namespace, name: &[u8]) -> Found<'_> {
-        calls::read(self.nv, self.volatile, namespace, name)
+        calls::read(self.nv, self.volatile, OPEN, namespace, name)
     }
 }
 
@@ -214,6 +224,25 @@ mod tests {
     }
 
     #[test]
+    fn step_3_after_exit_is_what_the_request_lacks() {
+        let lacks = |what: &str| {
+            format!("INVALID_PARAMETER step 3: after exit a set needs NV|BS|RT, and the request lacks {what}")
+        };
+        for (attributes, what) in [("NV|BS", "RT"), ("BS|RT", "NV"), ("BS", "NV|RT")] {
+            for verb in ["set", "append"] {
+                let line = format!("{verb} G \"A\" {attributes} 01");
+                assert_eq!(told(&[A_IN_NV, "exit"], &line), lacks(what), "{line}");
+            }
+        }
+        assert_eq!(told(&["exit"], "append G \"A\" BS"), lacks("NV|RT"));
+        assert_eq!(told(&["register G * lock=now", "exit"], A_IN_NV), lacks("RT"));
+        assert_eq!(told(&["exit"], "set G \"A\" RT 01"), "INVALID_PARAMETER step 3: RT without BS");
+        assert_eq!(told(&["exit"], "set G \"\" BS 01"), "INVALID_PARAMETER step 1: the name is empty");
+        assert_eq!(told(&["exit"], "set G \"A\" NV|BS|RT 01"), "SUCCESS");
+        assert_eq!(told(&["exit"], "append G \"A\" NV|BS|RT 01"), "SUCCESS");
+    }
+
+    #[test]
     fn step_4_is_a_size() {
         let size = |fields: &str, line: &str| {
             let entry = format!("register G \"A#\" {fields}");
@@ -266,6 +295,19 @@ mod tests {
         let on_state = ["register G \"A\" lock=on-state trigger=G:\"T\" value=0A", "set G \"T\" BS 0A"];
         let held = "WRITE_PROTECTED step 4: entry 0, G \"A\", locks it, as G \"T\" holds 0A (lock=on-state)";
         assert_eq!(told(&on_state, A_IN_NV), held);
+        let hidden = [on_state[0], on_state[1], "exit"];
+        assert_eq!(told(&hidden, "set G \"A\" NV|BS|RT 00"), held, "by a trigger that is no longer read");
+    }
+
+    /// The lengths are of what is stored, shown or not.
+    #[test]
+    fn step_4_after_exit_measures_what_is_hidden() {
+        let before = ["register G * max=2", "set G \"A\" NV|BS 01 02", "exit"];
+        let long = "INVALID_PARAMETER step 4: entry 0, G *, allows 0 to 2 bytes, and the payload would have 3: \
+                    2 stored and 1 appended";
+        assert_eq!(told(&before, "append G \"A\" NV|BS|RT 03"), long);
+        let stored = "INVALID_PARAMETER step 6: it is stored with NV|BS, and the request has NV|BS|RT";
+        assert_eq!(told(&before, "set G \"A\" NV|BS|RT 03"), stored);
     }
 
     #[test]
@@ -277,6 +319,26 @@ mod tests {
         let stored = "INVALID_PARAMETER step 6: it is stored with NV|BS, and the request has BS|RT";
         assert_eq!(told(&[A_IN_NV], "set G \"A\" BS|RT 01"), stored);
         assert_eq!(told(&[A_IN_NV], "append G \"A\" BS|RT"), stored);
+    }
+
+    #[test]
+    fn step_5_after_exit_is_rt_or_the_volatile_store() {
+        let delete = "delete G \"A\"";
+        let hidden = "NOT_FOUND step 5 of a deletion: the variable has no RT, and the operating system has started";
+        let volatile =
+            "WRITE_PROTECTED step 5 of a deletion: the variable is volatile, and the operating system has started";
+        for (set, expected) in [
+            (A_IN_NV, hidden),
+            ("set G \"A\" BS 00", hidden),
+            ("set G \"A\" BS|RT 00", volatile),
+            ("set G \"A\" NV|BS|RT 00", "SUCCESS"),
+            ("set G \"B\" NV|BS 00", "NOT_FOUND step 5 of a deletion: the variable does not exist"),
+        ] {
+            assert_eq!(told(&[set, "exit"], delete), expected, "{set}");
+            let locked = "WRITE_PROTECTED step 4 of a deletion: entry 0, G *, locks it (lock=now)";
+            assert_eq!(told(&[set, "register G * lock=now", "exit"], delete), locked, "{set}");
+        }
+        assert_eq!(told(&["set G \"A\" BS|RT 00", "exit"], "set G \"A\" NV|BS|RT"), volatile);
     }
 
     #[test]
@@ -319,8 +381,8 @@ mod tests {
         ] {
             let status = if ground == Ground::Lock { Status::WriteProtected } else { Status::InvalidParameter };
             let written = Written { status, report: Report { ground, place, ..Report::NONE } };
-            let refusal =
-                Refusal { nv: &[], volatile: &[], policy: &policy, request, written, namespaces: &namespaces };
+            let (nv, volatile, policy, namespaces) = (&[], &[], &policy, &namespaces);
+            let refusal = Refusal { nv, volatile, policy, exited: false, request, written, namespaces };
             assert_eq!(refusal.reason(), reason);
         }
     }
