@@ -258,7 +258,8 @@ pub fn choice() -> Group {
     group("the choice alone", cases)
 }
 
-/// The comparison of names of 64 units, without what a call costs: less that of two empty names.
+/// The comparison of names of 64 units, without what a call costs: less that of two names of different lengths, which every
+/// version tells apart at its first test.
 pub fn comparison() -> Group {
     let letters = "Variable".repeat(8);
     let digits = "0123456789abcdef".repeat(4);
@@ -275,7 +276,7 @@ pub fn comparison() -> Group {
     let cases = pairs.map(|(what, pattern, name)| {
         let part = Part::Match { pattern: inputs::text(&pattern), name: inputs::text(&name) };
         let case = case(format!("compare 64 units, {what}"), part, inputs::empty(), Bar::AtMost(1.25));
-        Case { without: Some(Work::Part(Part::Match { pattern: Name::EMPTY, name: Name::EMPTY })), ..case }
+        Case { without: Some(Work::Part(Part::Match { pattern: Name::EMPTY, name: inputs::text("A") })), ..case }
     });
     group("one name against one pattern", cases.into())
 }

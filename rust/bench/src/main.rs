@@ -56,7 +56,8 @@ varpolicy_reader_feed, without the loop that calls it; by time there are none.
 A choice or a search trusts the check before it, so it is the difference of two calls of one function, with and without
 it: a set with the engine enabled and disabled, or a name and an empty one. Both run the same machine code, whatever the
 compiler inlined; the count of a function by its name would depend on that. The checks are calls that stop behind them.
-A comparison of two names is the difference to that of two empty ones, so that what a call itself costs does not count.
+A comparison of two names is the difference to that of two of different lengths, so that what a call itself costs does
+not count.
 The bars are for instructions. A number: at most so many times the best ordinary version of the row. Two: so many times
 ordinary and so many times check. 40: so many instructions for each byte. under: less than pairwise. (memset and memmove
 are then told to use vector instructions: of `rep stosb` every byte would be counted.)
