@@ -1,14 +1,25 @@
--- AFTER EXIT (RULES.md, 8.1, 12.2 and 12.3), over lists of calls and of rebuilds: what stays up to the history's next granted start (`exited-stays`);
--- that a rebuild leaves an engine that had exited so (`rebuild-exits`); that until then a complete dump stays complete and serves again and again
+-- AFTER EXIT (RULES.md, 8.1, 12.2 and 12.3), over lists of calls and of rebuilds: what stays up to the history's next granted start (`exited-stays`,
+-- `exited-stays-rebuilt`); where dumps are granted (`dump-exactly`); that a rebuild leaves an engine that had exited so (`rebuild-exits`); that until then a complete dump stays complete and serves again and again
 -- (`exited-outdates`, `serves-again`), and that one which is made just before the exit serves where the history has none (`dump-before-exit`).
 -- Assumes nothing but that the power-on answered 0.
-use mathlib.Core.Path.{_≡_, refl, sym, ap, ap₂, subst, subst⁻¹, _∙_}
+use Prim.Native.Nat.{_≤_}
+use mathlib.Core.Path.{_≡_, refl, sym, ap, subst, subst⁻¹, _∙_}
 use mathlib.Core.List.{List, [], _∷_, _++_, map, append-assoc}
 use mathlib.Core.Bool.{Bool, true, false, cond, true≢false, false≢true}
+use mathlib.Core.Option.{none, some}
+use mathlib.Core.Logic.{_↔_}
+use native.Mathlib.Omega.{arith}
+use lib.ListN.{length}
+use lib.Dec.{leb}
+use borrow.Author.Tests.{leb-true}
 use Rattle.slices.specs.Bytes.{Bytes}
-use Rattle.policy.specs.Policy.{entriesOf, policyValid}
+use Rattle.slices.specs.Chunks.{flat}
+use Rattle.names.specs.Name.{Variable}
+use Rattle.policy.specs.Policy.{entriesOf, sizesSum, policyValid}
+use Rattle.policy.specs.PolicyLaws.{sizesSum-flat}
+use Rattle.store.specs.Record.{attributesOf}
 use Rattle.status.specs.declared.Status.{Status}
-use Rattle.status.specs.declared.Status.the-variants.{Success, Unsupported}
+use Rattle.status.specs.declared.Status.the-variants.{Success, Unsupported, BufferTooSmall}
 use Rattle.status.specs.Status.{isSuccess}
 use Rattle.switches.specs.Switches.{unlessExited}
 use Rattle.rules.specs.Engine as rules
@@ -16,18 +27,19 @@ use Rattle.rules.specs.Engine.{State, Call, dumpStatus, step}
 use Rattle.rules.specs.Engine.Call.{powerOn, restart, register, dump, lock, disable, exit, query, read, set}
 use Rattle.rules.specs.EngineLaws.{step-status}
 use Rattle.rules.specs.StateLaws.{passed, unexited, register-passed}
-use Rattle.rules.specs.Grounds.{Exited}
-use Rattle.rules.specs.ExitLaws.{isStart, GoesOn, Stays, stays-same, stays-more, after-exit}
-use Rattle.history.specs.History.{Outcome, Kind, Items, Order, Proper, Complete, Permitted, outcomeOf, end, endWith, rebuilding, registered, outdates}
+use Rattle.rules.specs.Grounds.{Not, RT, RecordOf, Exited}
+use Rattle.rules.specs.ExitLaws.{GoesOn, Stays, stays-same, stays-more, after-exit}
+use Rattle.history.specs.History.{Items, Order, Complete, Permitted, outcomeOf, end, endWith, rebuilding, registered, history, outdates, standingOrder, stateBy}
 use Rattle.history.specs.History.Outcome.{granted, refused}
-use Rattle.history.specs.History.Kind.{starts, registers, dumps, keeps}
+use Rattle.history.specs.History.Kind.{starts, registers}
 use Rattle.history.specs.History.ItemOf.{call, ownDump, rebuild}
 use Rattle.history.specs.StandingOrder.{restarts, NoneRestarts}
 use Rattle.history.specs.AnyMoment as moment
-use Rattle.history.specs.AnyMoment.{NoneOutdates, pastAfter}
-use Rattle.demand3.specs.Machine.{outcomeBy, kindOf, restartOf, closingOf, HasRoom, machine}
-use Rattle.demand3.specs.MachineLaws.{Reached, laws, never-cut}
-use Rattle.demand3.specs.Demand3.{poweredOn, ProperFrom, entriesAt, pastAt}
+use Rattle.history.specs.AnyMoment.{NoneOutdates}
+use Rattle.history.specs.HistoryLaws.{granted-refused}
+use Rattle.demand3.specs.Machine.{outcomeBy, kindOf, restartOf, closingOf, CanDumpInto, machine}
+use Rattle.demand3.specs.MachineLaws.{Reached, laws}
+use Rattle.demand3.specs.Demand3.{poweredOn, demand-3, first-part, ProperFrom, entriesAt, pastAt}
 use Rattle.demand3.specs.Demand3 as list
 
 -- ---- one call
@@ -93,6 +105,30 @@ exited-no-dump s buffer x = go (isSuccess (step s (dump buffer) .0 .status)) ref
         absurd (true≢false (sym x ∙ unexited (s .switches .exited) asked (p .1) .0))
     go false h = refl
 
+fits : (b : Bool) → isSuccess (cond b Success BufferTooSmall) ≡ true → b ≡ true
+fits true h = refl
+fits false h = h
+
+dump-room : (s : State) (buffer : Bytes) → isSuccess (dumpStatus (entriesOf (s .policy)) buffer) ≡ true → sizesSum (s .policy) ≤ length buffer
+unfolding dumpStatus
+dump-room s buffer h =
+    let k = leb-true (length (flat (entriesOf (s .policy)))) (length buffer) (fits (leb (length (flat (entriesOf (s .policy)))) (length buffer)) h) in
+    omega (arith, sizesSum-flat (s .policy), k)
+
+-- A DUMP IS GRANTED EXACTLY BEFORE EXIT AND WITH ROOM, in a state that histories lead to
+pub dump-exactly : (s : State) (buffer : Bytes) → Reached false s → (outcomeOf machine s (dump buffer) ≡ granted) ↔ CanDumpInto s buffer
+dump-exactly s buffer w = ((λ h. to (isSuccess (step s (dump buffer) .0 .status)) refl h), laws .dumpGranted buffer w)
+  where
+    asked : Status
+    asked = dumpStatus (entriesOf (s .policy)) buffer
+
+    to : (b : Bool) → isSuccess (step s (dump buffer) .0 .status) ≡ b → outcomeBy b ≡ granted → CanDumpInto s buffer
+    to true h e =
+        let p = passed (policyValid (s .policy)) (unlessExited (s .switches) asked) (ap isSuccess (sym (step-status s (dump buffer))) ∙ h) in
+        let u = unexited (s .switches .exited) asked (p .1) in
+        record { before = u .0; room = dump-room s buffer (u .1) }
+    to false h e = absurd (granted-refused (sym e))
+
 -- ---- rebuilds
 
 -- exit leaves an engine that has exited, whatever it was
@@ -138,9 +174,56 @@ exited-outdates (ownDump b ∷ is) s x n = exited-outdates is (step s (dump b) .
 exited-outdates (rebuild ds y ∷ is) s x n =
     exited-outdates is (end machine s (rebuilding machine s (registered machine ds y))) (rebuild-exits s (registered machine ds y) x) n
 
+-- what stays of a state whose entries may stand in another order
+pub record StaysButOrder (s t : State) : Type 0 where
+  pub switches : t .switches ≡ s .switches
+  pub vol : t .vol ≡ s .vol
+  pub hidden : (v : Variable) (q : Bytes) → Not (RT (attributesOf q)) → RecordOf s v q ↔ RecordOf t v q
+
+record-by : (w : Order machine) (t : State) (v : Variable) (q : Bytes) → RecordOf t v q ↔ RecordOf (stateBy machine w t) v q
+record-by none t v q = ((λ f. f), λ f. f)
+record-by (some o) t v q = (
+  (λ f. record { inNV = f .inNV; inVol = f .inVol; records = f .records; stands = f .stands; own = f .own }),
+  λ f. record { inNV = f .inNV; inVol = f .inVol; records = f .records; stands = f .stands; own = f .own },
+)
+
+switches-by : (w : Order machine) (t : State) → (stateBy machine w t .switches ≡ t .switches) × (stateBy machine w t .vol ≡ t .vol)
+switches-by none t = (refl, refl)
+switches-by (some o) t = (refl, refl)
+
+stays-in-order : (t u : State) (w y : Order machine) → Stays t u → StaysButOrder (stateBy machine w t) (stateBy machine y u)
+stays-in-order t u w y k =
+    record {
+      switches = switches-by y u .0 ∙ k .switches ∙ sym (switches-by w t .0);
+      vol = switches-by y u .1 ∙ k .vol ∙ sym (switches-by w t .1);
+      hidden = λ v q n. (
+        (λ f. record-by y u v q .0 (k .hidden v q n .0 (record-by w t v q .1 f))),
+        λ f. record-by w t v q .0 (k .hidden v q n .1 (record-by y u v q .1 f)),
+      );
+    }
+
+-- the history of a list in two parts
+end-history : (xs ys : Items machine) (s : State) → end machine s (history machine (xs ++ ys)) ≡ end machine (end machine s (history machine xs)) (history machine ys)
+end-history [] ys s = refl
+end-history (call c ∷ xs) ys s = end-history xs ys (step s c .1)
+end-history (ownDump b ∷ xs) ys s = end-history xs ys s
+end-history (rebuild ds x ∷ xs) ys s = end-history xs ys s
+
 module _ (s : State) (allowed : Bool) (answered0 : isSuccess (rules.step s (powerOn allowed) .0 .status) ≡ true) where
   abbrev begun : State
   begun = poweredOn s allowed
+
+  -- WHAT STAYS AFTER EXIT WITH REBUILDS BETWEEN: the switches, the volatile store and every record without RT. (The policy record has the same entries, in
+  -- the order that stands: `sameEnd`.) Where there is an exit and no granted start, the history without the rebuilds says
+  pub exited-stays-rebuilt : (xs ys : Items machine) → ProperFrom s allowed answered0 (xs ++ ys) → Exited (end machine begun (history machine xs))
+      → NoneRestarts machine (end machine begun (history machine xs)) (history machine ys) → StaysButOrder (endWith machine begun xs) (endWith machine begun (xs ++ ys))
+  exited-stays-rebuilt xs ys p e n =
+      let t = end machine begun (history machine xs) in
+      let u = end machine begun (history machine (xs ++ ys)) in
+      let k : Stays t u = subst⁻¹ (Stays t) (end-history xs ys begun) (exited-stays (history machine ys) t e n) in
+      subst⁻¹ (λ z. StaysButOrder z (endWith machine begun (xs ++ ys))) (demand-3 s allowed answered0 xs (first-part s allowed answered0 xs ys p) .sameEnd)
+      (subst⁻¹ (StaysButOrder (stateBy machine (standingOrder machine none begun xs) t)) (demand-3 s allowed answered0 (xs ++ ys) p .sameEnd)
+      (stays-in-order t u (standingOrder machine none begun xs) (standingOrder machine none begun (xs ++ ys)) k))
 
   -- ONE DUMP SERVES AGAIN AND AGAIN: complete where the engine has exited, it serves behind whatever follows but a granted start
   pub serves-again : (is zs : Items machine) (ds : List Bytes) (x : Order machine) → ProperFrom s allowed answered0 (is ++ zs)
@@ -155,7 +238,7 @@ module _ (s : State) (allowed : Bool) (answered0 : isSuccess (rules.step s (powe
   -- WHERE THE HISTORY HAS NO DUMP, ONE THAT IS MADE JUST BEFORE THE EXIT SERVES, at any later moment up to the next granted start, in any permitted
   -- order; and then again, by `serves-again`
   pub dump-before-exit : (xs ys : Items machine) (buffer : Bytes) (x : Order machine) → ProperFrom s allowed answered0 (xs ++ (call exit ∷ ys))
-      → HasRoom (endWith machine begun xs) buffer → NoneStarts (step (endWith machine begun xs) exit .1) ys
+      → CanDumpInto (endWith machine begun xs) buffer → NoneStarts (step (endWith machine begun xs) exit .1) ys
       → Permitted machine (entriesAt s allowed answered0 xs) x
       → ProperFrom s allowed answered0 ((xs ++ (ownDump buffer ∷ call exit ∷ ys)) ++ (rebuild (entriesAt s allowed answered0 xs) x ∷ []))
   dump-before-exit xs ys buffer x p room n m =

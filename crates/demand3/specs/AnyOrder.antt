@@ -1,12 +1,12 @@
 -- AN ENGINE WHOSE DUMP HAS NO QUARREL CAN BE REBUILT IN EVERY ORDER (RULES.md, 10.11 and 12.4), and one whose dump has a quarrel in no other than the dump's.
 -- Assumes nothing but that the power-on answered 0.
-use Prim.Native.Nat.{ℕ, _≤_}
+use Prim.Native.Nat.{ℕ}
 use mathlib.Core.Path.{_≡_, refl, sym, ap, subst, subst⁻¹, _∙_}
 use mathlib.Core.List.{List, [], _∷_, _++_, map, append-assoc, append-nil, List·Permᴰ}
 use mathlib.Core.Bool.{Bool, true, false, false≢true}
 use mathlib.Core.Option.{none, some}
 use mathlib.Core.Logic.{_↔_}
-use lib.ListN.{length, take}
+use lib.ListN.{take}
 use Rattle.lists.specs.Lists.{All}
 use Rattle.slices.specs.Bytes.{Bytes, AreBytes}
 use Rattle.slices.specs.Chunks.{flat}
@@ -27,7 +27,7 @@ use Rattle.rules.specs.StateLaws.{passed, power-on-sound}
 use Rattle.history.specs.History.{Items, Order, Past, Complete, DumpOf, Unambiguous, Permitted, Proper, Demand3, endWith, registered}
 use Rattle.history.specs.History.ItemOf.{call, ownDump, rebuild}
 use Rattle.history.specs.AnyMoment as moment
-use Rattle.demand3.specs.Machine.{outcomeBy, HasRoom, machine}
+use Rattle.demand3.specs.Machine.{outcomeBy, CanDumpInto, machine}
 use Rattle.demand3.specs.MachineLaws.{Reached, laws, never-cut, dump-holds}
 use Rattle.demand3.specs.UnambiguousLaws.{UnambiguousInBytes, unambiguous}
 use Rattle.demand3.specs.Demand3 as list
@@ -174,7 +174,7 @@ module _ (s : State) (allowed : Bool) (answered0 : isSuccess (rules.step s (powe
       rebuilt is ds o (list.append-rebuild s allowed answered0 is ds (some o) p d (any-order-exactly ds o (complete-entries is ds p d) m .0 h))
 
   -- AND SO CAN AN ENGINE AT ANY MOMENT BEFORE EXIT, from an own dump into a buffer with room, if the checker answers none to its entries
-  pub any-order-now : (xs : Items machine) (buffer : Bytes) → ProperHere xs → HasRoom (endWith machine begun xs) buffer
+  pub any-order-now : (xs : Items machine) (buffer : Bytes) → ProperHere xs → CanDumpInto (endWith machine begun xs) buffer
       → quarrelsOf (flat (entriesHere xs)) ≡ NoQuarrel → (o : List Bytes) → List·Permᴰ (entriesHere xs) o
       → RebuiltIn o (xs ++ (ownDump buffer ∷ rebuild (entriesHere xs) (some o) ∷ []))
   any-order-now xs buffer p room h o m =
@@ -185,7 +185,7 @@ module _ (s : State) (allowed : Bool) (answered0 : isSuccess (rules.step s (powe
       (list.dump-now-rebuild-later s allowed answered0 xs [] buffer (some o) (subst⁻¹ ProperHere (append-nil xs) p) room tt (any-order-exactly es o a m .0 h)))
 
   -- or to the very bytes that this dump hands out
-  pub any-order-asked : (xs : Items machine) (buffer : Bytes) → ProperHere xs → HasRoom (endWith machine begun xs) buffer
+  pub any-order-asked : (xs : Items machine) (buffer : Bytes) → ProperHere xs → CanDumpInto (endWith machine begun xs) buffer
       → quarrelsOf (handedOut (endWith machine begun xs) buffer) ≡ NoQuarrel → (o : List Bytes) → List·Permᴰ (entriesHere xs) o
       → RebuiltIn o (xs ++ (ownDump buffer ∷ rebuild (entriesHere xs) (some o) ∷ []))
   any-order-asked xs buffer p room h =

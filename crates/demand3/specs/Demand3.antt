@@ -4,8 +4,6 @@ use mathlib.Core.Path.{_≡_, refl, ap, _∙_}
 use mathlib.Core.List.{List, [], _∷_, _++_, map}
 use mathlib.Core.Bool.{Bool, true, false}
 use mathlib.Core.Option.{none}
-use Prim.Native.Nat.{_≤_}
-use lib.ListN.{length}
 use Rattle.slices.specs.Bytes.{Bytes}
 use Rattle.policy.specs.Policy.{entriesOf}
 use Rattle.status.specs.Status.{isSuccess}
@@ -20,7 +18,7 @@ use Rattle.history.specs.StandingOrder.{NoneRestarts, registeredSince}
 use Rattle.history.specs.HistoryLaws as general
 use Rattle.history.specs.AnyMoment as moment
 use Rattle.history.specs.AnyMoment.{NoneOutdates, OneRebuild, pastAfter}
-use Rattle.demand3.specs.Machine.{HasRoom, machine}
+use Rattle.demand3.specs.Machine.{CanDumpInto, machine}
 use Rattle.demand3.specs.MachineLaws.{Reached, laws, never-cut}
 
 -- where a history begins (RULES.md, 12.1): the state that the power-on left
@@ -79,7 +77,7 @@ module _ (s : State) (allowed : Bool) (answered0 : isSuccess (rules.step s (powe
 
   -- and so may before exit, without any condition but room for the sum of Sizes, an own dump and the rebuild from it
   pub insert-dump-rebuild : (xs ys : Items machine) (buffer : Bytes) → ProperFrom (xs ++ ys)
-      → HasRoom (endWith machine begun xs) buffer
+      → CanDumpInto (endWith machine begun xs) buffer
       → ProperFrom (xs ++ (ownDump buffer ∷ rebuild (entriesAt xs) none ∷ ys))
   insert-dump-rebuild xs ys buffer p room =
       moment.insert-dump-rebuild machine Reached laws begun reached xs ys buffer p (uncut xs) room
@@ -94,7 +92,7 @@ module _ (s : State) (allowed : Bool) (answered0 : isSuccess (rules.step s (powe
   -- an own dump with room serves a rebuild at any later moment, in order or in any permitted other order, unless a granted
   -- call of the history outdates it
   pub dump-now-rebuild-later : (xs ys : Items machine) (buffer : Bytes) (x : Order machine) → ProperFrom (xs ++ ys)
-      → HasRoom (endWith machine begun xs) buffer
+      → CanDumpInto (endWith machine begun xs) buffer
       → NoneOutdates machine (endWith machine begun xs) ys → Permitted machine (entriesAt xs) x
       → ProperFrom ((xs ++ (ownDump buffer ∷ ys)) ++ (rebuild (entriesAt xs) x ∷ []))
   dump-now-rebuild-later xs ys buffer x p room n m =
@@ -103,7 +101,7 @@ module _ (s : State) (allowed : Bool) (answered0 : isSuccess (rules.step s (powe
 
   -- a dump of the history with room is complete as well, and holds the entries of the policy record
   pub history-dump : (xs : Items machine) (buffer : Bytes) → ProperFrom xs
-      → HasRoom (endWith machine begun xs) buffer
+      → CanDumpInto (endWith machine begun xs) buffer
       → Complete machine (entriesAt xs) (pastAt (xs ++ (call (dump buffer) ∷ [])))
   history-dump xs buffer p room = moment.history-dump machine Reached laws begun reached xs buffer p (uncut xs) room
 

@@ -82,8 +82,8 @@ abbrev pub closingOf : State → List Call
 closingOf k =
     cond (k .switches .enabled) [] (disable ∷ []) ++ (cond (k .switches .locked) (lock ∷ []) [] ++ cond (k .switches .exited) (exit ∷ []) [])
 
--- where a dump is granted: before exit, into a buffer with room for the sum of Sizes
-pub record HasRoom (s : State) (buffer : Bytes) : Type 0 where
+-- where a dump is granted, and nowhere else (`dump-exactly` in AfterExit.antt): before exit, into a buffer with room for the sum of Sizes
+pub record CanDumpInto (s : State) (buffer : Bytes) : Type 0 where
   pub before : s .switches .exited ≡ false
   pub room : sizesSum (s .policy) ≤ length buffer
 
@@ -111,7 +111,7 @@ machine =
       restart = restartOf;
       register = register;
       closing = closingOf;
-      CanDump = HasRoom;
+      CanDump = CanDumpInto;
       -- no call of this engine is cut
       startsAfterCut = λ c. true;
     }

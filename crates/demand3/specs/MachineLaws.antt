@@ -16,7 +16,7 @@ use Rattle.slices.specs.Chunks.{flat}
 use Rattle.names.specs.Name.{named}
 use Rattle.entry.specs.Entry.{wellFormed, sameTarget}
 use Rattle.entry.specs.EntryLaws.{well-formed-header}
-use Rattle.policy.specs.Policy.{entriesOf, sizesSum, packPolicy, policyValid}
+use Rattle.policy.specs.Policy.{entriesOf, packPolicy, policyValid}
 use Rattle.policy.specs.PolicyLaws.{Entries, policyValid-length, policy-entries, pack-entriesOf, entriesOf-formed, entriesOf-pack, entries-policy, sizesSum-flat, flat-unique}
 use Rattle.policy.specs.Choice.{chosen, placeOf}
 use Rattle.policy.specs.PlaceLaws.{StandsAt}
@@ -43,7 +43,7 @@ use Rattle.history.specs.History.{Outcome, Kind, entriesAfter, outcomeOf, cutAf
 use Rattle.history.specs.History.Outcome.{granted, refused, cut}
 use Rattle.history.specs.History.Kind.{starts, registers, dumps, keeps}
 use Rattle.history.specs.HistoryLaws.{granted-refused, SameChoice, Laws}
-use Rattle.demand3.specs.Machine.{stateIn, reportIn, answerIn, outcomeBy, kindOf, restartOf, closingOf, HasRoom, machine}
+use Rattle.demand3.specs.Machine.{stateIn, reportIn, answerIn, outcomeBy, kindOf, restartOf, closingOf, CanDumpInto, machine}
 use Rattle.demand3.specs.OrderLaws.{flat-length, length-flat, contains-perm, entries-perm, entries-left, entries-new, over-pack, overwrite-perm, overwrite-take}
 
 -- ---- another order of the entries: a state of the rules with the record of the entries o
@@ -287,7 +287,7 @@ dump-leaves s buffer = go (isSuccess (status s (dump buffer)))
     go true = refl
     go false = refl
 
-dump-granted : (s : State) (buffer : Bytes) → Sound s → HasRoom s buffer → outcomeOf machine s (dump buffer) ≡ granted
+dump-granted : (s : State) (buffer : Bytes) → Sound s → CanDumpInto s buffer → outcomeOf machine s (dump buffer) ≡ granted
 unfolding dumpStatus
 dump-granted s buffer w h =
     let k : length (flat (entriesOf (s .policy))) ≤ length buffer = omega (arith, sizesSum-flat (s .policy), h .room) in

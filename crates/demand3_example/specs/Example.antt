@@ -154,14 +154,17 @@ items₅ = andThen items₄ d₂₁₃ none calls₅
 -- 6. From the same dump, in order, of an engine that is disabled and locked. A set that the lock refused before, and that a
 -- disabled engine takes; a restart of the history; a registration; a dump
 abbrev calls₆ : List Call
-calls₆ = setting (variable G 0x41 0x31) (7 ∷ []) ∷ restart false ∷ register e₃ ∷ dump (replicate 51 4) ∷ []
+calls₆ = setting (variable G 0x41 0x31) (7 ∷ []) ∷ restart true ∷ register e₃ ∷ dump (replicate 51 4) ∷ []
 
 abbrev items₆ : Items machine
 items₆ = andThen items₅ d₂₁₃ none calls₆
 
--- 7. From the history's dump, in order. A registration
+-- 7. From the history's dump, in order. A registration; disabled and locked
+abbrev calls₇ : List Call
+calls₇ = register e₂ ∷ disable ∷ lock ∷ []
+
 abbrev items₇ : Items machine
-items₇ = andThen items₆ d₃ none (register e₂ ∷ [])
+items₇ = andThen items₆ d₃ none calls₇
 
 -- An own dump, and the exit of the history; a dump of the history, which is refused now
 abbrev dumped₇ : Items machine
@@ -170,7 +173,7 @@ dumped₇ = items₇ ++ (ownDump (replicate 100 6) ∷ [])
 abbrev exited₇ : Items machine
 exited₇ = dumped₇ ++ map call (exit ∷ dump (replicate 100 2) ∷ [])
 
--- 8. After exit, from the dump before it, in another order. A registration that is refused now; a read of a variable without RT, which is hidden; a set
+-- 8. After exit, from the dump before it, in another order: the engine is disabled, locked and exited again. A registration that is refused now; a read of a variable without RT, which is hidden; a set
 -- with RT
 abbrev calls₈ : List Call
 calls₈ = register e₁ ∷ read (variable H 0x41 0x31) ∷ settingRT (variable H 0x41 0x32) (5 ∷ []) ∷ []
@@ -215,7 +218,7 @@ reportAt (suc n) (a ∷ l) = reportAt n l
 pub record Answers : Type 0 where
   pub powered : isSuccess (step board (powerOn true) .0 .status) ≡ true
   pub statuses : statusNumbers answersGot ≡ 0 ∷ 0 ∷ 8 ∷ 0 ∷ 0 ∷ 5 ∷ 0 ∷ 0 ∷ 0 ∷ 8 ∷ 0 ∷ 0 ∷ 0 ∷ 8 ∷ 0 ∷ 0 ∷ 0 ∷ 0
-      ∷ 0 ∷ 0 ∷ 3 ∷ 3 ∷ 14 ∷ 0 ∷ 0 ∷ 3 ∷ 0 ∷ []
+      ∷ 0 ∷ 0 ∷ 0 ∷ 0 ∷ 3 ∷ 3 ∷ 14 ∷ 0 ∷ 0 ∷ 3 ∷ 0 ∷ []
   -- the read's attributes and payload
   pub attributes : numberOf 4 answersGot ≡ 3
   pub payload : bytesOf 4 answersGot ≡ 1 ∷ 2 ∷ []
@@ -255,14 +258,14 @@ answered = record {
 
 -- and after exit: the refused dump, whose buffer is as it was, with no length; the hidden read, which tells nothing; the read of the variable with RT
 pub record AnswersAfterExit : Type 0 where
-  pub undumped : bytesOf 20 answersGot ≡ replicate 100 2
-  pub unneeded : numberOf 20 answersGot ≡ 0
-  pub untold : bytesOf 22 answersGot ≡ []
-  pub told : bytesOf 24 answersGot ≡ 5 ∷ []
+  pub undumped : bytesOf 22 answersGot ≡ replicate 100 2
+  pub unneeded : numberOf 22 answersGot ≡ 0
+  pub untold : bytesOf 24 answersGot ≡ []
+  pub told : bytesOf 26 answersGot ≡ 5 ∷ []
 
 pub answered-after-exit : AnswersAfterExit
 unfolding rulesOpened
-answered-after-exit = record { undumped = same-eq (bytesOf 20 answersGot) (replicate 100 2) refl; unneeded = refl; untold = refl; told = refl }
+answered-after-exit = record { undumped = same-eq (bytesOf 22 answersGot) (replicate 100 2) refl; unneeded = refl; untold = refl; told = refl }
 
 -- THE ORDER THAT STANDS, computed
 pub record Orders : Type 0 where
@@ -289,15 +292,15 @@ notRefused =
     ∷ call (dump (replicate 100 8)) ∷ rebuild d₁₂ (some d₂₁)
     ∷ call (register e₃) ∷ call (dump (replicate 152 9)) ∷ rebuild d₂₁₃ none
     ∷ call disable ∷ call lock ∷ rebuild d₂₁₃ none
-    ∷ call (setting (variable G 0x41 0x31) (7 ∷ [])) ∷ call (restart false) ∷ call (register e₃) ∷ call (dump (replicate 51 4))
+    ∷ call (setting (variable G 0x41 0x31) (7 ∷ [])) ∷ call (restart true) ∷ call (register e₃) ∷ call (dump (replicate 51 4))
     ∷ rebuild d₃ none
-    ∷ call (register e₂) ∷ ownDump (replicate 100 6) ∷ call exit ∷ rebuild d₃₂ (some d₂₃)
+    ∷ call (register e₂) ∷ call disable ∷ call lock ∷ ownDump (replicate 100 6) ∷ call exit ∷ rebuild d₃₂ (some d₂₃)
     ∷ call (settingRT (variable H 0x41 0x32) (5 ∷ [])) ∷ rebuild d₃₂ none
     ∷ call (read (variable H 0x41 0x32)) ∷ call (powerOn false) ∷ []
 
 pub record Struck : Type 0 where
   pub list : struck machine start items ≡ notRefused
-  pub statuses : statusNumbers (answersWith machine start notRefused) ≡ replicate 19 0
+  pub statuses : statusNumbers (answersWith machine start notRefused) ≡ replicate 21 0
 
 pub strikes : Struck
 unfolding rulesOpened
@@ -448,7 +451,7 @@ proper₆ =
 proper₇ : ProperHere exited₇
 proper₇ =
     append-calls board true (answered .powered) dumped₇ (exit ∷ dump (replicate 100 2) ∷ [])
-    (insert-dump board true (answered .powered) items₇ [] (replicate 100 6) (then-proper items₆ d₃ none (register e₂ ∷ []) proper₆ complete-last tt))
+    (insert-dump board true (answered .powered) items₇ [] (replicate 100 6) (then-proper items₆ d₃ none calls₇ proper₆ complete-last tt))
 
 proper₈ : ProperHere items₈
 proper₈ =

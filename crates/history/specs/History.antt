@@ -70,12 +70,12 @@ pub record Machine : Type 1 where
   pub targets : List Symbol → Variable → Bool
   pub rank : List Symbol → ℕ
   -- the calls of a rebuild: its own dump into a buffer; the restart with the old engine's disable setting; the registration
-  -- of an entry; disable, then lock, each only if the old engine was
+  -- of an entry; what then gives the engine the old one's switches
   pub dump : List Symbol → Call
   pub restart : State → Call
   pub register : List Symbol → Call
   pub closing : State → List Call
-  -- where a rebuild's own dump has to be granted: the buffer has room
+  -- where a rebuild's own dump has to be granted, as where its buffer has room
   pub CanDump : State → List Symbol → Type 0
   -- the calls that may follow one that was cut
   pub startsAfterCut : Call → Bool
@@ -118,7 +118,7 @@ module _ (M : Machine) where
   AllGranted s [] = Unit
   AllGranted s (c ∷ cs) = (outcomeOf s c ≡ granted) × AllGranted (step s c .1) cs
 
-  -- A REBUILD (RULES.md, 12.3) in the state s: restart, one registration for each entry, then disable and lock as in s
+  -- A REBUILD (RULES.md, 12.3) in the state s: restart, one registration for each entry, then what closes it by s
   abbrev pub rebuilding : State → Entries → List Call
   rebuilding s o = restart s ∷ (map register o ++ closing s)
 

@@ -1,9 +1,8 @@
--- The rules of the edition before E10, as they stood, for the claim that before exit nothing has changed (`before-exit` in ExitLaws.antt). What is not
--- said again here stayed to the letter. No contract rests on this file.
--- Assumes nothing: these are definitions.
-use mathlib.Core.Bool.{Bool, true, false, cond}
+-- The definitions that E10 changed, as they stood in the edition before, for the claim that before exit nothing has changed (`before-exit` in ExitLaws.antt).
+-- What is not said again here E10 left to the letter: it is shared, so that the claim is about E10, and what a later edition changes there it changes in both.
+-- No contract rests on this file. Assumes nothing: these are definitions.
+use mathlib.Core.Bool.{true, false, cond}
 use mathlib.Core.Option.{Option, none, some}
-use Prim.Native.Nat.{ℕ}
 use lib.Dec.{eqb}
 use Rattle.slices.specs.Test.{_and_}
 use Rattle.slices.specs.Bytes.{Bytes}
@@ -54,7 +53,7 @@ abbrev pub earlierReport : State → Request → Report
 earlierReport s r =
     decisionReport (earlierSetDecision s r) (entriesOf (s .policy)) (chosen (entriesOf (s .policy)) (r .variable)) (r .attributes)
 
--- ---- the status of each call; exit was none
+-- ---- the status of each call. Exit was no call then: its rows stand for nothing, and the claim leaves it out
 
 abbrev pub earlierStatus : State → Call → Status
 earlierStatus s (powerOn allowed) = powerOnStatus (s .nv) (s .vol) (s .policy)

@@ -31,7 +31,7 @@ use Rattle.rules.specs.declared.Decision.{Decision}
 use Rattle.rules.specs.declared.Decision.the-variants.{Refuse, Block, Delete, Keep, Store}
 use Rattle.rules.specs.Set.{Request, exists, shown, isDeletion, isEmptyAppend, recordAfter, decisionStatus, decisionStore}
 use Rattle.rules.specs.DecisionLaws.{Facts, facts, stored-facts, granted-decision}
-use Rattle.rules.specs.Engine.{State, Call, Answer, stateOf, answerOf, withReport, setReport, dumpStatus, readStatus, status, given, refusal, answer, registerStatus, decisionBy, decisionIn, erased, effect, after, step}
+use Rattle.rules.specs.Engine.{State, Call, Answer, stateOf, answerOf, withReport, setReport, dumpStatus, readStatus, status, given, refusal, answer, decisionBy, decisionIn, erased, effect, after, step}
 use Rattle.rules.specs.Engine.Call.{powerOn, restart, register, dump, lock, disable, exit, query, read, set}
 use Rattle.rules.specs.Grounds.{Not, sumOfSizes, StoreRecords, PairRecords, SoundStores, RecordOf, PayloadAfter, Answers}
 use Rattle.rules.specs.GroundsLaws.{refused-test, status-exactly}

@@ -1,11 +1,11 @@
--- Before exit and after it. Before exit the engine is the one of the edition before (`before-exit`). After it no call but a start changes the policy
+-- Before exit and after it. Before exit the engine is the one of the edition before (`before-exit`). After it no call but a granted start changes the policy
 -- record, a switch or the volatile store, and none creates, changes, deletes or tells a variable without RT (`after-exit`, `told-runtime`).
--- Assumes nothing.
+-- ExitAnswers.antt has what exit leaves as it was. Assumes nothing.
 use Prim.Native.Nat.{ℕ, _<_}
-use mathlib.Core.Path.{_≡_, refl, sym, ap, ap₂, subst, subst⁻¹, _∙_}
-use mathlib.Core.Bool.{Bool, true, false, not, cond, true≢false, false≢true}
+use mathlib.Core.Path.{_≡_, refl, sym, ap, subst, subst⁻¹, _∙_}
+use mathlib.Core.Bool.{Bool, true, false, cond, true≢false, false≢true}
 use mathlib.Core.Option.{Option, none, some}
-use mathlib.Core.Logic.{_⊎_, inl, inr, _↔_}
+use mathlib.Core.Logic.{inr, _↔_}
 use native.Mathlib.Omega.{arith}
 use lib.Dec.{lit<}
 use borrow.Author.Tests.{not-true}
@@ -16,32 +16,31 @@ use Rattle.slices.specs.Chunks.{contains}
 use Rattle.names.specs.Name.{Variable, named}
 use Rattle.policy.specs.Policy.{entriesOf, policyValid}
 use Rattle.policy.specs.Choice.{chosen}
-use Rattle.store.specs.Record.{hasNV, hasBS, hasRT, attributesOf, isOf}
+use Rattle.store.specs.Record.{hasNV, hasBS, hasRT, attributesOf, payloadOf, isOf}
+use Rattle.store.specs.EncodeLaws.{fields-storable}
 use Rattle.store.specs.Store.{recordsOf}
 use Rattle.store.specs.StoreLaws.{without-absent}
 use Rattle.stores.specs.Pair.{sound, lookup}
-use Rattle.stores.specs.PairLaws.{sound-vol, none-vol, looked-nv}
+use Rattle.stores.specs.PairLaws.{sound-vol, none-vol, looked, looked-nv}
 use Rattle.status.specs.declared.Status.{Status}
 use Rattle.status.specs.declared.Status.the-variants.{Success, InvalidParameter, Unsupported, WriteProtected, VolumeCorrupted, NotFound}
 use Rattle.status.specs.Status.{isSuccess}
 use Rattle.status.specs.StatusLaws.{success-only}
-use Rattle.rules.specs.declared.Decision.{Decision}
 use Rattle.rules.specs.declared.Decision.the-variants.{Refuse, Delete, Keep, Store}
 use Rattle.rules.specs.Set.{Request, exists, isDeletion, isEmptyAppend, needsRuntime, requestStatus, shown, exitProtects, writeDecision, decision, decisionStatus, decisionStore}
 use Rattle.rules.specs.Report.{decisionReport}
-use Rattle.rules.specs.Engine.{State, Call, Answer, uses, readStatus, decisionBy, decisionIn, setDecision, setReport, reportOn, answerOf, onlyStatus, withReport, status, given, refusal, answer, effect, after, step}
+use Rattle.rules.specs.Engine.{State, Call, uses, readStatus, decisionBy, decisionIn, setDecision, reportOn, answerOf, onlyStatus, withReport, status, given, refusal, answer, effect, after, step}
 use Rattle.rules.specs.Engine.Call.{powerOn, restart, register, dump, lock, disable, exit, query, read, set}
-use Rattle.rules.specs.BeforeExit.{earlierDecision, earlierDecisionIn, earlierSetDecision, earlierReport, earlierReportOn, earlierStatus, earlierGiven, earlierRefusal, earlierEffect, earlierStep}
+use Rattle.rules.specs.BeforeExit.{earlierDecision, earlierDecisionIn, earlierSetDecision, earlierReportOn, earlierStatus, earlierGiven, earlierRefusal, earlierEffect, earlierStep}
 use Rattle.rules.specs.EngineLaws.{step-status, refused-changes-nothing, granted-effect, kept}
 use Rattle.rules.specs.StateLaws.{set-passed, register-passed}
 use Rattle.rules.specs.Grounds.{Not, NV, BS, RT, SoundStores, RecordOf, Exited, Hidden, Deletion, Applies, Answers}
 use Rattle.rules.specs.Grounds.Applies.{readUnsound, readAbsent, readHidden, readDone, setNotRuntime, setHidden, setVolatile, setDeleted, setOtherAttributes, setEmptyAppend, setDone}
 use Rattle.rules.specs.GroundsLaws.{status-exactly}
-use Rattle.rules.specs.ConditionLaws.{Tells, tells-and, tells-off, tells-nv, tells-bs, tells-rt, tells-deletion, tells-nothing, tells-runtime}
-use Rattle.rules.specs.FoundLaws.{tells-sound, tells-unseen, lookup-found, lookup-absent}
+use Rattle.rules.specs.ConditionLaws.{Tells, tells-and, tells-off, tells-nv, tells-bs, tells-rt, tells-deletion, tells-nothing}
+use Rattle.rules.specs.FoundLaws.{tells-sound, tells-unseen, found-lookup, lookup-found, lookup-absent, one-record}
 use Rattle.rules.specs.Effects.{SetByName}
 use Rattle.rules.specs.EffectsLaws.{decided, set-by-name}
-use Rattle.rules.specs.SizeLaws.{one-record}
 
 -- ---- BEFORE EXIT
 
@@ -134,7 +133,7 @@ isStart (set r) = false
 abbrev pub GoesOn : State → Call → Type 0
 GoesOn s c = isStart c ≡ true → isSuccess (step s c .0 .status) ≡ false
 
--- what stays after exit: all but the records with RT in the non-volatile store
+-- what stays after exit: all but the non-volatile store, and of that each record without RT
 pub record Stays (s t : State) : Type 0 where
   pub policy : t .policy ≡ s .policy
   pub switches : t .switches ≡ s .switches
@@ -186,7 +185,7 @@ module _ (s : State) (x : Exited s) (r : Request) (granted : isSuccess (step s (
           let l = past-52 s r (answers0 .place) (answers0 .at .applies) in
           absurd (unground 31 InvalidParameter (omega arith) (setNotRuntime x d (λ k. tells-off _ has e (k .0, (k .1, k .2)))))
 
-  -- the variable's record before it is not one without RT, unless nothing is changed
+  -- the variable's record before it is not one without RT
   not-hidden : (q : Bytes) → RecordOf s (r .variable) q → Not (RT (attributesOf q)) → ⊥
   not-hidden q f n = go (isDeletion (r .attributes) (r .payload)) refl
     where
@@ -305,13 +304,13 @@ endsAtExit (set r) = false
 
 -- REGISTER, DUMP, LOCK, DISABLE AND EXIT ANSWER 3 AFTER EXIT, with no number and the buffer of a dump as it was, unless they are lent a policy record
 -- that is not valid
-pub exit-refuses : (s : State) (c : Call) → Exited s → policyValid (s .policy) ≡ true → endsAtExit c ≡ true
+pub exit-refuses : (s : State) (c : Call) → Exited s → (uses c .lent .policy ≡ true → policyValid (s .policy) ≡ true) → endsAtExit c ≡ true
     → step s c ≡ (answerOf Unsupported 0 (uses c .refusedBytes) none, s)
 unfolding step
 exit-refuses s (powerOn allowed) x v h = absurd (false≢true h)
 exit-refuses s (restart allowed) x v h = absurd (false≢true h)
-exit-refuses s (register e) x v h = rw (v, x)
-exit-refuses s (dump buffer) x v h = rw (v, x)
+exit-refuses s (register e) x v h = rw (v refl, x)
+exit-refuses s (dump buffer) x v h = rw (v refl, x)
 exit-refuses s lock x v h = rw x
 exit-refuses s disable x v h = rw x
 exit-refuses s exit x v h = rw x
@@ -322,7 +321,7 @@ exit-refuses s (set r) x v h = absurd (false≢true h)
 past-2 : (s : State) (v : Variable) (k : ℕ) → Applies s (read v) k Success → 2 < k
 past-2 s v k readDone = lit< tt
 
--- A READ AFTER EXIT TELLS ONLY VARIABLES WITH RT
+-- A READ AFTER EXIT TELLS ONLY VARIABLES WITH RT: what it hands back is of the variable's record, which has RT (`read-tells`)
 pub told-runtime : (s : State) (v : Variable) → Exited s → isSuccess (step s (read v) .0 .status) ≡ true → (q : Bytes) × RecordOf s v q × RT (attributesOf q)
 told-runtime s v x h = intact (sound (s .nv) (s .vol)) refl
   where
@@ -344,10 +343,22 @@ told-runtime s v x h = intact (sound (s .nv) (s .vol)) refl
     intact true e = found (tells-sound (s .nv) (s .vol) .0 e) (lookup (s .nv) (s .vol) v) refl
     intact false e = absurd (unground 0 VolumeCorrupted (lit< tt) (readUnsound (tells-off _ (tells-sound (s .nv) (s .vol)) e)))
 
+pub read-tells : (s : State) (v : Variable) (q : Bytes) → isSuccess (step s (read v) .0 .status) ≡ true → RecordOf s v q
+    → step s (read v) ≡ (answerOf Success (attributesOf q) (payloadOf q) none, s)
+unfolding step
+read-tells s v q h f = ap (λ n. (answer s (read v) n, after s (read v) n)) (success-only (status s (read v)) (ap isSuccess (sym (step-status s (read v))) ∙ h)) ∙ rw (found-lookup s v q f)
+
+-- a record of sound stores is of a variable with a valid name
+record-named : (s : State) (v : Variable) (q : Bytes) → RecordOf s v q → named v ≡ true
+record-named s v q f =
+    let l = looked (s .nv) (s .vol) v q (found-lookup s v q f) in
+    subst (λ w. named w ≡ true) (f .own) (fields-storable (hasNV (attributesOf q)) q (l .ok) .called)
+
 -- and to one that is hidden answers as to an absent one
-pub hidden-read : (s : State) (v : Variable) (q : Bytes) → named v ≡ true → Hidden s v q → step s (read v) ≡ (onlyStatus NotFound, s)
+pub hidden-read : (s : State) (v : Variable) (q : Bytes) → Hidden s v q → step s (read v) ≡ (onlyStatus NotFound, s)
 unfolding step readStatus
-hidden-read s v q n h =
+hidden-read s v q h =
+    let n = record-named s v q (h .stands) in
     let k : SoundStores (s .nv) (s .vol) = record { inNV = h .stands .inNV; inVol = h .stands .inVol; records = h .stands .records } in
     let e = not-true (exists (shown (s .switches .exited) (lookup (s .nv) (s .vol) v))) (tells-unseen s v k .1 (inr (q, h))) in
     rw (tells-sound (s .nv) (s .vol) .1 k, n, e)

@@ -19,7 +19,7 @@ use Rattle.entry.specs.Entry.{namespaceOf, nameOf, sameTarget}
 use Rattle.entry.specs.EntryLaws.{sized, sameTarget-same, sameTarget-of}
 use Rattle.policy.specs.Policy.{entriesOf, policyValid}
 use Rattle.policy.specs.PolicyLaws as policy
-use Rattle.store.specs.Record.{hasNV, hasRT, attributesOf, isOf, sameVariable, variableOf}
+use Rattle.store.specs.Record.{hasRT, attributesOf, isOf, sameVariable, variableOf}
 use Rattle.store.specs.VariableLaws.{isOf-self, isOf-variable, isOf-like}
 use Rattle.store.specs.Store.{recordsOf, storeOk}
 use Rattle.store.specs.StoreLaws as store
@@ -241,6 +241,10 @@ module _ (s : State) (v : Variable) where
       go : (o : Option Bytes) → lookup (s .nv) (s .vol) v ≡ o → exists o ≡ true → (r : Bytes) × RecordOf s v r
       go none e h = absurd (false≢true h)
       go (some r) e h = (r, lookup-found r k e)
+
+-- a variable has one record
+pub one-record : (s : State) (v : Variable) (q x : Bytes) → RecordOf s v q → RecordOf s v x → q ≡ x
+one-record s v q x f g = let e : some q ≡ some x = sym (found-lookup s v q f) ∙ found-lookup s v x g in cc
 
 -- what a read tells and a deletion takes: the variable is absent, or its record hidden
 pub tells-unseen : (s : State) (v : Variable) → SoundStores (s .nv) (s .vol)

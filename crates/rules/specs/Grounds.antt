@@ -164,10 +164,11 @@ pub record RecordOf (s : State) (v : Variable) (r : Bytes) : Type 0 where
 abbrev pub Absent : State → Variable → Type 0
 Absent s v = (r : Bytes) → Not (RecordOf s v r)
 
--- after exit; and the record is then told by no read and taken out by no deletion: it is without RT
+-- after exit
 abbrev pub Exited : State → Type 0
 Exited s = s .switches .exited ≡ true
 
+-- the variable's record is then told by no read and taken out by no deletion: it is without RT
 pub record Hidden (s : State) (v : Variable) (r : Bytes) : Type 0 where
   pub exited : Exited s
   pub stands : RecordOf s v r
@@ -221,7 +222,7 @@ pub record Storing (s : State) (r : Request) (rs : List Bytes) : Type 0 where
   pub put : Put (r .variable) (encodeRecord (r .attributes % 8) (r .variable) payload) rs records
 
 -- ---- THE GROUNDS of each call, each with its place in the call's order and the status that it gives.
--- Place 0 is 10 wherever something is lent, and the last place of each call applies always: done. A set's places are its steps
+-- Place 0 is 10 wherever a store or the policy record is lent, and the last place of each call applies always: done. A set's places are its steps
 -- times ten; of step 3, 30 is RT or append without BS and 31 what a set needs after exit; of step 4, 41 is size, 42 attributes and 43 the lock; of
 -- step 5, 51 is absent or hidden, 52 volatile after exit and 53 removed. Grounds at one place give one status
 pub data Applies (s : State) : Call → ℕ → Status → Type 0 where

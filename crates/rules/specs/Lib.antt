@@ -20,3 +20,4 @@ pub mod Opened
 pub mod Readings
 pub mod BeforeExit
 pub mod ExitLaws
+pub mod ExitAnswers

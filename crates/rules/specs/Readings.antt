@@ -175,6 +175,15 @@ readings =
     ∷ (booted (setting (0x44 ∷ []) 3 (7 ∷ []) ∷ setting (0x44 ∷ []) 6 (7 ∷ []) ∷ setting (0x44 ∷ []) 7 (7 ∷ []) ∷ setting (0x44 ∷ []) 0x47 (7 ∷ []) ∷ setting (0x44 ∷ []) 0x43 (7 ∷ []) ∷ []), 0 ∷ 0 ∷ 0 ∷ 0 ∷ 0 ∷ 2 ∷ 2 ∷ 0 ∷ 0 ∷ 2 ∷ [])
     -- deletions after exit: absent, without RT, volatile, with both; a variable without RT set with it
     ∷ (booted (delete (0x45 ∷ []) ∷ delete A ∷ delete (0x42 ∷ []) ∷ delete (0x43 ∷ []) ∷ setting A 7 (7 ∷ []) ∷ []), 0 ∷ 0 ∷ 0 ∷ 0 ∷ 0 ∷ 14 ∷ 14 ∷ 8 ∷ 0 ∷ 2 ∷ [])
+    -- step 2 and a bad name come before what exit asks; a deletion by its attributes is one after exit too, and an empty append is none
+    ∷ (booted (setting (0x44 ∷ []) 0x0E (7 ∷ []) ∷ reading [] ∷ setting (0x43 ∷ []) 0 (7 ∷ []) ∷ setting (0x44 ∷ []) 0x43 [] ∷ []), 0 ∷ 0 ∷ 0 ∷ 0 ∷ 0 ∷ 3 ∷ 2 ∷ 0 ∷ 2 ∷ [])
+    -- a disabled and locked engine exits
+    ∷ ((disable ∷ lock ∷ exit ∷ []), 0 ∷ 0 ∷ 0 ∷ 0 ∷ [])
+    -- a volatile variable without RT is absent to both
+    ∷ ((setting A 2 (7 ∷ []) ∷ exit ∷ reading A ∷ delete A ∷ []), 0 ∷ 0 ∷ 0 ∷ 14 ∷ 14 ∷ [])
+    -- a trigger without RT locks, and so does a variable without RT that exists
+    ∷ ((register (triggered T A) ∷ setting T 3 (0 ∷ []) ∷ exit ∷ setting A 7 (7 ∷ []) ∷ []), 0 ∷ 0 ∷ 0 ∷ 0 ∷ 8 ∷ [])
+    ∷ ((register (named-entry 0 2 A) ∷ write A ∷ exit ∷ setting A 7 (7 ∷ []) ∷ delete A ∷ []), 0 ∷ 0 ∷ 0 ∷ 0 ∷ 8 ∷ 8 ∷ [])
     -- the lock comes before step 5, and what a set needs after exit before the lock
     ∷ ((register (whole-namespace 1) ∷ exit ∷ delete A ∷ write A ∷ []), 0 ∷ 0 ∷ 0 ∷ 8 ∷ 2 ∷ [])
     ∷ []
@@ -182,7 +191,7 @@ readings =
 -- THE READINGS HOLD
 pub readings-hold : All Holds readings
 unfolding rulesOpened
-readings-hold = more refl (more refl (more refl (more refl (more refl (more refl (more refl (more refl (more refl (more refl (more refl (more refl (more refl (more refl (more refl (more refl (more refl (more refl (more refl (more refl (more refl (more refl (more refl (more refl (more refl nil))))))))))))))))))))))))
+readings-hold = more refl (more refl (more refl (more refl (more refl (more refl (more refl (more refl (more refl (more refl (more refl (more refl (more refl (more refl (more refl (more refl (more refl (more refl (more refl (more refl (more refl (more refl (more refl (more refl (more refl (more refl (more refl (more refl (more refl (more refl nil)))))))))))))))))))))))))))))
 
 -- ---- the reports
 
@@ -217,9 +226,17 @@ reports =
           ∷ 8 ∷ 3 ∷ 0 ∷ 0 ∷ 0 ∷ 0 ∷ 0
           ∷ 2 ∷ 0 ∷ 0 ∷ 0 ∷ 0 ∷ 0 ∷ 0 ∷ [],
     )
+    -- a stored payload without RT is measured: 60 bytes, and under MaxSize 64 an append of 5, and of 4 to a variable with other attributes
+    ∷ (
+      (setting A 3 (replicate 60 7) ∷ register (capped 64 0 A) ∷ exit ∷ setting A 0x47 (replicate 5 7) ∷ setting A 0x47 (replicate 4 7) ∷ []),
+      0 ∷ 0 ∷ 0 ∷ 0 ∷ 0 ∷ 0 ∷ 0 ∷ 0
+          ∷ 0 ∷ 0
+          ∷ 2 ∷ 1 ∷ 0 ∷ 0 ∷ 0 ∷ 0 ∷ 0
+          ∷ 2 ∷ 0 ∷ 0 ∷ 0 ∷ 0 ∷ 0 ∷ 0 ∷ [],
+    )
     ∷ []
 
 -- THE REPORTS HOLD
 pub reports-hold : All Tells reports
 unfolding rulesOpened
-reports-hold = more refl (more refl (more refl (more refl nil)))
+reports-hold = more refl (more refl (more refl (more refl (more refl nil))))

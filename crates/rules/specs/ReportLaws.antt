@@ -10,13 +10,13 @@ use native.Mathlib.Omega.{arith}
 use lib.ListN.{length, getD}
 use lib.Dec.{lit<}
 use lib.Bits.{bitAnd, and-le-r}
-use borrow.Author.Tests.{eq-eqb, eqb-true, not-false}
+use borrow.Author.Tests.{eq-eqb, eqb-true, not-true, not-false}
 use Rattle.limits.specs.Limits.{knownAttributes}
 use Rattle.lists.specs.Lists.{more, Among}
 use Rattle.lists.specs.ListsLaws as choice
 use Rattle.lists.specs.ListsLaws.{all-among, among-middle}
 use Rattle.slices.specs.Test.{_and_}
-use Rattle.slices.specs.TestLaws.{and-intro}
+use Rattle.slices.specs.TestLaws.{and-left, and-intro}
 use Rattle.slices.specs.Bytes.{Bytes, AreBytes}
 use Rattle.entry.specs.Entry.{minSize, maxSize, attributesMustHave, attributesCantHave, targets, rank}
 use Rattle.entry.specs.Encoding.{fieldsOf}
@@ -26,6 +26,7 @@ use Rattle.policy.specs.PolicyLaws.{entriesOf-formed}
 use Rattle.policy.specs.Choice.{chosen, placeOf}
 use Rattle.policy.specs.ChoiceLaws.{chosen-in-bytes}
 use Rattle.policy.specs.PlaceLaws.{StandsAt, stands-at}
+use Rattle.store.specs.Record.{hasRT, attributesOf}
 use Rattle.stores.specs.Pair.{sound, lookup}
 use Rattle.bits.specs.Bits.{isMissing, isProhibited, missingBits, prohibitedBits}
 use Rattle.bits.specs.BitsLaws.{none-missing, none-prohibited, lowest-below, lowest-offends, lowest-first}
@@ -37,12 +38,15 @@ use Rattle.rules.specs.declared.Ground.the-variants.{NoGround, SizeGroun
 use Rattle.rules.specs.declared.Decision.{Decision}
 use Rattle.rules.specs.declared.Decision.the-variants.{Refuse, Block, Delete, Keep, Store}
 use Rattle.rules.specs.declared.Report.{Report}
-use Rattle.rules.specs.Set.{Request, requestStatus, groundStatus, groundOf, groundBy, isDeletion, exitProtects, lengthAfter, attributesAllowed, unsupportedBit, writeDecision, blockOr, decision, decisionStatus}
+use Rattle.rules.specs.Set.{Request, requestStatus, groundStatus, groundOf, groundBy, isDeletion, lengthAfter, attributesAllowed, unsupportedBit, writeDecision, blockOr, decision, decisionStatus}
 use Rattle.rules.specs.DecisionLaws.{supported, early-unlocked, ProtectedDeletion, protected-refused, late-locked, blockedBy, write-unblocked, decision-blocked, decision-written, blocked-facts}
 use Rattle.rules.specs.Report.{noReport, reportFor, reportBy, decisionReport}
 use Rattle.rules.specs.Engine.{State, speaking, decisionBy, decisionIn, setDecision, status, withReport, setReport, step}
 use Rattle.rules.specs.Engine.Call.{set}
 use Rattle.rules.specs.EngineLaws.{step-status, answer-reported}
+use Rattle.rules.specs.Grounds.{Not, NV, RT, SoundStores, RecordOf, Absent, Exited, Hidden, Deletion}
+use Rattle.rules.specs.ConditionLaws.{tells-off, off-tells, tells-rt, tells-deletion}
+use Rattle.rules.specs.FoundLaws.{tells-sound, tells-unseen, tells-protected, one-record}
 use Rattle.rules.specs.SetGroundsLaws.{isSize, isAttribute, size-says, attribute-says, tells-size, spoken-of}
 
 -- ---- which decision, and so which report
@@ -261,21 +265,64 @@ no-ground-zeros s r p a e = sym (answered-is s r p a) ∙ go (report-and-status 
     go (byGround g w) h = absurd (w .some (sym (ground-for g _ (w .entry) (r .attributes)) ∙ h))
     go (late i j k) h = refl
 
--- A SET ANSWERS 8 EXACTLY WHERE A LOCK IS REPORTED, or where nothing of step 4 or before speaks against a deletion after exit of what is shown and
--- protected; then no ground is reported (`no-ground`)
+-- A SET ANSWERS 8 EXACTLY WHERE A LOCK IS REPORTED, or where nothing of step 4 or before speaks against a deletion after exit of a volatile variable
+-- with RT; then no ground is reported (`protected-silent`)
 module _ (s : State) (r : Request) where
   pub record Protected : Type 0 where
     pub intact : (sound (s .nv) (s .vol) and policyValid (s .policy)) ≡ true
     pub asked : isSuccess (requestStatus (s .switches .exited) r) ≡ true
     pub silent : groundBy (speaking (s .switches .enabled) (chosen (entriesOf (s .policy)) (r .variable))) (lookup (s .nv) (s .vol)) r ≡ NoGround
-    pub deletion : ProtectedDeletion (s .switches .exited) (lookup (s .nv) (s .vol) (r .variable)) r
+    pub deletes : Deletion r
+    pub exited : Exited s
+    pub held : Bytes
+    pub stands : RecordOf s (r .variable) held
+    pub rt : RT (attributesOf held)
+    pub volatile : Not (NV (attributesOf held))
+
+  -- the same by the tests of step 5
+  protected-tests : Protected → ProtectedDeletion (s .switches .exited) (lookup (s .nv) (s .vol) (r .variable)) r
+  protected-tests w =
+      let k = tells-sound (s .nv) (s .vol) .0 (and-left _ _ (w .intact)) in
+      record {
+        deletes = tells-deletion r .1 (w .deletes);
+        seen = not-false _ (off-tells _ (tells-unseen s (r .variable) k) unseen);
+        protects = tells-protected s (r .variable) k .1 (w .held, w .exited, w .stands, w .volatile);
+      }
+    where
+      unseen : Absent s (r .variable) ⊎ ((q : Bytes) × Hidden s (r .variable) q) → ⊥
+      unseen (inl h) = h (w .held) (w .stands)
+      unseen (inr h) = h .1 .without (subst (λ q. RT (attributesOf q)) (one-record s (r .variable) (w .held) (h .0) (w .stands) (h .1 .stands)) (w .rt))
+
+  tested-protected : (sound (s .nv) (s .vol) and policyValid (s .policy)) ≡ true → isSuccess (requestStatus (s .switches .exited) r) ≡ true
+      → groundBy (speaking (s .switches .enabled) (chosen (entriesOf (s .policy)) (r .variable))) (lookup (s .nv) (s .vol)) r ≡ NoGround
+      → ProtectedDeletion (s .switches .exited) (lookup (s .nv) (s .vol) (r .variable)) r → Protected
+  tested-protected i j g w =
+      let k = tells-sound (s .nv) (s .vol) .0 (and-left _ _ i) in
+      let p = tells-protected s (r .variable) k .0 (w .protects) in
+      record {
+        intact = i;
+        asked = j;
+        silent = g;
+        deletes = tells-deletion r .0 (w .deletes);
+        exited = p .1;
+        held = p .0;
+        stands = p .2;
+        rt = has-rt k (p .0) (p .1) (p .2) (hasRT (attributesOf (p .0))) refl;
+        volatile = p .3;
+      }
+    where
+      has-rt : SoundStores (s .nv) (s .vol) → (q : Bytes) → Exited s → RecordOf s (r .variable) q → (b : Bool) → hasRT (attributesOf q) ≡ b → RT (attributesOf q)
+      has-rt k q x f true e = tells-rt (attributesOf q) .0 e
+      has-rt k q x f false e =
+          let h = tells-unseen s (r .variable) k .1 (inr (q, record { exited = x; stands = f; without = tells-off _ (tells-rt (attributesOf q)) e })) in
+          absurd (true≢false (sym (w .seen) ∙ not-true _ h))
 
   protected-answers : Protected → step s (set r) .0 .status ≡ WriteProtected
   unfolding decisionBy
   protected-answers w =
       step-status s (set r)
       ∙ rw (w .intact) (ap decisionStatus (decision-written _ _ (s .nv) (s .vol) r (w .asked) (w .silent)
-      ∙ protected-refused (s .switches .exited) (s .nv) (s .vol) (lookup (s .nv) (s .vol) (r .variable)) r (w .deletion)))
+      ∙ protected-refused (s .switches .exited) (s .nv) (s .vol) (lookup (s .nv) (s .vol) (r .variable)) r (protected-tests w)))
 
   eight-by : (g : Ground) → GroundGiven s r g → groundStatus g ≡ WriteProtected → GroundGiven s r LockGround
   eight-by NoGround w e = absurd (w .some refl)
@@ -287,7 +334,7 @@ module _ (s : State) (r : Request) where
   eight-cases (corrupted i) e = absurd (let k = ap statusNumber e in omega (arith, k))
   eight-cases (early i j) e = absurd (early-unlocked (s .switches .exited) r e)
   eight-cases (byGround g w) e = inl (eight-by g w e)
-  eight-cases (late i j k) e = inr (record { intact = i; asked = j; silent = k; deletion = late-locked (s .switches .exited) (s .nv) (s .vol) _ r e })
+  eight-cases (late i j k) e = inr (tested-protected i j k (late-locked (s .switches .exited) (s .nv) (s .vol) _ r e))
 
   pub lock-exactly : (p : Report) → Answered s r p → (step s (set r) .0 .status ≡ WriteProtected) ↔ ((p .ground ≡ LockGround) ⊎ Protected)
   lock-exactly p a = (λ h. to (eight-cases (report-and-status s r .1) (sym (step-status s (set r)) ∙ h)), back)
@@ -310,23 +357,16 @@ module _ (s : State) (r : Request) where
       sym (answered-is s r p a)
       ∙ rw (w .intact) (ap (λ d. decisionReport d (entriesOf (s .policy)) (chosen (entriesOf (s .policy)) (r .variable)) (r .attributes))
       (decision-written _ _ (s .nv) (s .vol) r (w .asked) (w .silent)
-      ∙ protected-refused (s .switches .exited) (s .nv) (s .vol) (lookup (s .nv) (s .vol) (r .variable)) r (w .deletion)))
+      ∙ protected-refused (s .switches .exited) (s .nv) (s .vol) (lookup (s .nv) (s .vol) (r .variable)) r (protected-tests w)))
 
 -- BEFORE EXIT a set answers 8 exactly where a lock is reported
-unprotected : (found : Option Bytes) → exitProtects false found ≡ true → ⊥
-unfolding exitProtects _and_
-unprotected none e = false≢true e
-unprotected (some q) e = false≢true e
-
 pub lock-before-exit : (s : State) (r : Request) (p : Report) → Answered s r p → s .switches .exited ≡ false
     → (step s (set r) .0 .status ≡ WriteProtected) ↔ (p .ground ≡ LockGround)
 lock-before-exit s r p a x = ((λ h. to (lock-exactly s r p a .0 h)), λ e. lock-exactly s r p a .1 (inl e))
   where
     to : (p .ground ≡ LockGround) ⊎ Protected s r → p .ground ≡ LockGround
     to (inl e) = e
-    to (inr w) =
-        let found = lookup (s .nv) (s .vol) (r .variable) in
-        absurd (unprotected found (subst (λ b. exitProtects b found ≡ true) x (w .deletion .protects)))
+    to (inr w) = absurd (true≢false (sym (w .exited) ∙ x))
 
 -- ---- size
 

@@ -4,7 +4,6 @@ use Prim.Native.Nat.{ℕ, _≤_, _<_}
 use mathlib.Core.Path.{_≡_, refl, sym, ap₂, subst, subst⁻¹, _∙_}
 use mathlib.Core.List.{_++_}
 use mathlib.Core.Bool.{Bool, true, false, not, true≢false}
-use mathlib.Core.Option.{some}
 use native.Mathlib.Omega.{arith}
 use lib.ListN.{length, length-append}
 use lib.Dec.{lit<}
@@ -28,7 +27,7 @@ use Rattle.rules.specs.Grounds.{Not, Deletion, Enforced, RecordOf, Absen
 use Rattle.rules.specs.Grounds.Applies.{setDeleted, setEmptyAppend, setDone, setTooShort, setTooLong}
 use Rattle.rules.specs.GroundsLaws.{status-exactly}
 use Rattle.rules.specs.ConditionLaws.{tells-off, tells-deletion, tells-nothing}
-use Rattle.rules.specs.FoundLaws.{tells-sound, found-lookup, lookup-found}
+use Rattle.rules.specs.FoundLaws.{tells-sound, found-lookup, lookup-found, one-record}
 use Rattle.rules.specs.Effects.{SetByName}
 use Rattle.rules.specs.EffectsLaws.{same-found, set-by-name}
 
@@ -41,10 +40,6 @@ past-size : (s : State) (r : Request) (k : ℕ) → Applies s (set r) k Success 
 past-size s r k (setDeleted d) = lit< tt
 past-size s r k (setEmptyAppend h) = lit< tt
 past-size s r k setDone = lit< tt
-
--- a variable has one record
-pub one-record : (s : State) (v : Variable) (q x : Bytes) → RecordOf s v q → RecordOf s v x → q ≡ x
-one-record s v q x f g = let e : some q ≡ some x = sym (found-lookup s v q f) ∙ found-lookup s v x g in cc
 
 module _ (s : State) (r : Request) (e : Bytes) (w : Enforced s r e) (d : Not (Deletion r)) (granted : isSuccess (step s (set r) .0 .status) ≡ true) where
   -- the payload as it would be afterwards, be it stored or, as by an empty append, left

@@ -207,7 +207,7 @@ pub fn crowded_stores(random: &mut Random, count: usize) -> (Vec<u8>, Vec<u8>, P
                 1 => (G, units(&format!("Variable{number:06X}"))),
                 _ => ([number as u8; 16], vec![0x41, 1 + (number >> 8) as u16]),
             };
-            let runtime = if number % 3 == 0 { 4 } else { 0 };
+            let runtime = if number.is_multiple_of(3) { 4 } else { 0 };
             let record = record(&namespace, &name, 2 | non_volatile | runtime, &[number as u8]);
             if bytes.len() + record.len() > MAX_STORE_BYTES {
                 break;

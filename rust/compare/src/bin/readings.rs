@@ -20,7 +20,7 @@ type Implementation = fn(&mut State, &Call) -> Answer;
 /// A reading: its text, what answers it, and the numbers expected, most of them statuses.
 type Reading = (&'static str, fn(Implementation) -> Vec<u32>, &'static [u32]);
 
-const READINGS: [Reading; 34] = [
+const READINGS: [Reading; 41] = [
     ("an entry of 43 bytes, one of 44", least_entry, &[2, 0]),
     ("a name of no units, closed", zero_unit_name, &[2]),
     ("a trigger's name of no units, of one", trigger_name, &[2, 0]),
@@ -56,6 +56,15 @@ const READINGS: [Reading; 34] = [
         &[2, 2, 0, 0, 2],
     ),
     ("after the same: deletions of `E`, `A`, `B`, `C`; `A` with all three", deletions_after_exit, &[14, 14, 8, 0, 2]),
+    (
+        "after the same: `D` with 0x0e; a read of no name; `C` with no attributes; an empty append to `D` with NV, BS",
+        steps_after_exit,
+        &[3, 2, 0, 2],
+    ),
+    ("disable, lock, exit", closed_exit, &[0, 0, 0]),
+    ("a volatile variable without RT; exit; its read, its deletion", volatile_after_exit, &[0, 0, 14, 14]),
+    ("a trigger without RT that holds Value 0; exit; a set that it locks", lock_by_hidden, &[0, 0, 0, 8]),
+    ("lock on create, created without RT; exit; a set with RT, a deletion", created_before_exit, &[0, 0, 0, 8, 8]),
     ("the whole namespace, locked now; exit; a deletion, a set with NV, BS", locked_after_exit, &[0, 0, 8, 2]),
     (
         "reports of sets of `A0` under `A#`, behind `B`: size, attributes, lock, none; disabled",
@@ -64,6 +73,16 @@ const READINGS: [Reading; 34] = [
     ),
     ("the report where bit 31 is required of a whole namespace", required_bit, &[2, 2, 0, 65, 1, 0, 31]),
     ("the same, and BS prohibited", required_and_prohibited_bit, &[2, 2, 0, 65, 1, 1, 1]),
+    (
+        "reports after exit: a volatile variable and a locked one deleted, the latter set",
+        reports_after_exit,
+        EIGHTS.as_flattened(),
+    ),
+    (
+        "60 bytes without RT under MaxSize 64, after exit: appends of 5 bytes, 4",
+        lengths_after_exit,
+        LENGTHS.as_flattened(),
+    ),
     ("an empty store of 40 bytes: a record of 40, one of 44", forty_bytes, &[0, 9]),
     ("51 entries that sum to 16,384, and one more", full_record, &[0, 16384, 9]),
     ("128 entries of 44 bytes, and one more", most_entries, &[0, 5632, 9]),
@@ -94,6 +113,10 @@ const READINGS: [Reading; 34] = [
 ];
 
 const STRAY: &[[u32; 5]] = &[[3, 3, 3, 3, 14]; 3];
+
+const EIGHTS: &[Reported] = &[[8, 0, 0, 0, 0, 0, 0], [8, 3, 0, 0, 0, 0, 0], [2, 0, 0, 0, 0, 0, 0]];
+
+const LENGTHS: &[Reported] = &[[2, 1, 0, 0, 0, 0, 0], [2, 0, 0, 0, 0, 0, 0]];
 
 /// A status and its report: ground, place, rank, missing, prohibited, lowest bit.
 type Reported = [u32; 7];
@@ -435,6 +458,48 @@ fn deletions_after_exit(implementation: Implementation) -> Vec<u32> {
     let (mut bench, _) = exited(implementation);
     let deleted = ["E", "A", "B", "C"].map(|name| bench.delete(name));
     [&deleted[..], &[bench.set_with("A", 7, &[1])]].concat()
+}
+
+fn steps_after_exit(implementation: Implementation) -> Vec<u32> {
+    let (mut bench, _) = exited(implementation);
+    vec![bench.set_with("D", 0x0E, &[1]), bench.read(""), bench.set_with("C", 0, &[1]), bench.set_with("D", 0x43, &[])]
+}
+
+fn closed_exit(implementation: Implementation) -> Vec<u32> {
+    let mut bench = Bench::new(implementation, 256);
+    [Call::Disable, Call::Lock, Call::Exit].map(|call| bench.call(&call)).to_vec()
+}
+
+fn volatile_after_exit(implementation: Implementation) -> Vec<u32> {
+    let mut bench = Bench::new(implementation, 256);
+    vec![bench.set_with("A", 2, &[1]), bench.call(&Call::Exit), bench.read("A"), bench.delete("A")]
+}
+
+fn lock_by_hidden(implementation: Implementation) -> Vec<u32> {
+    let mut bench = Bench::new(implementation, 256);
+    let registered = bench.register(&entry("A").with_trigger(G, &units("T"), 0));
+    vec![registered, bench.set("T", &[0]), bench.call(&Call::Exit), bench.set_with("A", 7, &[1])]
+}
+
+fn created_before_exit(implementation: Implementation) -> Vec<u32> {
+    let mut bench = Bench::new(implementation, 256);
+    let before =
+        [bench.register(&EntryFields { lock_type: 2, ..entry("A") }), bench.set("A", &[1]), bench.call(&Call::Exit)];
+    [&before[..], &[bench.set_with("A", 7, &[1]), bench.delete("A")]].concat()
+}
+
+fn reports_after_exit(implementation: Implementation) -> Vec<u32> {
+    let mut bench = Bench::new(implementation, 256);
+    let before = [bench.set_with("A", 6, &[1]), bench.register(&locked_now("B")), bench.call(&Call::Exit)];
+    assert_eq!(before, [0, 0, 0]);
+    [bench.report("A", 3, &[]), bench.report("B", 3, &[]), bench.report("B", 3, &[1])].concat()
+}
+
+fn lengths_after_exit(implementation: Implementation) -> Vec<u32> {
+    let mut bench = Bench::new(implementation, 256);
+    let capped = EntryFields { max_size: 64, ..entry("A") };
+    assert_eq!([bench.set("A", &[1; 60]), bench.register(&capped), bench.call(&Call::Exit)], [0, 0, 0]);
+    [bench.report("A", 0x47, &[1; 5]), bench.report("A", 0x47, &[1; 4])].concat()
 }
 
 fn locked_after_exit(implementation: Implementation) -> Vec<u32> {

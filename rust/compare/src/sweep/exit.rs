@@ -116,8 +116,8 @@ fn one_after_another(sweep: &mut Sweep) -> Outcome {
     Ok(())
 }
 
-/// Starts before exit and after, granted and refused, and what the engine answers then: one that was refused a start goes
-/// on with the switches that it had.
+/// Starts before exit and after, granted and refused, and what the engine answers then: one that was refused a start
+/// goes on with the switches that it had.
 fn starts(sweep: &mut Sweep) -> Outcome {
     let [nv, volatile] = furnished();
     let twice = full(&[record(&G, &named(7), 6, &[1])]);
@@ -409,7 +409,7 @@ fn with_trigger((trigger, payload): (u32, &[u8]), stored: u32) -> [Vec<u8>; 2] {
     })
 }
 
-/// A lock that hangs on a trigger, before exit and after: what the trigger holds can be changed only if it has NV and RT.
+/// A lock that hangs on a trigger, before exit and after: then the trigger can be changed only if it has NV and RT.
 fn triggers_left(sweep: &mut Sweep) -> Outcome {
     for attributes in [2, 6, 3, 7] {
         let calls = [

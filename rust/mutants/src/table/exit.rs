@@ -458,6 +458,12 @@ pub(super) const EDITS: &[Edit] = &[
         "after exit an unlocked engine reads all variables",
     ),
     edit(
+        "exit-read-by-lock",
+        READ,
+        "if switches.locked && !variable.is_runtime() { return Err(Status::NotFound); }",
+        "a lock in place of exit hides variables without RT",
+    ),
+    edit(
         "exit-read-bad-name",
         READ_NAME,
         "name::decode_request(name).ok_or(if switches.exited { Status::NotFound } else { Status::InvalidParameter })?; \
@@ -580,6 +586,12 @@ pub(super) const EDITS: &[Edit] = &[
         "let exited = switches.exited && name::decode_request(request.name).is_none_or(|name| \
          pair.find(request.namespace, &name).is_some()); let name = match well_formed(&request, exited) {",
         "after exit a new variable may have any attributes",
+    ),
+    edit(
+        "exit-set-by-lock",
+        STEPS_1_TO_3,
+        "let name = match well_formed(&request, switches.locked) {",
+        "a lock in place of exit makes a set need NV, BS and RT",
     ),
     edit(
         "exit-set-if-disabled",
@@ -776,6 +788,12 @@ pub(super) const EDITS: &[Edit] = &[
         "step 5 after exit: the 8 without a ground before the lock",
     ),
     edit(
+        "exit-delete-by-lock",
+        DELETE,
+        "match to_delete(&pair, &request, &name, switches.locked) {",
+        "a lock in place of exit keeps variables from being deleted",
+    ),
+    edit(
         "exit-delete-if-disabled",
         DELETE,
         "match to_delete(&pair, &request, &name, switches.exited && switches.enabled) {",
@@ -884,6 +902,19 @@ pub(super) const SWITCH_EDITS: &[Edit] = &[
         "exited: self.exited > 0,",
         "exited: self.locked > 0 && self.exited > 0,",
         "only a locked engine has exited",
+    ),
+    edit(
+        "exit-byte-crossed",
+        "locked: self.locked > 0,\n            disabling_allowed: gives_leave(self.disabling_allowed),\n            \
+         exited: self.exited > 0,",
+        "locked: self.exited > 0, disabling_allowed: gives_leave(self.disabling_allowed), exited: self.locked > 0,",
+        "the bytes of locked and exited are crossed",
+    ),
+    edit(
+        "exit-byte-last-crossed",
+        "disabling_allowed: gives_leave(self.disabling_allowed),\n            exited: self.exited > 0,",
+        "disabling_allowed: gives_leave(self.exited), exited: self.disabling_allowed > 0,",
+        "the last two bytes are crossed",
     ),
     edit(
         "exit-byte-255",
