@@ -396,7 +396,8 @@ varpolicy_disable (
   Tells the engine that the operating system starts and boot services are gone. Until the next power-on
   or restart the policy can be neither added to, handed out, locked nor disabled; reads show variables with
   RT alone; a set needs NV, BS and RT; and volatile variables are neither written nor deleted. The policy
-  itself still sees both stores whole: a lock may hang on a variable that can no longer be read.
+  itself still sees both stores whole: a lock may hang on a variable that can no longer be read. To rebuild
+  the engine later takes a dump from before, as no dump is to be had then.
 
   @param[in,out] switches  The switches. Of a refused call they may lie in read-only memory.
 

@@ -198,7 +198,7 @@ pub fn disable(switches: &mut SwitchBytes) -> Status {
 /// Tells the engine that the operating system starts and boot services are gone: `exited` is then 1, until the next
 /// power-on or restart. Meanwhile the policy is neither added to, handed out, locked nor disabled; reads show variables
 /// with RT alone; a set needs NV, BS and RT; and volatile variables are neither written nor deleted. Entries are enforced
-/// as before, also by triggers that can no longer be read.
+/// as before, also by triggers that can no longer be read. To rebuild the engine later takes a dump from before.
 ///
 /// * UNSUPPORTED: exited already.
 pub fn exit(switches: &mut SwitchBytes) -> Status {
