@@ -17,7 +17,6 @@ pub mod EffectsLaws
 pub mod SizeLaws
 pub mod StateLaws
 pub mod Opened
-pub mod Readings
 pub mod BeforeExit
 pub mod ExitLaws
 pub mod ExitAnswers

@@ -1,0 +1,1 @@
+// The bench readings of the calls, computed by the rules. Definitions and laws only.
