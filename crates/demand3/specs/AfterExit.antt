@@ -24,7 +24,7 @@ use Rattle.status.specs.Status.{isSuccess}
 use Rattle.switches.specs.Switches.{unlessExited}
 use Rattle.rules.specs.Engine as rules
 use Rattle.rules.specs.Engine.{State, Call, dumpStatus, step}
-use Rattle.rules.specs.Engine.Call.{powerOn, restart, register, dump, lock, disable, exit, query, read, set}
+use Rattle.rules.specs.Engine.Call.{powerOn, restart, register, dump, lock, disable, exit, query, read, set, settled}
 use Rattle.rules.specs.EngineLaws.{step-status}
 use Rattle.rules.specs.StateLaws.{passed, unexited, register-passed}
 use Rattle.rules.specs.Grounds.{Not, RT, RecordOf, Exited}
@@ -45,14 +45,14 @@ use Rattle.demand3.specs.Demand3 as list
 -- ---- one call
 
 -- a call that is no granted start of the history
-abbrev Unstarted : State → Call → Type 0
+abbrev pub Unstarted : State → Call → Type 0
 Unstarted s c = restarts machine (kindOf c) (outcomeOf machine s c) ≡ false
 
 refused-start : (b : Bool) → restarts machine starts (outcomeBy b) ≡ false → b ≡ false
 refused-start true h = absurd (true≢false h)
 refused-start false h = refl
 
-goes-on : (s : State) (c : Call) → Unstarted s c → GoesOn s c
+pub goes-on : (s : State) (c : Call) → Unstarted s c → GoesOn s c
 goes-on s (powerOn allowed) h e = refused-start (isSuccess (step s (powerOn allowed) .0 .status)) h
 goes-on s (restart allowed) h e = refused-start (isSuccess (step s (restart allowed) .0 .status)) h
 goes-on s (register x) h e = absurd (false≢true e)
@@ -63,6 +63,7 @@ goes-on s exit h e = absurd (false≢true e)
 goes-on s query h e = absurd (false≢true e)
 goes-on s (read v) h e = absurd (false≢true e)
 goes-on s (set r) h e = absurd (false≢true e)
+goes-on s (settled v) h e = absurd (false≢true e)
 
 still-exited : (s : State) (c : Call) → Exited s → Unstarted s c → Exited (step s c .1)
 still-exited s c x n = ap (λ w. w .exited) (after-exit s c x (goes-on s c n) .switches) ∙ x
@@ -91,6 +92,7 @@ outdates-exited s exit x h = refl
 outdates-exited s query x h = refl
 outdates-exited s (read v) x h = refl
 outdates-exited s (set r) x h = refl
+outdates-exited s (settled v) x h = refl
 
 -- AFTER EXIT NO DUMP IS GRANTED
 pub exited-no-dump : (s : State) (buffer : Bytes) → Exited s → outcomeOf machine s (dump buffer) ≡ refused
@@ -180,14 +182,14 @@ pub record StaysButOrder (s t : State) : Type 0 where
   pub vol : t .vol ≡ s .vol
   pub hidden : (v : Variable) (q : Bytes) → Not (RT (attributesOf q)) → RecordOf s v q ↔ RecordOf t v q
 
-record-by : (w : Order machine) (t : State) (v : Variable) (q : Bytes) → RecordOf t v q ↔ RecordOf (stateBy machine w t) v q
+pub record-by : (w : Order machine) (t : State) (v : Variable) (q : Bytes) → RecordOf t v q ↔ RecordOf (stateBy machine w t) v q
 record-by none t v q = ((λ f. f), λ f. f)
 record-by (some o) t v q = (
   (λ f. record { inNV = f .inNV; inVol = f .inVol; records = f .records; stands = f .stands; own = f .own }),
   λ f. record { inNV = f .inNV; inVol = f .inVol; records = f .records; stands = f .stands; own = f .own },
 )
 
-switches-by : (w : Order machine) (t : State) → (stateBy machine w t .switches ≡ t .switches) × (stateBy machine w t .vol ≡ t .vol)
+pub switches-by : (w : Order machine) (t : State) → (stateBy machine w t .switches ≡ t .switches) × (stateBy machine w t .vol ≡ t .vol)
 switches-by none t = (refl, refl)
 switches-by (some o) t = (refl, refl)
 
@@ -203,7 +205,7 @@ stays-in-order t u w y k =
     }
 
 -- the history of a list in two parts
-end-history : (xs ys : Items machine) (s : State) → end machine s (history machine (xs ++ ys)) ≡ end machine (end machine s (history machine xs)) (history machine ys)
+pub end-history : (xs ys : Items machine) (s : State) → end machine s (history machine (xs ++ ys)) ≡ end machine (end machine s (history machine xs)) (history machine ys)
 end-history [] ys s = refl
 end-history (call c ∷ xs) ys s = end-history xs ys (step s c .1)
 end-history (ownDump b ∷ xs) ys s = end-history xs ys s

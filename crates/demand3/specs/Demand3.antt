@@ -28,7 +28,7 @@ poweredOn s allowed = rules.step s (powerOn allowed) .1
 start : (s : State) (allowed : Bool) → isSuccess (rules.step s (powerOn allowed) .0 .status) ≡ true → Reached false (poweredOn s allowed)
 start s allowed h = record { uncut = refl; sound = power-on-sound s allowed h }
 
--- THE CLAIM: of every list of all ten kinds of calls with any arguments, refused ones included, with rebuilds at any
+-- THE CLAIM: of every list of all eleven kinds of calls with any arguments, refused ones included, with rebuilds at any
 -- places, each from a complete dump and in order or in a permitted other order
 pub demand-3 : (s : State) (allowed : Bool) → isSuccess (rules.step s (powerOn allowed) .0 .status) ≡ true
     → (is : Items machine) → Proper machine false [] (poweredOn s allowed) is → Demand3 machine (poweredOn s allowed) is

@@ -9,3 +9,4 @@ pub mod OldEntriesLaws
 pub mod OldDumps
 pub mod AnyOrder
 pub mod AfterExit
+pub mod HowLong

@@ -19,7 +19,7 @@ use Rattle.rules.specs.declared.Ground.the-variants.{NoGround, SizeGround, Attr
 use Rattle.rules.specs.declared.Report.{Report}
 use Rattle.rules.specs.Report.{reportOf}
 use Rattle.rules.specs.Engine.{State, Answer, Call, stateOf, step}
-use Rattle.rules.specs.Engine.Call.{powerOn, restart, register, dump, lock, disable, exit, query, read, set}
+use Rattle.rules.specs.Engine.Call.{powerOn, restart, register, dump, lock, disable, exit, query, read, set, settled}
 use Rattle.history.specs.History.{Outcome, Kind, Machine}
 use Rattle.history.specs.History.Outcome.{granted, refused}
 use Rattle.history.specs.History.Kind.{starts, registers, dumps, keeps}
@@ -39,6 +39,7 @@ kindOf exit = keeps
 kindOf query = keeps
 kindOf (read v) = keeps
 kindOf (set r) = keeps
+kindOf (settled v) = keeps
 
 -- WHAT ANOTHER ORDER CHANGES (RULES.md, 12.5), and nothing else: the entries in the policy record
 abbrev pub stateIn : List Bytes → State → State

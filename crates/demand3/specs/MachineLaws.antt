@@ -2,27 +2,27 @@
 use Prim.Native.Nat.{ℕ, suc, _+_, _≤_}
 use mathlib.Core.Path.{_≡_, refl, sym, ap, ap₂, _∙_, subst, subst⁻¹}
 use mathlib.Core.List.{List, [], _∷_, _++_, map, append-assoc, append-nil, List·Permᴰ, Permᴰ·refl, Permᴰ·append-right}
-use mathlib.Core.Bool.{Bool, true, false, cond}
+use mathlib.Core.Bool.{Bool, true, false, cond, false≢true}
 use mathlib.Core.Option.{Option, none, some}
 use native.Mathlib.Omega.{arith}
 use lib.ListN.{length, take, length-append}
 use borrow.Author.Tests.{le-leb}
-use Rattle.limits.specs.Limits.{maxEntries, policyBytes}
+use Rattle.limits.specs.Limits.{maxEntries, policyBytes, maxLinks}
 use Rattle.lists.specs.Lists.{over}
 use Rattle.lists.specs.ListsLaws.{all-right, all-here, length-perm, flat-perm, over-over}
 use Rattle.slices.specs.Test.{_and_}
 use Rattle.slices.specs.Bytes.{Bytes}
 use Rattle.slices.specs.Chunks.{flat}
-use Rattle.names.specs.Name.{named}
+use Rattle.names.specs.Name.{Variable, named}
 use Rattle.entry.specs.Entry.{wellFormed, sameTarget}
 use Rattle.entry.specs.EntryLaws.{well-formed-header}
 use Rattle.policy.specs.Policy.{entriesOf, packPolicy, policyValid}
 use Rattle.policy.specs.PolicyLaws.{Entries, policyValid-length, policy-entries, pack-entriesOf, entriesOf-formed, entriesOf-pack, entries-policy, sizesSum-flat, flat-unique}
 use Rattle.policy.specs.Choice.{chosen, placeOf}
 use Rattle.policy.specs.PlaceLaws.{StandsAt}
-use Rattle.stores.specs.Pair.{sound}
+use Rattle.stores.specs.Pair.{sound, lookup}
 use Rattle.status.specs.declared.Status.{Status}
-use Rattle.status.specs.declared.Status.the-variants.{Success}
+use Rattle.status.specs.declared.Status.the-variants.{Success, InvalidParameter}
 use Rattle.status.specs.Status.{isSuccess}
 use Rattle.switches.specs.declared.Switches.{Switches}
 use Rattle.switches.specs.Switches.{freshSwitches, unlessExited}
@@ -35,10 +35,13 @@ use Rattle.rules.specs.Set.{Request, badRequest, requestStatus, decision}
 use Rattle.rules.specs.DecisionLaws.{taken-named}
 use Rattle.rules.specs.Report.{reportFor, decisionReport}
 use Rattle.rules.specs.ReportLaws.{ground-given, chosen-stands}
-use Rattle.rules.specs.Engine.{State, Call, Answer, stateOf, uses, answerOf, setDecision, setReport, reportOn, onlyStatus, powerOnStatus, restartStatus, registerStatus, dumpStatus, speaking, decisionBy, decisionIn, status, given, refusal, answer, after, effect, step}
-use Rattle.rules.specs.Engine.Call.{powerOn, restart, register, dump, lock, disable, exit, query, read, set}
+use Rattle.rules.specs.Engine.{State, Call, Answer, stateOf, uses, answerOf, setDecision, setReport, reportOn, onlyStatus, powerOnStatus, restartStatus, registerStatus, dumpStatus, settledStatus, speaking, decisionBy, decisionIn, isSettled, status, given, refusal, answer, after, effect, step}
+use Rattle.rules.specs.Engine.Call.{powerOn, restart, register, dump, lock, disable, exit, query, read, set, settled}
 use Rattle.rules.specs.EngineLaws.{step-status, refused-changes-nothing, granted-effect}
-use Rattle.rules.specs.StateLaws.{Sound, power-on-lists, restart-lists, register-lists, step-sound, restart-done}
+use Rattle.rules.specs.FoundLaws.{tells-sound, lookup-found}
+use Rattle.rules.specs.SettledLaws.{settled-same}
+use Rattle.rules.specs.ExitLaws.{record-named}
+use Rattle.rules.specs.StateLaws.{Sound, passed, power-on-lists, restart-lists, register-lists, step-sound, restart-done}
 use Rattle.history.specs.History.{Outcome, Kind, entriesAfter, outcomeOf, cutAfter, AllGranted, end, rebuilding}
 use Rattle.history.specs.History.Outcome.{granted, refused, cut}
 use Rattle.history.specs.History.Kind.{starts, registers, dumps, keeps}
@@ -72,6 +75,15 @@ set-same es o w nv vol r l = go (named (r .variable)) refl
     go true e = ap (λ (x : Option Bytes). decision (w .exited) (speaking (w .enabled) x) nv vol r) (sym (l .choice (r .variable) e))
     go false e = set-unnamed (w .exited) _ _ nv vol r e
 
+-- settled answers 0 only to a name that it takes
+asked-named : (s : State) (v : Variable) → isSuccess (status s (settled v)) ≡ true → named v ≡ true
+unfolding settledStatus
+asked-named s v h = go (named v) (passed (sound (s .nv) (s .vol) and policyValid (s .policy)) (settledStatus v) h .1)
+  where
+    go : (b : Bool) → isSuccess (cond b Success InvalidParameter) ≡ true → b ≡ true
+    go true k = refl
+    go false k = absurd (false≢true k)
+
 module _ (s : State) (w : Sound s) (o : List Bytes) where
   abbrev es : List Bytes
   es = entriesOf (s .policy)
@@ -99,8 +111,8 @@ module _ (s : State) (w : Sound s) (o : List Bytes) where
   -- if the same entries are chosen, each call has the same status there, and beside 0 it gives and leaves the same but for the order
   module _ (l : SameChoice machine es o) where
     record Same (c : Call) : Type 0 where
+      given : isSuccess (status s c) ≡ true → given (withEntries s o) c ≡ answerIn c es o (given s c)
       status : status (withEntries s o) c ≡ status s c
-      given : given (withEntries s o) c ≡ answerIn c es o (given s c)
       effect : effect (withEntries s o) c ≡ stateIn (entriesAfter machine (kindOf c) granted o) (effect s c)
 
     decision-same : (r : Request) → decisionIn (withEntries s o) r ≡ decisionIn s r
@@ -134,33 +146,46 @@ module _ (s : State) (w : Sound s) (o : List Bytes) where
         ap₂ (λ (d : Decision) (x : List Bytes). some (decisionReport d x (chosen x (r .variable)) (r .attributes))) (decides-same r) (lists-o (l .perm))
         ∙ decided-same r (setDecision s r) refl
 
+    -- whether a variable is settled: it is asked only of one that can be named, and so are the triggers, which exist
+    asks-same : (v : Variable) → named v ≡ true → isSettled (withEntries s o) v ≡ isSettled s v
+    unfolding chosen
+    asks-same v m =
+        rw (lists-o (l .perm)) (settled-same (chosen o) (chosen es) (lookup (s .nv) (s .vol)) (λ u k. sym (l .choice u k)) (λ u r f.
+        record-named s u r (lookup-found s u r (tells-sound (s .nv) (s .vol) .0 (w .stores)) f)) maxLinks v m)
+
     same : (c : Call) → Same c
     unfolding powerOnStatus restartStatus flat
-    same (powerOn allowed) = record { status = rw (policyValid-length (packPolicy o) (valid-o (l .perm)), policyValid-length (s .policy) (w .policy)); given = refl; effect = refl }
-    same (restart allowed) = record { status = rw (policyValid-length (packPolicy o) (valid-o (l .perm)), policyValid-length (s .policy) (w .policy)); given = refl; effect = refl }
+    same (powerOn allowed) = record { status = rw (policyValid-length (packPolicy o) (valid-o (l .perm)), policyValid-length (s .policy) (w .policy)); given = λ h. refl; effect = refl }
+    same (restart allowed) = record { status = rw (policyValid-length (packPolicy o) (valid-o (l .perm)), policyValid-length (s .policy) (w .policy)); given = λ h. refl; effect = refl }
     same (register e) =
         record {
           status = rw (valid-o (l .perm), lists-o (l .perm), w .policy) (ap (unlessExited (s .switches)) (register-same (s .switches .locked) es o e (l .perm)));
-          given = refl;
+          given = λ h. refl;
           effect = rw (lists-o (l .perm)) (ap (λ (p : Bytes). stateOf (s .nv) (s .vol) p (s .switches)) (sym (over-pack (Permᴰ·append-right (e ∷ []) (l .perm)))));
         }
     same (dump buffer) =
         record {
           status = rw (valid-o (l .perm), lists-o (l .perm), w .policy) (ap (unlessExited (s .switches)) (dump-same es o buffer (l .perm)));
-          given = rw (lists-o (l .perm))
+          given = λ h. rw (lists-o (l .perm))
               (ap₂ (λ (m : ℕ) (b : Bytes). answerOf Success m b none) (length-flat (l .perm)) (overwrite-perm (l .perm) buffer));
           effect = kept (l .perm) _ _ _;
         }
-    same lock = record { status = refl; given = refl; effect = kept (l .perm) _ _ _ }
-    same disable = record { status = refl; given = refl; effect = kept (l .perm) _ _ _ }
-    same exit = record { status = refl; given = refl; effect = kept (l .perm) _ _ _ }
-    same query = record { status = refl; given = refl; effect = kept (l .perm) _ _ _ }
-    same (read v) = record { status = refl; given = refl; effect = kept (l .perm) _ _ _ }
+    same lock = record { status = refl; given = λ h. refl; effect = kept (l .perm) _ _ _ }
+    same disable = record { status = refl; given = λ h. refl; effect = kept (l .perm) _ _ _ }
+    same exit = record { status = refl; given = λ h. refl; effect = kept (l .perm) _ _ _ }
+    same query = record { status = refl; given = λ h. refl; effect = kept (l .perm) _ _ _ }
+    same (read v) = record { status = refl; given = λ h. refl; effect = kept (l .perm) _ _ _ }
     same (set r) =
         record {
           status = rw (valid-o (l .perm), w .policy, decision-same r);
-          given = ap (λ (p : Option Report). record { status = Success; number = 0; bytes = []; switches = none; report = p }) (report-same r);
+          given = λ h. ap (λ (p : Option Report). record { status = Success; number = 0; bytes = []; switches = none; report = p }) (report-same r);
           effect = rw (decision-same r) (kept (l .perm) _ _ _);
+        }
+    same (settled v) =
+        record {
+          status = rw (valid-o (l .perm), w .policy);
+          given = λ h. ap (λ b. answerOf Success (cond b 1 0) [] none) (asks-same v (asked-named s v h));
+          effect = kept (l .perm) _ _ _;
         }
 
     -- and it is refused the same
@@ -171,12 +196,13 @@ module _ (s : State) (w : Sound s) (o : List Bytes) where
     refusal-same : (c : Call) (n : Status) → isSuccess n ≡ false → refusal (withEntries s o) c n ≡ answerIn c es o (refusal s c n)
     refusal-same c n h = rw (h, reports-same (uses c .reports), lists-o (l .perm), length-flat (l .perm))
 
-    answer-same : (c : Call) (n : Status) → answer (withEntries s o) c n ≡ answerIn c es o (answer s c n)
-    answer-same c n = go (isSuccess n) refl
+    answer-same : (c : Call) → answer (withEntries s o) c (status s c) ≡ answerIn c es o (answer s c (status s c))
+    answer-same c = go (isSuccess (status s c)) refl
       where
-        go : (b : Bool) → isSuccess n ≡ b → cond b (given (withEntries s o) c) (refusal (withEntries s o) c n) ≡ answerIn c es o (cond b (given s c) (refusal s c n))
-        go true h = same c .given
-        go false h = refusal-same c n h
+        go : (b : Bool) → isSuccess (status s c) ≡ b
+            → cond b (given (withEntries s o) c) (refusal (withEntries s o) c (status s c)) ≡ answerIn c es o (cond b (given s c) (refusal s c (status s c)))
+        go true h = same c .given h
+        go false h = refusal-same c (status s c) h
 
     refused-after : (κ : Kind Bytes) → entriesAfter machine κ refused o ≡ o
     refused-after starts = refl
@@ -217,7 +243,7 @@ unfolding step
 answers-same s o c w l =
     ap (λ (z : State). step z c .0) (reordered-in s o w (l .perm))
     ∙ ap (λ (n : Status). answer (withEntries s o) c n) (same s w o l c .status)
-    ∙ answer-same s w o l c (status s c)
+    ∙ answer-same s w o l c
 
 leaves-step : (s : State) (o : List Bytes) (c : Call) → Sound s → SameChoice machine (entriesOf (s .policy)) o
     → step (stateIn o s) c .1 ≡ stateIn (entriesAfter machine (kindOf c) (outcomeOf machine s c) o) (step s c .1)
@@ -247,6 +273,7 @@ does s exit h = refl
 does s query h = refl
 does s (read v) h = refl
 does s (set r) h = refl
+does s (settled v) h = refl
 
 lists-granted : (s : State) (c : Call) (κ : Kind Bytes) → Does s c κ → entriesOf (effect s c .policy) ≡ entriesAfter machine κ granted (entriesOf (s .policy))
 lists-granted s c starts h = h

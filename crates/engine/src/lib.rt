@@ -14,8 +14,8 @@ ghost use Rattle.switches.specs.Switches.{freshSwitches, refusedSwitches};
 ghost use Rattle.rules.specs.Set.{requestOf};
 ghost use Rattle.rules.specs.Report.{noReport};
 ghost use Rattle.rules.specs.Engine.{stateOf, step, onlyStatus, handBack, withReport};
-ghost use Rattle.rules.specs.Engine.Call.{powerOn, restart, register, dump, lock, disable, exit, query, read, set};
-ghost use Rattle.engine.specs.Answers.{dumpAnswer, queryAnswer, refusedReading, readingAt, readingOf, ReadStep, payloadPlace};
+ghost use Rattle.rules.specs.Engine.Call.{powerOn, restart, register, dump, lock, disable, exit, query, read, set, settled};
+ghost use Rattle.engine.specs.Answers.{dumpAnswer, queryAnswer, refusedReading, readingAt, readingOf, ReadStep, payloadPlace, settledAnswer, notSettled};
 use entry::Parsed;
 use policy::PolicyCheck;
 use rules::Report;
@@ -51,6 +51,12 @@ pub struct QueryAnswer {
 pub struct SetAnswer {
     pub status: Status,
     pub report: Report,
+}
+
+// How long the lock of a variable lasts (RULES.md, 10.14): the status, and whether the variable is settled. It is not beside a refusal.
+pub struct LockState {
+    pub status: Status,
+    pub settled: bool,
 }
 
 // What a refused power-on or restart answers.
@@ -394,5 +400,56 @@ pub fn set(
     SetAnswer {
         status: set::status_of(decision),
         report,
+    }
+}
+
+// A variable that is not settled, or a refusal to tell.
+fn not_settled(status: Status) -> LockState
+    ensures { λ r. ⌜ r ≡ notSettled status ⌝ }
+{
+    LockState {
+        status,
+        settled: false,
+    }
+}
+
+// Tells whether a variable is settled: whether its lock holds until the next power-on or restart, once the engine is enabled and locked.
+// VOLUME_CORRUPTED where the stores are unsound or the policy record is not valid; INVALID_PARAMETER for a bad name. The switches are not asked.
+pub fn settled<'a>(
+    nv: &'a [u8],
+    vol: &'a [u8],
+    policy: &[u8],
+    namespace: [u8; 16],
+    name: &[u8],
+) -> LockState
+    ensures { λ r.
+        ⌜ ((w : Switches) → step (stateOf (now (nv .entry)) (now (vol .entry)) (now (policy .entry)) w) (settled (variable namespace (now (name .entry))))
+        ≡ (settledAnswer r, stateOf (now (nv .entry)) (now (vol .entry)) (now (policy .entry)) w)) ⌝ }
+{
+    let checked = stores::check(nv, vol);
+    let PairCheck::Sound(ends) = checked else {
+        return not_settled(Status::VolumeCorrupted);
+    };
+    let mut entry_ends = policy::no_ends();
+    let entries = policy::check_noting(policy, &mut entry_ends);
+    let PolicyCheck::Valid { count, used: _ } = entries else {
+        return not_settled(Status::VolumeCorrupted);
+    };
+    if !names::is_name(name) {
+        return not_settled(Status::InvalidParameter);
+    }
+    LockState {
+        status: Status::Success,
+        settled: settled::settled(
+            policy,
+            &entry_ends,
+            count,
+            nv,
+            vol,
+            ends,
+            &namespace,
+            name,
+            limits::MAX_LINKS,
+        ),
     }
 }

@@ -108,7 +108,7 @@ pub fn well_formed(e: &[u8]) -> bool
 }
 
 // The lock rule of a well-formed entry.
-fn lock_of(e: &[u8]) -> LockRule
+pub fn lock_of(e: &[u8]) -> LockRule
     requires { ⌜ wellFormed (now e) ≡ true ⌝ }
     ensures { λ r. ⌜ r ≡ lockOf (now (e .entry)) ⌝ }
 {

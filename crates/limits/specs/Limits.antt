@@ -87,6 +87,10 @@ policyBytes = 16384
 abbrev pub maxPiece : ℕ
 maxPiece = 4096
 
+-- the most links from a settled variable to the last trigger
+abbrev pub maxLinks : ℕ
+maxLinks = 16
+
 -- the attribute bits that a request may have
 abbrev pub knownAttributes : ℕ
 knownAttributes = 0x47

@@ -56,6 +56,9 @@ pub const POLICY_BYTES: usize = 16384;
 // The most bytes of a piece in which a dump arrives.
 pub const MAX_PIECE: usize = 4096;
 
+// The most links from a settled variable to the last trigger.
+pub const MAX_LINKS: usize = 16;
+
 // The attribute bits that a request may have.
 pub const KNOWN_ATTRIBUTES: u32 = 0x47;
 

@@ -18,8 +18,8 @@ use Rattle.rules.specs.declared.Decision.the-variants.{Refuse, Delete, K
 use Rattle.rules.specs.declared.Report.{Report}
 use Rattle.rules.specs.Set.{Request, exists, badRequest, unsupportedBit, needsBS, groundBy, isDeletion, otherAttributes, isEmptyAppend, storeDecision, refuseOr, blockOr, decisionStatus, decisionStore}
 use Rattle.rules.specs.Report.{decisionReport}
-use Rattle.rules.specs.Engine.{State, Call, Answer, uses, powerOnStatus, restartStatus, registerStatus, dumpStatus, speaking, withReport, entriesLength, given, effect}
-use Rattle.rules.specs.Engine.Call.{powerOn, restart, register, dump, lock, disable, exit, query, read, set}
+use Rattle.rules.specs.Engine.{State, Call, Answer, uses, powerOnStatus, restartStatus, registerStatus, dumpStatus, speaking, withReport, entriesLength, status, given, effect}
+use Rattle.rules.specs.Engine.Call.{powerOn, restart, register, dump, lock, disable, exit, query, read, set, settled}
 
 -- ---- set
 
@@ -53,7 +53,7 @@ abbrev pub earlierReport : State → Request → Report
 earlierReport s r =
     decisionReport (earlierSetDecision s r) (entriesOf (s .policy)) (chosen (entriesOf (s .policy)) (r .variable)) (r .attributes)
 
--- ---- the status of each call. Exit was no call then: its rows stand for nothing, and the claim leaves it out
+-- ---- the status of each call. Exit was no call then: its rows stand for nothing, and the claim leaves it out. Settled is younger still, and is as it is
 
 abbrev pub earlierStatus : State → Call → Status
 earlierStatus s (powerOn allowed) = powerOnStatus (s .nv) (s .vol) (s .policy)
@@ -68,6 +68,7 @@ earlierStatus s query = Success
 earlierStatus s (read v) =
     cond (sound (s .nv) (s .vol)) (cond (named v) (cond (exists (lookup (s .nv) (s .vol) v)) Success NotFound) InvalidParameter) VolumeCorrupted
 earlierStatus s (set r) = decisionStatus (earlierSetDecision s r)
+earlierStatus s (settled v) = status s (settled v)
 
 -- ---- what stands beside it, and what is left: of a set by the decision of then, of any other call as it is
 
@@ -82,6 +83,7 @@ earlierGiven s exit = given s exit
 earlierGiven s query = given s query
 earlierGiven s (read v) = given s (read v)
 earlierGiven s (set r) = withReport Success (earlierReport s r)
+earlierGiven s (settled v) = given s (settled v)
 
 abbrev pub earlierReportOn : State → Option Request → Option Report
 earlierReportOn s none = none
@@ -114,6 +116,7 @@ earlierEffect s (set r) =
       policy = s .policy;
       switches = s .switches;
     }
+earlierEffect s (settled v) = effect s (settled v)
 
 abbrev earlierBeside : State → Call → Status → Answer × State
 earlierBeside s c n = (cond (isSuccess n) (earlierGiven s c) (earlierRefusal s c n), cond (isSuccess n) (earlierEffect s c) s)

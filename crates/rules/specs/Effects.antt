@@ -8,7 +8,7 @@ use mathlib.Core.Bool.{Bool, true, false}
 use mathlib.Core.Option.{none, some}
 use mathlib.Core.Logic.{_⊎_, _↔_}
 use lib.ListN.{length, drop, replicate}
-use Rattle.limits.specs.Limits.{policyBytes}
+use Rattle.limits.specs.Limits.{policyBytes, maxLinks}
 use Rattle.lists.specs.Lists.{Among}
 use Rattle.slices.specs.Bytes.{Bytes}
 use Rattle.slices.specs.Chunks.{flat}
@@ -23,8 +23,8 @@ use Rattle.rules.specs.declared.Report.{Report}
 use Rattle.rules.specs.Set.{Request}
 use Rattle.rules.specs.Report.{reportOf}
 use Rattle.rules.specs.Engine.{State, Call, Answer, stateOf, answerOf, withReport}
-use Rattle.rules.specs.Engine.Call.{powerOn, restart, register, dump, lock, disable, exit, query, read, set}
-use Rattle.rules.specs.Grounds.{Not, Bit, NV, Ranks, PolicyEntries, HasEntries, sumOfSizes, PairRecords, SoundStores, RecordOf, Absent, Deletion, EmptyAppend, SameAttributes, Enforced, PayloadAfter, Storing, FirstAt}
+use Rattle.rules.specs.Engine.Call.{powerOn, restart, register, dump, lock, disable, exit, query, read, set, settled}
+use Rattle.rules.specs.Grounds.{Not, Bit, NV, Ranks, PolicyEntries, HasEntries, sumOfSizes, PairRecords, SoundStores, RecordOf, Absent, SettledWithin, Deletion, EmptyAppend, SameAttributes, Enforced, PayloadAfter, Storing, FirstAt}
 
 -- a status other than 0
 abbrev pub Refusal : Status → Type 0
@@ -105,6 +105,11 @@ pub data Beside (s : State) : Call → Answer → Type 0 where
   ofExit : (n : Status) → Beside s exit (answerOf n 0 [] none)
   -- Set: the status with the report
   ofSet : {r : Request} (n : Status) (p : Report) → Reports s r n p → Beside s (set r) (withReport n p)
+  -- Settled: 1 for yes, 0 for no
+  isSettled : {v : Variable} → SettledWithin maxLinks s v → Beside s (settled v) (answerOf Success 1 [] none)
+  notSettled : {v : Variable} (es : List Bytes) → SoundStores (s .nv) (s .vol) → HasEntries s es → Not (SettledWithin maxLinks s v)
+      → Beside s (settled v) (answerOf Success 0 [] none)
+  settledRefused : {v : Variable} (n : Status) → Refusal n → Beside s (settled v) (answerOf n 0 [] none)
 
 -- ---- what a call leaves
 
@@ -160,8 +165,9 @@ pub data Leaves (s : State) : Call → Status → State → Type 0 where
       (stateOf (s .nv) (s .vol) (s .policy) (switchesOf false (s .switches .locked) (s .switches .«disabling_allowed») (s .switches .exited)))
   exits : Leaves s exit Success
       (stateOf (s .nv) (s .vol) (s .policy) (switchesOf (s .switches .enabled) (s .switches .locked) (s .switches .«disabling_allowed») true))
-  -- Dump, query and read: nothing
+  -- Dump, query, read and settled: nothing
   dumps : {buffer : Bytes} → Leaves s (dump buffer) Success s
   queries : Leaves s query Success s
   reads : {v : Variable} → Leaves s (read v) Success s
+  asks : {v : Variable} → Leaves s (settled v) Success s
   sets : {r : Request} (t : State) → SetLeaves s r t → Leaves s (set r) Success t

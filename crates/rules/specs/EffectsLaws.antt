@@ -8,7 +8,7 @@ use mathlib.Core.Logic.{_↔_}
 use native.Mathlib.Omega.{arith}
 use lib.ListN.{length, drop, replicate}
 use lib.Dec.{eqb, leb}
-use Rattle.limits.specs.Limits.{policyBytes}
+use Rattle.limits.specs.Limits.{policyBytes, maxLinks}
 use Rattle.slices.specs.Test.{_and_}
 use Rattle.slices.specs.TestLaws.{and-left}
 use Rattle.slices.specs.Bytes.{Bytes, overwrite, padded}
@@ -31,8 +31,8 @@ use Rattle.rules.specs.declared.Decision.{Decision}
 use Rattle.rules.specs.declared.Decision.the-variants.{Refuse, Block, Delete, Keep, Store}
 use Rattle.rules.specs.Set.{Request, exists, shown, isDeletion, isEmptyAppend, recordAfter, decisionStatus, decisionStore}
 use Rattle.rules.specs.DecisionLaws.{Facts, facts, stored-facts, granted-decision}
-use Rattle.rules.specs.Engine.{State, Call, Answer, stateOf, answerOf, withReport, setReport, dumpStatus, readStatus, status, given, refusal, answer, decisionBy, decisionIn, erased, effect, after, step}
-use Rattle.rules.specs.Engine.Call.{powerOn, restart, register, dump, lock, disable, exit, query, read, set}
+use Rattle.rules.specs.Engine.{State, Call, Answer, stateOf, answerOf, withReport, setReport, dumpStatus, readStatus, settledStatus, isSettled, status, given, refusal, answer, decisionBy, decisionIn, erased, effect, after, step}
+use Rattle.rules.specs.Engine.Call.{powerOn, restart, register, dump, lock, disable, exit, query, read, set, settled}
 use Rattle.rules.specs.Grounds.{Not, sumOfSizes, StoreRecords, PairRecords, SoundStores, RecordOf, PayloadAfter, Answers}
 use Rattle.rules.specs.GroundsLaws.{refused-test, status-exactly}
 use Rattle.rules.specs.EngineLaws.{answer-status, step-status, answer-alone, answer-reported, granted-effect}
@@ -42,6 +42,7 @@ use Rattle.rules.specs.ConditionLaws.{tells-off, off-tells, tells-nv, te
 use Rattle.rules.specs.FoundLaws.{sound-records, tells-sound, packs-entries, sum-of-sizes, valid-entries, entries-read, first-records, second-records, distinct-first, distinct-second, found-lookup, lookup-found, lookup-absent, without-taken, taken-without}
 use Rattle.rules.specs.SetGroundsLaws.{chosenEntry, kind-same, payload-is, stored, storing, storing-only}
 use Rattle.rules.specs.SetReportLaws.{report-reports, one-report}
+use Rattle.rules.specs.SettledLaws.{is-chain, settled-exactly}
 use Rattle.rules.specs.SetLaws as set
 use Rattle.rules.specs.SetLaws.{set-sound, stored-formed}
 
@@ -108,6 +109,22 @@ query-beside s = go (s .switches .enabled) refl
     go true e = Beside.isEnabled e
     go false e = Beside.isDisabled e
 
+settled-beside : (s : State) (v : Variable) → Beside s (settled v) (answer s (settled v) (status s (settled v)))
+unfolding settledStatus _and_
+settled-beside s v = go (sound (s .nv) (s .vol)) (policyValid (s .policy)) (named v) (isSettled s v) refl refl refl
+  where
+    go : (b p n y : Bool) → sound (s .nv) (s .vol) ≡ b → policyValid (s .policy) ≡ p → isSettled s v ≡ y
+        → Beside s (settled v) (cond (isSuccess (cond (b and p) (cond n Success InvalidParameter) VolumeCorrupted)) (answerOf Success (cond y 1 0) [] none)
+        (refusal s (settled v) (cond (b and p) (cond n Success InvalidParameter) VolumeCorrupted)))
+    go true true true true e f y = Beside.isSettled (settled-exactly s (tells-sound (s .nv) (s .vol) .0 e) (entriesOf (s .policy)) (valid-entries s f) v .0 y)
+    go true true true false e f y =
+        let k = tells-sound (s .nv) (s .vol) .0 e in
+        let w = valid-entries s f in
+        Beside.notSettled (entriesOf (s .policy)) k w (tells-off _ (settled-exactly s k (entriesOf (s .policy)) w v) y)
+    go true true false y e f z = Beside.settledRefused InvalidParameter (other-than InvalidParameter refl)
+    go true false n y e f z = Beside.settledRefused VolumeCorrupted (other-than VolumeCorrupted refl)
+    go false p n y e f z = Beside.settledRefused VolumeCorrupted (other-than VolumeCorrupted refl)
+
 -- an answer stands beside its status if that of 0 does, and that of every refusal
 beside-either : (s : State) (c : Call) → Beside s c (given s c) → ((n : Status) → Refusal n → Beside s c (refusal s c n)) → Beside s c (answer s c (status s c))
 beside-either s c g r = go (isSuccess (status s c)) refl
@@ -128,6 +145,7 @@ answer-beside s exit = beside-either s exit (Beside.ofExit Success) (λ n o. Bes
 answer-beside s query = query-beside s
 answer-beside s (read v) = read-beside s v
 answer-beside s (set r) = subst⁻¹ (Beside s (set r)) (answer-reported s r (status s (set r))) (Beside.ofSet (status s (set r)) (setReport s r) (report-reports s r))
+answer-beside s (settled v) = settled-beside s v
 
 -- and the only one with its status
 pub beside-answer : (s : State) (c : Call) (a : Answer) → Beside s c a → a ≡ answer s c (a .status)
@@ -161,6 +179,9 @@ beside-answer s c a (Beside.ofLock n) = sym (answer-alone s lock n refl refl)
 beside-answer s c a (Beside.ofDisable n) = sym (answer-alone s disable n refl refl)
 beside-answer s c a (Beside.ofExit n) = sym (answer-alone s exit n refl refl)
 beside-answer s c a (Beside.ofSet {r} n p w) = ap (withReport n) (one-report s r p (setReport s r) w (report-reports s r)) ∙ sym (answer-reported s r n)
+beside-answer s c a (Beside.isSettled {v} k) = rw (is-chain s (k .0) maxLinks (k .1))
+beside-answer s c a (Beside.notSettled {v} es k w n) = rw (off-tells _ (settled-exactly s k es w v) n)
+beside-answer s c a (Beside.settledRefused n o) = rw (refused-test n o)
 
 -- ---- what a call leaves
 
@@ -249,6 +270,7 @@ granted-leaves s (read v) h = Leaves.reads
 granted-leaves s (set r) h =
     let k = set-passed s r (ap isSuccess h) in
     Leaves.sets (effect s (set r)) (set-leaves s r (and-left _ _ (k .0)) (k .1))
+granted-leaves s (settled v) h = Leaves.asks
 
 -- the computed state is one of them
 pub state-leaves : (s : State) (c : Call) → Leaves s c (status s c) (after s c (status s c))
@@ -298,6 +320,7 @@ leaves-state s c n t m Leaves.exits = refl
 leaves-state s c n t m Leaves.dumps = refl
 leaves-state s c n t m Leaves.queries = refl
 leaves-state s c n t m Leaves.reads = refl
+leaves-state s c n t m Leaves.asks = refl
 leaves-state s c n t m (Leaves.sets {r} x h) =
     let k = set-passed s r (ap isSuccess m) in
     set-only s r x (decided s r (k .1)) h

@@ -6,7 +6,7 @@ use mathlib.Core.Bool.{Bool, true, false, not, cond}
 use mathlib.Core.Option.{Option, none, some}
 use lib.ListN.{length, replicate}
 use lib.Dec.{eqb, leb}
-use Rattle.limits.specs.Limits.{maxEntries, policyBytes, maxStore}
+use Rattle.limits.specs.Limits.{maxEntries, policyBytes, maxLinks, maxStore}
 use Rattle.slices.specs.Test.{_and_}
 use Rattle.slices.specs.Bytes.{Bytes, overwrite}
 use Rattle.slices.specs.Chunks.{flat, contains}
@@ -26,6 +26,7 @@ use Rattle.rules.specs.declared.Decision.the-variants.{Refuse}
 use Rattle.rules.specs.declared.Report.{Report}
 use Rattle.rules.specs.Set.{Request, exists, shown, decision, decisionStatus, decisionStore}
 use Rattle.rules.specs.Report.{decisionReport}
+use Rattle.rules.specs.Settled.{settledIn}
 
 -- ---- what the engine is
 
@@ -52,11 +53,12 @@ pub data Call : Type 0 where
   query : Call
   read : Variable → Call
   set : Request → Call
+  settled : Variable → Call
 
 -- an answer: its status, and what stands beside it
 pub record Answer : Type 0 where
   pub status : Status
-  -- a dump's needed or written length, a read's attributes, a query's switch (1 or 0)
+  -- a dump's needed or written length, a read's attributes, a query's switch (1 or 0), whether a variable is settled (1 or 0)
   pub number : ℕ
   -- a read's payload, a dump's whole buffer
   pub bytes : Bytes
@@ -123,6 +125,7 @@ uses (set r) =
       handsBack = none;
       reports = some r;
     }
+uses (settled v) = plain (parts true true true false) (parts false false false false)
 
 -- ---- the status: the first ground in its order (RULES.md, 9.2)
 
@@ -150,6 +153,10 @@ dumpStatus es buffer = cond (leb (length (flat es)) (length buffer)) Success Buf
 -- read (RULES.md, 10.8)
 unfoldable pub readStatus : Bool → Bytes → Bytes → Variable → Status
 readStatus exited nv vol v = cond (named v) (cond (exists (shown exited (lookup nv vol v))) Success NotFound) InvalidParameter
+
+-- settled (RULES.md, 10.14)
+unfoldable pub settledStatus : Variable → Status
+settledStatus v = cond (named v) Success InvalidParameter
 
 -- the entry that speaks: none where the engine is disabled
 abbrev pub speaking : Bool → Option Bytes → Option Bytes
@@ -180,6 +187,7 @@ status s exit = exitStatus (s .switches)
 status s query = Success
 status s (read v) = cond (sound (s .nv) (s .vol)) (readStatus (s .switches .exited) (s .nv) (s .vol) v) VolumeCorrupted
 status s (set r) = decisionStatus (setDecision s r)
+status s (settled v) = cond (sound (s .nv) (s .vol) and policyValid (s .policy)) (settledStatus v) VolumeCorrupted
 
 -- ---- what stands beside a status (RULES.md, 9.3 and 10)
 
@@ -207,6 +215,10 @@ abbrev pub reportOn : State → Option Request → Option Report
 reportOn s none = none
 reportOn s (some r) = some (setReport s r)
 
+-- whether a variable is settled, over at most 16 links; the switches are not asked
+abbrev pub isSettled : State → Variable → Bool
+isSettled s v = settledIn maxLinks (chosen (entriesOf (s .policy))) (lookup (s .nv) (s .vol)) v
+
 -- the sum of Sizes of the entries that stand
 abbrev pub entriesLength : State → ℕ
 entriesLength s = length (flat (entriesOf (s .policy)))
@@ -226,6 +238,8 @@ given s query = answerOf Success (cond (s .switches .enabled) 1 0) [] none
 -- the attributes, and the payload
 given s (read v) = answerOf Success (attributesIn (lookup (s .nv) (s .vol) v)) (payloadIn (lookup (s .nv) (s .vol) v)) none
 given s (set r) = withReport Success (setReport s r)
+-- yes or no
+given s (settled v) = answerOf Success (cond (isSettled s v) 1 0) [] none
 
 -- beside a refusal: what the call's row says
 abbrev pub refusal : State → Call → Status → Answer
@@ -263,6 +277,7 @@ effect s (set r) =
       policy = s .policy;
       switches = s .switches;
     }
+effect s (settled v) = s
 
 -- a refused call leaves the state as it was
 abbrev pub after : State → Call → Status → State

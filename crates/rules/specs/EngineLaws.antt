@@ -19,7 +19,7 @@ use Rattle.status.specs.Status.{isSuccess, statusNumber}
 use Rattle.status.specs.StatusLaws.{success-only}
 use Rattle.rules.specs.Set.{Request}
 use Rattle.rules.specs.Engine.{State, Call, Answer, Parts, parts, uses, powerOnStatus, restartStatus, status, onlyStatus, withReport, setReport, reportOn, given, refusal, answer, effect, step}
-use Rattle.rules.specs.Engine.Call.{powerOn, restart, register, dump, lock, disable, exit, query, read, set}
+use Rattle.rules.specs.Engine.Call.{powerOn, restart, register, dump, lock, disable, exit, query, read, set, settled}
 
 -- ---- a policy record of another length than the limit
 
@@ -82,6 +82,7 @@ by-row s exit = record { done = refl; keeps = record { nv = refl; vol = refl; po
 by-row s query = record { done = refl; keeps = record { nv = refl; vol = refl; policy = refl; switches = refl }; lent = λ t e. rw (e .switches); length10 = λ h. tt; invalid10 = λ n v. tt }
 by-row s (read v) = record { done = refl; keeps = record { nv = refl; vol = refl; policy = refl; switches = refl }; lent = λ t e. rw (e .nv, e .vol, e .switches); length10 = λ h. tt; invalid10 = λ n v. tt }
 by-row s (set r) = record { done = refl; keeps = record { nv = tt; vol = tt; policy = refl; switches = refl }; lent = λ t e. rw (e .nv, e .vol, e .policy, e .switches); length10 = λ h. rw (other-length (s .policy) h, and-no (sound (s .nv) (s .vol))); invalid10 = λ n v. rw (v, and-no (sound (s .nv) (s .vol))) }
+by-row s (settled v) = record { done = refl; keeps = record { nv = refl; vol = refl; policy = refl; switches = refl }; lent = λ t e. rw (e .nv, e .vol, e .policy); length10 = λ h. rw (other-length (s .policy) h, and-no (sound (s .nv) (s .vol))); invalid10 = λ n v. rw (v, and-no (sound (s .nv) (s .vol))) }
 
 -- ---- the status, and a refusal
 
@@ -188,6 +189,7 @@ store-writer exit = noWriter refl refl
 store-writer query = noWriter refl refl
 store-writer (read v) = noWriter refl refl
 store-writer (set r) = sets r
+store-writer (settled v) = noWriter refl refl
 
 -- A POLICY RECORD OF ANOTHER LENGTH IS 10 IN EVERY CALL THAT IS LENT ONE, whatever else is wrong
 pub other-length-corrupted : (s : State) (c : Call) → uses c .lent .policy ≡ true → (length (s .policy) ≡ policyBytes → ⊥)

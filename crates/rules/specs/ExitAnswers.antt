@@ -26,7 +26,7 @@ use Rattle.rules.specs.declared.Decision.the-variants.{Refuse, Delete}
 use Rattle.rules.specs.Set.{Request, exists, isDeletion, badRequest, unsupportedBit, needsBS, needsRuntime, requestStatus, groundStatus, groundBy, shown, exitProtects, deleteDecision, writeDecision, refuseOr, blockOr, decision, decisionStatus, decisionStore}
 use Rattle.rules.specs.Report.{noReport, decisionReport}
 use Rattle.rules.specs.Engine.{State, Call, stateOf, speaking, decisionBy, decisionIn, setDecision, withReport, readStatus, status, given, refusal, answer, effect, after, step}
-use Rattle.rules.specs.Engine.Call.{powerOn, restart, register, dump, lock, disable, exit, query, read, set}
+use Rattle.rules.specs.Engine.Call.{powerOn, restart, register, dump, lock, disable, exit, query, read, set, settled}
 use Rattle.rules.specs.DecisionLaws.{decision-refused, decision-blocked, decision-written}
 use Rattle.rules.specs.EngineLaws.{step-status, answer-reported, kept}
 use Rattle.rules.specs.StateLaws.{set-passed}
@@ -294,6 +294,8 @@ pub data Untouched (s : State) : Call → Type 0 where
   -- a start, which is lent no switch
   aStart : {c : Call} → isStart c ≡ true → Untouched s c
   aQuery : Untouched s query
+  -- nor is settled lent one
+  aSettled : {v : Variable} → Untouched s (settled v)
   -- a read, unless the variable has a record without RT; of a bad name too, and in unsound stores
   aRead : {v : Variable} → ((q : Bytes) → RecordOf s v q → RT (attributesOf q)) → Untouched s (read v)
   -- a set that is lent damaged stores or a damaged record, or that steps 1 to 3 refuse before exit
@@ -323,10 +325,19 @@ start-same s exit h = absurd (false≢true h)
 start-same s query h = absurd (false≢true h)
 start-same s (read v) h = absurd (false≢true h)
 start-same s (set r) h = absurd (false≢true h)
+start-same s (settled v) h = absurd (false≢true h)
 
 query-same : (s : State) → AsBefore s query
 unfolding step
 query-same s = record { answers = refl; nv = refl; vol = refl }
+
+settled-same : (s : State) (v : Variable) → AsBefore s (settled v)
+unfolding step
+settled-same s v = record {
+  answers = refl;
+  nv = kept s (settled v) .nv ∙ sym (kept (withoutExit s) (settled v) .nv);
+  vol = kept s (settled v) .vol ∙ sym (kept (withoutExit s) (settled v) .vol);
+}
 
 module _ (s : State) (x : Exited s) where
   seen-same : (v : Variable) → SoundStores (s .nv) (s .vol) → ((q : Bytes) → RecordOf s v q → RT (attributesOf q))
@@ -369,6 +380,7 @@ module _ (s : State) (x : Exited s) where
   pub untouched : (c : Call) → Untouched s c → AsBefore s c
   untouched c (aStart h) = start-same s c h
   untouched c aQuery = query-same s
+  untouched c (aSettled {v}) = settled-same s v
   untouched c (aRead {v} f) = read-as-before v f
   untouched c (corrupted {r} h) = set-as-before s x r (decides-same s x r (λ k. absurd (true≢false (sym k ∙ h))))
   untouched c (early {r} h) = set-as-before s x r (decides-same s x r (λ k. early-decided (speaker s x r) (s .nv) (s .vol) r h))
@@ -429,6 +441,8 @@ handed s c n w = go (isSuccess n) c
     go false (read v) h = nothing h
     go true (set r) h = nothing h
     go false (set r) h = nothing h
+    go true (settled v) h = nothing h
+    go false (settled v) h = nothing h
 
 pub handed-back-clear : (s : State) (c : Call) (w : Switches) → step s c .0 .switches ≡ some w → w .exited ≡ false
 unfolding step

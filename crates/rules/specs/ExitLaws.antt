@@ -30,7 +30,7 @@ use Rattle.rules.specs.declared.Decision.the-variants.{Refuse, Delete, K
 use Rattle.rules.specs.Set.{Request, exists, isDeletion, isEmptyAppend, needsRuntime, requestStatus, shown, exitProtects, writeDecision, decision, decisionStatus, decisionStore}
 use Rattle.rules.specs.Report.{decisionReport}
 use Rattle.rules.specs.Engine.{State, Call, uses, readStatus, decisionBy, decisionIn, setDecision, reportOn, answerOf, onlyStatus, withReport, status, given, refusal, answer, effect, after, step}
-use Rattle.rules.specs.Engine.Call.{powerOn, restart, register, dump, lock, disable, exit, query, read, set}
+use Rattle.rules.specs.Engine.Call.{powerOn, restart, register, dump, lock, disable, exit, query, read, set, settled}
 use Rattle.rules.specs.BeforeExit.{earlierDecision, earlierDecisionIn, earlierSetDecision, earlierReportOn, earlierStatus, earlierGiven, earlierRefusal, earlierEffect, earlierStep}
 use Rattle.rules.specs.EngineLaws.{step-status, refused-changes-nothing, granted-effect, kept}
 use Rattle.rules.specs.StateLaws.{set-passed, register-passed}
@@ -79,6 +79,7 @@ module _ (s : State) (x : s .switches .exited ≡ false) where
   same-status query n = refl
   same-status (read v) n = rw (x, same-shown (lookup (s .nv) (s .vol) v))
   same-status (set r) n = ap decisionStatus (same-decides r)
+  same-status (settled v) n = refl
 
   same-given : (c : Call) → given s c ≡ earlierGiven s c
   same-given (powerOn allowed) = refl
@@ -92,6 +93,7 @@ module _ (s : State) (x : s .switches .exited ≡ false) where
   same-given (read v) = refl
   same-given (set r) =
       ap (λ d. withReport Success (decisionReport d (entriesOf (s .policy)) (chosen (entriesOf (s .policy)) (r .variable)) (r .attributes))) (same-decides r)
+  same-given (settled v) = refl
 
   same-effect : (c : Call) → Not (c ≡ exit) → effect s c ≡ earlierEffect s c
   same-effect (powerOn allowed) n = refl
@@ -104,6 +106,7 @@ module _ (s : State) (x : s .switches .exited ≡ false) where
   same-effect query n = refl
   same-effect (read v) n = refl
   same-effect (set r) n = rw (same-decision r)
+  same-effect (settled v) n = refl
 
   same-refusal : (c : Call) (m : Status) → refusal s c m ≡ earlierRefusal s c m
   same-refusal c m = rw (same-report (uses c .reports))
@@ -128,6 +131,7 @@ isStart exit = false
 isStart query = false
 isStart (read v) = false
 isStart (set r) = false
+isStart (settled v) = false
 
 -- no granted start
 abbrev pub GoesOn : State → Call → Type 0
@@ -277,6 +281,7 @@ granted-stays s exit x n h = absurd (false≢true (rw x at h))
 granted-stays s query x n h = stays-same s
 granted-stays s (read v) x n h = subst⁻¹ (Stays s) (granted-effect s (read v) h) (stays-same s)
 granted-stays s (set r) x n h = set-stays s x r h
+granted-stays s (settled v) x n h = subst⁻¹ (Stays s) (granted-effect s (settled v) h) (stays-same s)
 
 -- AFTER EXIT EVERY CALL BUT A GRANTED START leaves the policy record, the switches, the volatile store, and every record without RT as they are
 pub after-exit : (s : State) (c : Call) → Exited s → GoesOn s c → Stays s (step s c .1)
@@ -301,6 +306,7 @@ endsAtExit exit = true
 endsAtExit query = false
 endsAtExit (read v) = false
 endsAtExit (set r) = false
+endsAtExit (settled v) = false
 
 -- REGISTER, DUMP, LOCK, DISABLE AND EXIT ANSWER 3 AFTER EXIT, with no number and the buffer of a dump as it was, unless they are lent a policy record
 -- that is not valid
@@ -317,6 +323,7 @@ exit-refuses s exit x v h = rw x
 exit-refuses s query x v h = absurd (false≢true h)
 exit-refuses s (read w) x v h = absurd (false≢true h)
 exit-refuses s (set r) x v h = absurd (false≢true h)
+exit-refuses s (settled w) x v h = absurd (false≢true h)
 
 past-2 : (s : State) (v : Variable) (k : ℕ) → Applies s (read v) k Success → 2 < k
 past-2 s v k readDone = lit< tt
@@ -349,7 +356,7 @@ unfolding step
 read-tells s v q h f = ap (λ n. (answer s (read v) n, after s (read v) n)) (success-only (status s (read v)) (ap isSuccess (sym (step-status s (read v))) ∙ h)) ∙ rw (found-lookup s v q f)
 
 -- a record of sound stores is of a variable with a valid name
-record-named : (s : State) (v : Variable) (q : Bytes) → RecordOf s v q → named v ≡ true
+pub record-named : (s : State) (v : Variable) (q : Bytes) → RecordOf s v q → named v ≡ true
 record-named s v q f =
     let l = looked (s .nv) (s .vol) v q (found-lookup s v q f) in
     subst (λ w. named w ≡ true) (f .own) (fields-storable (hasNV (attributesOf q)) q (l .ok) .called)

@@ -18,7 +18,7 @@ use Rattle.status.specs.declared.Status.{Status}
 use Rattle.status.specs.declared.Status.the-variants.{Success, InvalidParameter, Unsupported, BufferTooSmall, WriteProtected, OutOfResources, VolumeCorrupted, NotFound, AlreadyStarted}
 use Rattle.rules.specs.Set.{Request}
 use Rattle.rules.specs.Engine.{State, Call}
-use Rattle.rules.specs.Engine.Call.{powerOn, restart, register, dump, lock, disable, exit, query, read, set}
+use Rattle.rules.specs.Engine.Call.{powerOn, restart, register, dump, lock, disable, exit, query, read, set, settled}
 
 abbrev pub Not : Type 0 → Type 0
 Not P = P → ⊥
@@ -180,6 +180,30 @@ pub data Locks (s : State) (e : Bytes) (v : Variable) : Type 0 where
   onCreate : (r : Bytes) → lockPolicyType e ≡ 2 → RecordOf s v r → Locks s e v
   onVarState : (r : Bytes) → lockPolicyType e ≡ 3 → RecordOf s (triggerOf e) r → payloadOf r ≡ triggerValue e ∷ [] → Locks s e v
 
+-- the entry is the chosen one for the variable, be the engine enabled or not
+pub record ChosenFor (s : State) (v : Variable) (e : Bytes) : Type 0 where
+  pub entries : List Bytes
+  pub listed : HasEntries s entries
+  pub choice : IsChosen entries v e
+
+-- settled (RULES.md, 10.14), without a count: by a chain that ends at a lock now or at the lock on create of a variable that exists. Each link is a lock
+-- on variable state, whose trigger holds the Value and is settled itself
+pub data Settled (s : State) : Variable → Type 0 where
+  now : {v : Variable} (e : Bytes) → ChosenFor s v e → lockPolicyType e ≡ 1 → Settled s v
+  created : {v : Variable} (e r : Bytes) → ChosenFor s v e → lockPolicyType e ≡ 2 → RecordOf s v r → Settled s v
+  link : {v : Variable} (e r : Bytes) → ChosenFor s v e → lockPolicyType e ≡ 3 → RecordOf s (triggerOf e) r → payloadOf r ≡ triggerValue e ∷ []
+      → Settled s (triggerOf e) → Settled s v
+
+-- how many links a chain has
+abbrev pub linksOf : {s : State} {v : Variable} → Settled s v → ℕ
+linksOf (now e k h) = 0
+linksOf (created e r k h f) = 0
+linksOf (link e r k h f p c) = suc (linksOf c)
+
+-- settled over at most n links
+abbrev pub SettledWithin : ℕ → State → Variable → Type 0
+SettledWithin n s v = (c : Settled s v) × (linksOf c ≤ n)
+
 -- ---- requests
 
 -- a deletion (RULES.md, 10.9): without append, and with no payload or with neither of BS and RT
@@ -315,6 +339,11 @@ pub data Applies (s : State) : Call → ℕ → Status → Type 0 where
       → length (s .vol) < length (flat (t .records)) → Applies s (set r) 90 OutOfResources
   -- 10
   setDone : {r : Request} → Applies s (set r) 100 Success
+  -- Settled
+  settledUnsound : {v : Variable} → Not (SoundStores (s .nv) (s .vol)) → Applies s (settled v) 0 VolumeCorrupted
+  settledBadRecord : {v : Variable} → ((es : List Bytes) → Not (HasEntries s es)) → Applies s (settled v) 0 VolumeCorrupted
+  settledBadName : {v : Variable} → Not (Named v) → Applies s (settled v) 1 InvalidParameter
+  settledDone : {v : Variable} → Applies s (settled v) 2 Success
 
 -- the first that applies in the call's order: its place there, and the status that it gives
 pub record FirstAt (s : State) (c : Call) (place : ℕ) (n : Status) : Type 0 where

@@ -25,9 +25,9 @@ use Rattle.status.specs.declared.Status.the-variants.{Success, InvalidParameter
 use Rattle.status.specs.Status.{isSuccess}
 use Rattle.status.specs.StatusLaws.{success-only}
 use Rattle.rules.specs.Set.{Request, exists, shown}
-use Rattle.rules.specs.Engine.{State, Call, powerOnStatus, restartStatus, registerStatus, dumpStatus, readStatus, status, step}
+use Rattle.rules.specs.Engine.{State, Call, powerOnStatus, restartStatus, registerStatus, dumpStatus, readStatus, settledStatus, status, step}
 use Rattle.rules.specs.EngineLaws.{step-status}
-use Rattle.rules.specs.Engine.Call.{powerOn, restart, register, dump, lock, disable, exit, query, read, set}
+use Rattle.rules.specs.Engine.Call.{powerOn, restart, register, dump, lock, disable, exit, query, read, set, settled}
 use Rattle.rules.specs.Grounds.{Not, HasEntries, sumOfSizes, SoundStores, Absent, Hidden, Applies, FirstAt, Answers, Refused}
 use Rattle.rules.specs.Grounds.Applies.{powerOnUnsound, powerOnVolatileTooLong, powerOnBadRecord, powerOnDone, restartUnsound, restartBadRecord, restartDone}
 use Rattle.rules.specs.Grounds.Applies.{registerBadRecord, registerExited, registerLocked, registerMalformed, registerRepeated, registerTooMany, registerTooLong, registerDone, dumpBadRecord, dumpExited, dumpShort, dumpDone}
@@ -35,7 +35,7 @@ use Rattle.rules.specs.Grounds.Applies.{lockExited, lockLocked, lockDone
 use Rattle.rules.specs.ConditionLaws.{tells-not, tells-eq, tells-le, tells-more, tells-off, tells-named}
 use Rattle.rules.specs.FoundLaws.{tells-sound, tells-alone, sum-of-sizes, valid-entries, entries-read, tells-entries, tells-unseen, among-contains, contains-among}
 use Rattle.rules.specs.Grounds.Applies.{setUnsound, setBadRecord, setBadName, setLongPayload, setUnknownBit, setRuntimeWithoutBS, setAppendWithoutBS, setNotRuntime, setTooShort, setTooLong, setBitMissing, setBitProhibited, setLocked}
-use Rattle.rules.specs.Grounds.Applies.{setAbsent, setHidden, setVolatile, setDeleted, setOtherAttributes, setEmptyAppend, setAppendTooLong, setNoRoomNV, setNoRoomVol, setDone}
+use Rattle.rules.specs.Grounds.Applies.{setAbsent, setHidden, setVolatile, setDeleted, setOtherAttributes, setEmptyAppend, setAppendTooLong, setNoRoomNV, setNoRoomVol, setDone, settledUnsound, settledBadRecord, settledBadName, settledDone}
 use Rattle.rules.specs.SetGroundsLaws.{set-answers}
 use Rattle.rules.specs.OrderedLaws.{Row, row, firstOf, NoneBefore, Grounds, last, _then_, NoGrounds, first-answers}
 
@@ -335,6 +335,40 @@ module _ (s : State) (v : Variable) where
   unfolding readStatus _and_
   read-answers = first-answers s (read v) read-rows refl refl (read-chain (sound (s .nv) (s .vol)) (named v) (exists (shown (s .switches .exited) (lookup (s .nv) (s .vol) v)))) read-grounds no-read
 
+-- ---- settled
+
+settled-chain : (s p n : Bool) → cond (s and p) (cond n Success InvalidParameter) VolumeCorrupted
+    ≡ firstOf (row 0 (not s) VolumeCorrupted ∷ row 0 (not p) VolumeCorrupted ∷ row 1 (not n) InvalidParameter ∷ row 2 true Success ∷ [])
+unfolding _and_
+settled-chain false p n = refl
+settled-chain true false n = refl
+settled-chain true true false = refl
+settled-chain true true true = refl
+
+module _ (s : State) (v : Variable) where
+  abbrev settled-rows : List Row
+  settled-rows =
+      row 0 (not (sound (s .nv) (s .vol))) VolumeCorrupted ∷ row 0 (not (policyValid (s .policy))) VolumeCorrupted
+      ∷ row 1 (not (named v)) InvalidParameter ∷ row 2 true Success ∷ []
+
+  settled-grounds : Grounds s (settled v) settled-rows settled-rows
+  settled-grounds =
+      (λ n t. settledUnsound (tells-not _ (tells-sound (s .nv) (s .vol)) .0 t))
+      then (λ n t. settledBadRecord (λ x k. tells-not _ (tells-entries s) .0 t (x, k)))
+      then (λ n t. settledBadName (tells-not _ (tells-named v) .0 t))
+      then (λ n t. settledDone)
+      then last
+
+  no-settled : NoGrounds s (settled v) settled-rows
+  no-settled p n k m l (settledUnsound h) = tells-off _ (tells-not _ (tells-sound (s .nv) (s .vol))) (n 0 l) h
+  no-settled p n k m l (settledBadRecord h) = h (entriesOf (s .policy)) (valid-entries s (not-false _ (n 1 l)))
+  no-settled p n k m l (settledBadName h) = tells-off _ (tells-not _ (tells-named v)) (n 2 l) h
+  no-settled p n k m l settledDone = true≢false (n 3 l)
+
+  settled-answers : Answers s (settled v) (status s (settled v))
+  unfolding settledStatus _and_
+  settled-answers = first-answers s (settled v) settled-rows refl refl (settled-chain (sound (s .nv) (s .vol)) (policyValid (s .policy)) (named v)) settled-grounds no-settled
+
 -- ---- THE AGREEMENT
 
 -- the computed status is an answer, so there is at least one
@@ -349,6 +383,7 @@ status-answers s exit = exit-answers s
 status-answers s query = query-answers s
 status-answers s (read v) = read-answers s v
 status-answers s (set r) = set-answers s r
+status-answers s (settled v) = settled-answers s v
 
 -- the status that the grounds at a place give
 abbrev gives : Call → ℕ → Status
@@ -367,6 +402,7 @@ gives (set r) k =
     cond (ltb k 10) VolumeCorrupted (cond (ltb k 20) InvalidParameter (cond (ltb k 30) Unsupported (cond (ltb k 43) InvalidParameter
     (cond (ltb k 51) WriteProtected (cond (ltb k 52) NotFound (cond (ltb k 53) WriteProtected (cond (ltb k 60) Success (cond (ltb k 70) InvalidParameter (cond (ltb k 80) Success
     (cond (ltb k 100) OutOfResources Success))))))))))
+gives (settled v) k = cond (ltb k 1) VolumeCorrupted (cond (ltb k 2) InvalidParameter Success)
 
 at-place : (s : State) (c : Call) (k : ℕ) (n : Status) → Applies s c k n → n ≡ gives c k
 at-place s c k n (powerOnUnsound h) = refl
@@ -427,6 +463,10 @@ at-place s c k n (setAppendTooLong q h f i) = refl
 at-place s c k n (setNoRoomNV rs qs h j t i) = refl
 at-place s c k n (setNoRoomVol rs qs h j t i) = refl
 at-place s c k n setDone = refl
+at-place s c k n (settledUnsound h) = refl
+at-place s c k n (settledBadRecord h) = refl
+at-place s c k n (settledBadName h) = refl
+at-place s c k n settledDone = refl
 
 -- two that are first stand at one place
 pub one-place : (s : State) (c : Call) (j k : ℕ) (n m : Status) → FirstAt s c j n → FirstAt s c k m → j ≡ k

@@ -1,5 +1,6 @@
 pub mod Set
 pub mod Report
+pub mod Settled
 pub mod DecisionLaws
 pub mod SetLaws
 pub mod Engine
@@ -10,6 +11,7 @@ pub mod Effects
 pub mod FoundLaws
 pub mod OrderedLaws
 pub mod SetGroundsLaws
+pub mod SettledLaws
 pub mod GroundsLaws
 pub mod ReportLaws
 pub mod SetReportLaws
@@ -20,3 +22,4 @@ pub mod Opened
 pub mod BeforeExit
 pub mod ExitLaws
 pub mod ExitAnswers
+pub mod SettledStays

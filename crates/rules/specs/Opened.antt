@@ -13,8 +13,9 @@ use Rattle.store.specs.Store.{storeOk, withoutVariable, hasRoom, withRecord}
 use Rattle.stores.specs.Pair.{sound, soundAlone, lookup}
 use Rattle.rules.specs.Set.{exists, isEmpty, holdsValue, locks, isDeletion, sizeAllowed, attributesAllowed, requestGround, groundOf, otherAttributes, isEmptyAppend, payloadAfter, writeDecision, badRequest, unsupportedBit, needsBS, needsRuntime, requestStatus, shown, exitProtects, decision, decisionStore}
 use Rattle.rules.specs.Report.{reportFor}
-use Rattle.rules.specs.Engine.{step, powerOnStatus, restartStatus, registerStatus, dumpStatus, readStatus, decisionBy}
+use Rattle.rules.specs.Settled.{lockHoldsBy, lockHoldsIn, settledIn}
+use Rattle.rules.specs.Engine.{step, powerOnStatus, restartStatus, registerStatus, dumpStatus, readStatus, settledStatus, decisionBy}
 
 unfoldable pub rulesOpened : Bool
-unfolding _and_ le16 le32 le16Bytes le32Bytes pairwise allAre overwrite padded flat chunks chunksFrom used packed contains distinct find remove replace replaceOrAppend units each isName isTerminated isPlainTerminated named isHexDigit unitMatches wildcards headerOk lockOk nameOk wellFormed nameOf triggerOf targets rank sameTarget lengthBy validWithin chosen placeOf isSet howMany least missingBits prohibitedBits lowestBit stored.namespaceOf stored.nameOf stored.payloadOf stored.attributesOk stored.headerOk stored.bodyOk stored.recordOk stored.recordLength stored.isOf stored.encodeRecord storeOk withoutVariable hasRoom withRecord sound soundAlone lookup exists isEmpty holdsValue locks lockOf isDeletion sizeAllowed attributesAllowed requestGround groundOf otherAttributes isEmptyAppend payloadAfter writeDecision badRequest unsupportedBit needsBS needsRuntime requestStatus shown exitProtects decision decisionStore reportFor step powerOnStatus restartStatus registerStatus dumpStatus readStatus decisionBy
+unfolding _and_ le16 le32 le16Bytes le32Bytes pairwise allAre overwrite padded flat chunks chunksFrom used packed contains distinct find remove replace replaceOrAppend units each isName isTerminated isPlainTerminated named isHexDigit unitMatches wildcards headerOk lockOk nameOk wellFormed nameOf triggerOf targets rank sameTarget lengthBy validWithin chosen placeOf isSet howMany least missingBits prohibitedBits lowestBit stored.namespaceOf stored.nameOf stored.payloadOf stored.attributesOk stored.headerOk stored.bodyOk stored.recordOk stored.recordLength stored.isOf stored.encodeRecord storeOk withoutVariable hasRoom withRecord sound soundAlone lookup exists isEmpty holdsValue locks lockOf isDeletion sizeAllowed attributesAllowed requestGround groundOf otherAttributes isEmptyAppend payloadAfter writeDecision badRequest unsupportedBit needsBS needsRuntime requestStatus shown exitProtects decision decisionStore reportFor lockHoldsBy lockHoldsIn settledIn step powerOnStatus restartStatus registerStatus dumpStatus readStatus settledStatus decisionBy
 rulesOpened = true

@@ -228,7 +228,7 @@ module _ (s : State) where
       go none e h = absurd (false≢true h)
       go (some r) e h = (r, lookup-found s v r k e, tells-same (payloadOf r) (value ∷ []) .0 h)
 
-  tells-locks : SoundStores (s .nv) (s .vol) → (e : Bytes) → wellFormed e ≡ true → (v : Variable) → Tells (locks e found v) (Locks s e v)
+  pub tells-locks : SoundStores (s .nv) (s .vol) → (e : Bytes) → wellFormed e ≡ true → (v : Variable) → Tells (locks e found v) (Locks s e v)
   unfolding locks lockOf
   tells-locks k e w v = (to (eqb (lockPolicyType e) 0) (eqb (lockPolicyType e) 1) (eqb (lockPolicyType e) 2) refl refl refl, back)
     where

@@ -30,7 +30,7 @@ use Rattle.rules.specs.Set.{Request, decisionStatus}
 use Rattle.rules.specs.SetLaws.{set-sound}
 use Rattle.rules.specs.EngineLaws.{step-status, granted-effect}
 use Rattle.rules.specs.Engine.{State, Call, powerOnStatus, restartStatus, registerStatus, speaking, decisionBy, decisionIn, status, effect, step}
-use Rattle.rules.specs.Engine.Call.{powerOn, restart, register, dump, lock, disable, exit, query, read, set}
+use Rattle.rules.specs.Engine.Call.{powerOn, restart, register, dump, lock, disable, exit, query, read, set, settled}
 
 -- sound stores, a valid policy record, and a disabled engine has leave to disable
 pub record Sound (s : State) : Type 0 where
@@ -167,6 +167,7 @@ effect-sound s (set r) w h =
       policy = w .policy;
       leave = w .leave;
     }
+effect-sound s (settled v) w h = w
 
 -- EVERY CALL FROM A SOUND STATE LEADS TO A SOUND STATE
 pub step-sound : (s : State) (c : Call) → Sound s → Sound (step s c .1)

@@ -60,10 +60,10 @@ trigger-by {p = p} nv vol value e₁ e₂ e₃ e₄ e₅ =
 -- ---- what a rule tells
 
 -- the trigger of a type 3 entry, as its places in the entry's bytes
-abbrev triggerIn : Bytes → Trigger
+abbrev pub triggerIn : Bytes → Trigger
 triggerIn e = record { value = triggerValue e; namespace = triggerNamespaceAt; name = triggerNameAt; «name_end» = offsetToName e - 2 }
 
-rule-trigger : (e : Bytes) (t : Trigger) → LockOnVarState t ≡ lockOf e → t ≡ triggerIn e
+pub rule-trigger : (e : Bytes) (t : Trigger) → LockOnVarState t ≡ lockOf e → t ≡ triggerIn e
 unfolding lockOf
 rule-trigger e t q = go (eqb (lockPolicyType e) 0) (eqb (lockPolicyType e) 1) (eqb (lockPolicyType e) 2) q
   where

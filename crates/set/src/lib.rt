@@ -198,7 +198,13 @@ fn is_value(payload: &[u8], value: u8) -> bool
 }
 
 // Whether the trigger of an entry locks (RULES.md, 5): it is stored, and its payload is the one byte Value.
-fn trigger_holds<'a>(e: &[u8], trigger: Trigger, nv: &'a [u8], vol: &'a [u8], ends: Ends) -> bool
+pub fn trigger_holds<'a>(
+    e: &[u8],
+    trigger: Trigger,
+    nv: &'a [u8],
+    vol: &'a [u8],
+    ends: Ends,
+) -> bool
     requires { ⌜ (ends ≡ endsOf (now nv) (now vol)) × (trigger .namespace ≡ triggerNamespaceAt) ⌝ }
     ensures { λ r.
         ⌜ r ≡ holdsValue (lookup (now (nv .entry)) (now (vol .entry)) (variable

@@ -17,7 +17,8 @@ use Rattle.rules.specs.Engine.{State, Answer, Call, stateOf, onlyStatus, handBa
 use Rattle.engine.specs.declared.DumpAnswer.{DumpAnswer}
 use Rattle.engine.specs.declared.QueryAnswer.{QueryAnswer}
 use Rattle.engine.specs.declared.SetAnswer.{SetAnswer}
-use Rattle.engine.specs.Answers.{dumpAnswer, queryAnswer}
+use Rattle.engine.specs.declared.LockState.{LockState}
+use Rattle.engine.specs.Answers.{dumpAnswer, queryAnswer, settledAnswer}
 use Rattle.varpolicy.specs.declared.Started.{Started}
 use Rattle.varpolicy.specs.declared.Reported.{Reported}
 use Rattle.reader.specs.declared.Verdict as reader
@@ -25,7 +26,7 @@ use Rattle.reader.specs.declared.Listing.{Listing}
 use Rattle.varpolicy.specs.declared.Quarrelled.{Quarrelled}
 use Rattle.varpolicy.specs.declared.ReaderVerdict.{ReaderVerdict}
 use Rattle.varpolicy.specs.declared.ReaderEntry.{ReaderEntry}
-use Rattle.varpolicy.specs.Exports.{Numbered, numbered, statusAlone, startedAnswer, standing, dumpedAnswer, queriedAnswer, reportedOf, writtenAnswer, quarrelledOf, quarrelled, readerVerdictOf, readerEntryOf}
+use Rattle.varpolicy.specs.Exports.{Numbered, numbered, statusAlone, startedAnswer, standing, dumpedAnswer, queriedAnswer, reportedOf, writtenAnswer, lockStateAnswer, quarrelledOf, quarrelled, readerVerdictOf, readerEntryOf}
 
 module _ {x : Answer × State} {s : State} where
   pub status-numbered : {n : ℕ} (a : Status) → x ≡ (onlyStatus a, s) → n ≡ statusNumber a → numbered x ≡ (statusAlone n, s)
@@ -38,6 +39,10 @@ module _ {x : Answer × State} {s : State} where
   pub query-numbered : {n : ℕ} (a : QueryAnswer) → x ≡ (queryAnswer a, s) → n ≡ statusNumber (a .status)
       → numbered x ≡ (queriedAnswer (record { status = n; enabled = a .enabled }), s)
   query-numbered a e k = ap numbered e ∙ ap (λ m. (queriedAnswer (record { status = m; enabled = a .enabled }), s)) (sym k)
+
+  pub settled-numbered : {n : ℕ} (a : LockState) → x ≡ (settledAnswer a, s) → n ≡ statusNumber (a .status)
+      → numbered x ≡ (lockStateAnswer (record { status = n; settled = a .settled }), s)
+  settled-numbered a e k = ap numbered e ∙ ap (λ m. (lockStateAnswer (record { status = m; settled = a .settled }), s)) (sym k)
 
 -- a call at switches u, which are those that the bytes say
 module _ {u w : Switches} (same : u ≡ w) where

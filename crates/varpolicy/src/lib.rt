@@ -14,12 +14,12 @@ ghost use Rattle.status.specs.Status.{statusNumber};
 ghost use Rattle.switches.specs.declared.Switches.{Switches};
 ghost use Rattle.switches.specs.SwitchBytes.{givesLeave, switchesOf, bytesOf, lockedBytes, disabledBytes, exitedBytes, lockBytes, disableBytes, exitBytes};
 ghost use Rattle.rules.specs.Engine.{stateOf, step};
-ghost use Rattle.rules.specs.Engine.Call.{powerOn, restart, register, dump, lock, disable, exit, query, set};
+ghost use Rattle.rules.specs.Engine.Call.{powerOn, restart, register, dump, lock, disable, exit, query, set, settled};
 ghost use Rattle.rules.specs.Set.{requestOf};
 ghost use Rattle.rules.specs.Report.{groundNumber};
 ghost use Rattle.engine.specs.Answers.{readingOf};
 ghost use Rattle.reader.specs.Reader.{fresh, feedStatus, afterFeed, verdictIn, listingIn};
-ghost use Rattle.varpolicy.specs.Exports.{numbered, statusAlone, startedAnswer, standing, dumpedAnswer, queriedAnswer, readOf, NumberedRead, reportedOf, writtenAnswer, noPair, quarrelled, readerVerdictOf, readerEntryOf};
+ghost use Rattle.varpolicy.specs.Exports.{numbered, statusAlone, startedAnswer, standing, dumpedAnswer, queriedAnswer, readOf, NumberedRead, reportedOf, writtenAnswer, lockStateAnswer, noPair, quarrelled, readerVerdictOf, readerEntryOf};
 use quarrels::Verdict;
 use reader::Listing;
 use rules::Ground;
@@ -84,6 +84,13 @@ pub struct Reported {
 pub struct Written {
     pub status: u32,
     pub report: Reported,
+}
+
+// How long the lock of a variable lasts (RULES.md, 10.14): whether the variable is settled.
+#[repr(C)]
+pub struct LockState {
+    pub status: u32,
+    pub settled: bool,
 }
 
 // What the check of a dump answers (RULES.md, 10.11): whether two entries quarrel, their places counted from 0, and the bytes of the name.
@@ -367,6 +374,27 @@ pub extern "C" fn varpolicy_set_e10(
     Written {
         status: number(status),
         report: numbered_report(report),
+    }
+}
+
+// Settled: whether the variable's lock holds until the next power-on or restart, once the engine is enabled and locked. The switches are not asked.
+#[no_mangle]
+pub extern "C" fn varpolicy_settled<'a>(
+    nv: &'a [u8],
+    vol: &'a [u8],
+    policy: &[u8],
+    namespace: &[u8; 16],
+    name: &[u8],
+) -> LockState
+    ensures { λ r.
+        ⌜ ((w : Switches) → numbered (step (stateOf (now (nv .entry)) (now (vol .entry)) (now (policy .entry)) w) (settled (variable (now (namespace .entry)) (now (name .entry)))))
+        ≡ (lockStateAnswer r, stateOf (now (nv .entry)) (now (vol .entry)) (now (policy .entry)) w)) ⌝ }
+{
+    let answer = engine::settled(nv, vol, policy, *namespace, name);
+    let status = answer.status;
+    LockState {
+        status: number(status),
+        settled: answer.settled,
     }
 }
 
