@@ -1,5 +1,5 @@
--- The proved bench readings (RULES.md, 13), as the statuses that whole calls answer from a power-on, under one claim; and reports of sets, under
--- another.
+-- The proved bench readings (RULES.md, 13), as the statuses that whole calls answer from a power-on, under one claim; reports of sets, under
+-- another; and settled variables, under a third.
 -- Assumes nothing.
 use Prim.Native.Nat.{ℕ, _+_, _*_}
 use mathlib.Core.Path.{_≡_, refl}
@@ -9,13 +9,14 @@ use mathlib.Core.Option.{Option, none, some}
 use lib.ListN.{length, replicate, take}
 use Rattle.limits.specs.Limits.{policyBytes}
 use Rattle.lists.specs.Lists.{All, nil, more}
+use Rattle.lists.specs.ListsLaws.{all-append}
 use Rattle.slices.specs.Bytes.{Bytes, le16Bytes, le32Bytes, same}
 use Rattle.status.specs.Status.{statusNumber}
 use Rattle.switches.specs.Switches.{freshSwitches}
 use Rattle.rules.specs.declared.Report.{Report}
 use Rattle.rules.specs.Report.{groundNumber}
 use Rattle.rules.specs.Engine.{State, Call, step}
-use Rattle.rules.specs.Engine.Call.{powerOn, register, dump, lock, disable, exit, query, read, set}
+use Rattle.rules.specs.Engine.Call.{powerOn, restart, register, dump, lock, disable, exit, query, read, set, settled}
 use Rattle.rules.specs.Opened.{rulesOpened}
 
 -- ---- how the readings are written down
@@ -84,6 +85,15 @@ append us n = setting us 0x43 (replicate n 7)
 -- before the power-on: an erased non-volatile store of 128 bytes, a volatile one and a policy record that hold anything
 abbrev board : State
 board = record { nv = replicate 128 255; vol = replicate 128 0; policy = replicate policyBytes 7; switches = freshSwitches false }
+
+-- P of each of a list, as a tuple: no part of it is a blank while it is computed
+abbrev Each : (List Call × List ℕ → Type 0) → List (List Call × List ℕ) → Type 0
+Each P [] = Unit
+Each P (r ∷ rs) = P r × Each P rs
+
+each-all : (P : List Call × List ℕ → Type 0) (rs : List (List Call × List ℕ)) → Each P rs → All P rs
+each-all P [] t = nil
+each-all P (r ∷ rs) t = more (t .0) (each-all P rs (t .1))
 
 -- the numbers of the statuses of calls one after the other
 abbrev statuses : State → List Call → List ℕ
@@ -188,10 +198,13 @@ readings =
     ∷ ((register (whole-namespace 1) ∷ exit ∷ delete A ∷ write A ∷ []), 0 ∷ 0 ∷ 0 ∷ 8 ∷ 2 ∷ [])
     ∷ []
 
+each-reading : Each Holds readings
+unfolding rulesOpened
+each-reading = (refl, (refl, (refl, (refl, (refl, (refl, (refl, (refl, (refl, (refl, (refl, (refl, (refl, (refl, (refl, (refl, (refl, (refl, (refl, (refl, (refl, (refl, (refl, (refl, (refl, (refl, (refl, (refl, (refl, (refl, tt))))))))))))))))))))))))))))))
+
 -- THE READINGS HOLD
 pub readings-hold : All Holds readings
-unfolding rulesOpened
-readings-hold = more refl (more refl (more refl (more refl (more refl (more refl (more refl (more refl (more refl (more refl (more refl (more refl (more refl (more refl (more refl (more refl (more refl (more refl (more refl (more refl (more refl (more refl (more refl (more refl (more refl (more refl (more refl (more refl (more refl (more refl nil)))))))))))))))))))))))))))))
+readings-hold = each-all Holds readings each-reading
 
 -- ---- the reports
 
@@ -236,7 +249,115 @@ reports =
     )
     ∷ []
 
+each-report : Each Tells reports
+unfolding rulesOpened
+each-report = (refl, (refl, (refl, (refl, (refl, tt)))))
+
 -- THE REPORTS HOLD
 pub reports-hold : All Tells reports
+reports-hold = each-all Tells reports each-report
+
+-- ---- settled variables
+
+-- the number of the status of each call, and the number beside it: of settled 1 for yes and 0 for no
+abbrev answered : State → List Call → List ℕ
+answered s [] = []
+answered s (c ∷ cs) = statusNumber (step s c .0 .status) ∷ step s c .0 .number ∷ answered (step s c .1) cs
+
+abbrev Answers : List Call × List ℕ → Type 0
+Answers r = same (answered board (powerOn true ∷ r .0)) (0 ∷ 0 ∷ r .1) ≡ true
+
+abbrev U : List ℕ
+U = 0x55 ∷ []
+
+abbrev asking : List ℕ → Call
+asking us = settled (record { namespace = G; name = text us })
+
+-- by an entry alone
+abbrev byEntry : List (List Call × List ℕ)
+byEntry =
+    -- no entry, and one that locks nothing
+    ((asking A ∷ register (named-entry 0 0 A) ∷ asking A ∷ []), 0 ∷ 0 ∷ 0 ∷ 0 ∷ 0 ∷ 0 ∷ [])
+    -- lock now, for a whole namespace; a bad name; another namespace
+    ∷ ((register (whole-namespace 1) ∷ asking A ∷ asking [] ∷ settled (record { namespace = replicate 16 1; name = text A }) ∷ []), 0 ∷ 0 ∷ 0 ∷ 1 ∷ 2 ∷ 0 ∷ 0 ∷ 0 ∷ [])
+    -- lock on create: before and after
+    ∷ ((register (named-entry 0 2 A) ∷ asking A ∷ write A ∷ asking A ∷ []), 0 ∷ 0 ∷ 0 ∷ 0 ∷ 0 ∷ 0 ∷ 0 ∷ 1 ∷ [])
+    ∷ []
+
+-- by one link
+abbrev byLink : List (List Call × List ℕ)
+byLink =
+    -- a link: the trigger absent, and with the Value
+    ((register (triggered T A) ∷ register (named-entry 0 2 T) ∷ asking A ∷ setting T 3 (0 ∷ []) ∷ asking A ∷ asking T ∷ []), 0 ∷ 0 ∷ 0 ∷ 0 ∷ 0 ∷ 0 ∷ 0 ∷ 0 ∷ 0 ∷ 1 ∷ 0 ∷ 1 ∷ [])
+    -- with another byte, and with two bytes
+    ∷ ((register (triggered T A) ∷ register (named-entry 0 2 T) ∷ setting T 3 (1 ∷ []) ∷ asking A ∷ []), 0 ∷ 0 ∷ 0 ∷ 0 ∷ 0 ∷ 0 ∷ 0 ∷ 0 ∷ [])
+    ∷ ((register (triggered T A) ∷ register (named-entry 0 2 T) ∷ setting T 3 (0 ∷ 0 ∷ []) ∷ asking A ∷ []), 0 ∷ 0 ∷ 0 ∷ 0 ∷ 0 ∷ 0 ∷ 0 ∷ 0 ∷ [])
+    -- locked, but by a trigger that is not settled: it is changed, and the lock is gone
+    ∷ (
+      (register (triggered T A) ∷ setting T 3 (0 ∷ []) ∷ write A ∷ asking A ∷ setting T 3 (1 ∷ []) ∷ write A ∷ []),
+      0 ∷ 0 ∷ 0 ∷ 0 ∷ 8 ∷ 0 ∷ 0 ∷ 0 ∷ 0 ∷ 0 ∷ 0 ∷ 0 ∷ [],
+    )
+    ∷ []
+
+-- by more of them
+abbrev byLinks : List (List Call × List ℕ)
+byLinks =
+    -- loops of one and of two
+    ((register (triggered A A) ∷ setting A 3 (0 ∷ []) ∷ write A ∷ asking A ∷ []), 0 ∷ 0 ∷ 0 ∷ 0 ∷ 8 ∷ 0 ∷ 0 ∷ 0 ∷ [])
+    ∷ (
+      (register (triggered T A) ∷ setting A 3 (0 ∷ []) ∷ setting T 3 (0 ∷ []) ∷ register (triggered A T) ∷ write A ∷ write T ∷ asking A ∷ asking T ∷ []),
+      0 ∷ 0 ∷ 0 ∷ 0 ∷ 0 ∷ 0 ∷ 0 ∷ 0 ∷ 8 ∷ 0 ∷ 8 ∷ 0 ∷ 0 ∷ 0 ∷ 0 ∷ 0 ∷ [],
+    )
+    -- two links, the second trigger absent and with the Value
+    ∷ (
+      (register (triggered T A) ∷ register (triggered U T) ∷ register (named-entry 0 2 U) ∷ setting T 3 (0 ∷ []) ∷ asking A ∷ setting U 3 (0 ∷ []) ∷ asking A ∷ []),
+      0 ∷ 0 ∷ 0 ∷ 0 ∷ 0 ∷ 0 ∷ 0 ∷ 0 ∷ 0 ∷ 0 ∷ 0 ∷ 0 ∷ 0 ∷ 1 ∷ [],
+    )
+    -- a trigger that can never be set
+    ∷ ((register (triggered T A) ∷ register (named-entry 0 1 T) ∷ setting T 3 (0 ∷ []) ∷ asking A ∷ asking T ∷ []), 0 ∷ 0 ∷ 0 ∷ 0 ∷ 8 ∷ 0 ∷ 0 ∷ 0 ∷ 0 ∷ 1 ∷ [])
+    ∷ []
+
+-- how long: what each condition of 12.9 is for
+abbrev howLong : List (List Call × List ℕ)
+howLong =
+    -- not locked: an entry of lower rank is registered
+    (
+      (register (whole-namespace 1) ∷ asking A ∷ register (named-entry 0 0 A) ∷ asking A ∷ write A ∷ []),
+      0 ∷ 0 ∷ 0 ∷ 1 ∷ 0 ∷ 0 ∷ 0 ∷ 0 ∷ 0 ∷ 0 ∷ [],
+    )
+    -- not enabled: the answer is by the entries, and a set is granted
+    ∷ ((register (named-entry 0 1 A) ∷ disable ∷ lock ∷ asking A ∷ write A ∷ []), 0 ∷ 0 ∷ 0 ∷ 0 ∷ 0 ∷ 0 ∷ 0 ∷ 1 ∷ 0 ∷ 0 ∷ [])
+    -- a start takes the entries away
+    ∷ (
+      (register (named-entry 0 1 A) ∷ lock ∷ asking A ∷ restart true ∷ asking A ∷ write A ∷ []),
+      0 ∷ 0 ∷ 0 ∷ 0 ∷ 0 ∷ 1 ∷ 0 ∷ 0 ∷ 0 ∷ 0 ∷ 0 ∷ 0 ∷ [],
+    )
+    -- after exit a trigger without RT counts, though no read tells it
+    ∷ (
+      (register (triggered T A) ∷ setting T 3 (0 ∷ []) ∷ register (named-entry 0 2 T) ∷ lock ∷ exit ∷ asking A ∷ reading T ∷ []),
+      0 ∷ 0 ∷ 0 ∷ 0 ∷ 0 ∷ 0 ∷ 0 ∷ 0 ∷ 0 ∷ 0 ∷ 0 ∷ 1 ∷ 14 ∷ 0 ∷ [],
+    )
+    ∷ []
+
+abbrev settledReadings : List (List Call × List ℕ)
+settledReadings = byEntry ++ byLink ++ byLinks ++ howLong
+
+by-entry : Each Answers byEntry
 unfolding rulesOpened
-reports-hold = more refl (more refl (more refl (more refl (more refl nil))))
+by-entry = (refl, (refl, (refl, tt)))
+
+by-link : Each Answers byLink
+unfolding rulesOpened
+by-link = (refl, (refl, (refl, (refl, tt))))
+
+by-links : Each Answers byLinks
+unfolding rulesOpened
+by-links = (refl, (refl, (refl, (refl, tt))))
+
+how-long : Each Answers howLong
+unfolding rulesOpened
+how-long = (refl, (refl, (refl, (refl, tt))))
+
+-- THEY HOLD
+pub settled-readings-hold : All Answers settledReadings
+settled-readings-hold = all-append byEntry (byLink ++ byLinks ++ howLong) (each-all Answers byEntry by-entry) (all-append byLink (byLinks ++ howLong) (each-all Answers byLink by-link) (all-append byLinks howLong (each-all Answers byLinks by-links) (each-all Answers howLong how-long)))
