@@ -1,7 +1,7 @@
 -- HOW LONG A LOCK LASTS (RULES.md, 12.9): with the engine enabled and locked, no list of calls up to the next granted start changes, creates or deletes a variable to
 -- which `settled` answers yes, and it goes on to answer yes (`how-long`); nor does one with rebuilds in it (`how-long-rebuilt`). Assumes nothing but, of the
 -- latter, that the power-on answered 0.
-use mathlib.Core.Path.{_≡_, refl, sym, ap, subst, subst⁻¹, _∙_}
+use mathlib.Core.Path.{_≡_, refl, sym, ap, subst⁻¹, _∙_}
 use mathlib.Core.List.{List, [], _∷_, _++_, append-nil}
 use mathlib.Core.Bool.{Bool, true}
 use mathlib.Core.Option.{none, some}
@@ -14,7 +14,7 @@ use Rattle.rules.specs.Engine.{State, Call, Answer, isSettled, step}
 use Rattle.rules.specs.Engine.Call.{powerOn, dump, settled}
 use Rattle.rules.specs.Grounds.{RecordOf}
 use Rattle.rules.specs.SettledStays.{Held, Lasts, lasts-more, settled-lasts, yes, Yes, yes-says, says-yes}
-use Rattle.history.specs.History.{Items, Entries, Order, Proper, outcomeOf, end, endWith, answersWith, answersInOrder, answerBy, rebuilding, registered, history, orderAfter, orderRebuilt, standingOrder, stateBy}
+use Rattle.history.specs.History.{Items, Entries, Order, outcomeOf, end, endWith, answersWith, answersInOrder, answerBy, rebuilding, registered, history, orderAfter, orderRebuilt, standingOrder, stateBy}
 use Rattle.history.specs.History.ItemOf.{call, ownDump, rebuild}
 use Rattle.history.specs.StandingOrder.{NoneRestarts}
 use Rattle.demand3.specs.Machine.{kindOf, machine}

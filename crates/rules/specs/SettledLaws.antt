@@ -5,14 +5,13 @@ use native.Mathlib.Nat.{le-of-suc-le-suc, not-suc-le-zero}
 use native.Mathlib.Omega.{arith}
 use mathlib.Core.Path.{_≡_, refl, sym, ap, subst, subst⁻¹, _∙_}
 use mathlib.Core.List.{List, [], _∷_}
-use mathlib.Core.Bool.{Bool, true, false, true≢false, false≢true}
+use mathlib.Core.Bool.{Bool, true, false, false≢true}
 use mathlib.Core.Option.{Option, none, some}
-use mathlib.Core.Logic.{_↔_}
 use Rattle.limits.specs.Limits.{maxLinks}
 use Rattle.lists.specs.Lists.{Among}
 use Rattle.lists.specs.ListsLaws.{all-among, among-middle}
 use Rattle.slices.specs.Test.{_and_}
-use Rattle.slices.specs.TestLaws.{and-left, and-right, and-intro, forced-off}
+use Rattle.slices.specs.TestLaws.{and-left, and-right, and-intro}
 use Rattle.slices.specs.Bytes.{Bytes, same}
 use Rattle.names.specs.Name.{Variable, named}
 use Rattle.entry.specs.Entry.{lockPolicyType, wellFormed, lockOf, triggerOf, triggerValue}
@@ -59,6 +58,134 @@ lock-settled n choice found v e c h = settled-asks n choice found v ∙ rw c (lo
 pub settled-locks : (n : ℕ) (choice : Choice) (found : Lookup) (v : Variable) → settledIn n choice found v ≡ true → (e : Bytes) × (choice v ≡ some e) × (locks e found v ≡ true)
 unfolding lockHoldsBy
 settled-locks n choice found v h = let k = settled-lock n choice found v h in (k .0, k .1, and-left _ _ (k .2))
+
+-- ---- the choice in propositions
+module _ (s : State) where
+  abbrev choiceIn : Choice
+  choiceIn = chosen (entriesOf (s .policy))
+
+  abbrev foundIn : Lookup
+  foundIn = lookup (s .nv) (s .vol)
+
+  pub for-chosen : {v : Variable} {e : Bytes} → ChosenFor s v e → choiceIn v ≡ some e
+  for-chosen {v} {e} w = subst (λ x. chosen x v ≡ some e) (entries-read s (w .entries) (w .listed)) (is-chosen (w .entries) v e (w .choice))
+
+  pub chosen-for : policyValid (s .policy) ≡ true → {v : Variable} {e : Bytes} → choiceIn v ≡ some e → ChosenFor s v e
+  chosen-for p {v} {e} c = record { entries = entriesOf (s .policy); listed = valid-entries s p; choice = chosen-is (entriesOf (s .policy)) v e c }
+
+  one-chosen : {v : Variable} {e f : Bytes} → ChosenFor s v e → ChosenFor s v f → e ≡ f
+  one-chosen {v} {e} {f} a b = let k : some e ≡ some f = sym (for-chosen a) ∙ for-chosen b in cc
+
+  pub chosen-formed : {v : Variable} {e : Bytes} → ChosenFor s v e → wellFormed e ≡ true
+  chosen-formed {v} {e} w =
+      all-among (w .entries) (w .listed .formed) e (subst⁻¹ (Among e) (w .choice .place) (among-middle (w .choice .before) e (w .choice .after)))
+
+  -- ---- a chain, from the functions
+
+  -- of type 3 a lock rests on its trigger
+  rests-3 : (e : Bytes) (b : Bool) → lockPolicyType e ≡ 3 → restsOn (lockOf e) b ≡ b
+  unfolding lockOf
+  rests-3 e b h = rw h
+
+  -- what a lock that holds shows
+  lock-shows : SoundStores (s .nv) (s .vol) → (A : Type 0) (x : Variable → Bool) {v : Variable} (e : Bytes) → ChosenFor s v e → lockHoldsBy x foundIn e v ≡ true
+      → (lockPolicyType e ≡ 1 → A) → ((r : Bytes) → lockPolicyType e ≡ 2 → RecordOf s v r → A)
+      → ((r : Bytes) → lockPolicyType e ≡ 3 → RecordOf s (triggerOf e) r → payloadOf r ≡ triggerValue e ∷ [] → x (triggerOf e) ≡ true → A) → A
+  unfolding lockHoldsBy
+  lock-shows k A x {v} e c h one two three = go (tells-locks s k e (chosen-formed c) v .0 (and-left _ _ h))
+    where
+      go : Locks s e v → A
+      go (Locks.now t) = one t
+      go (Locks.onCreate r t f) = two r t f
+      go (Locks.onVarState r t f p) = three r t f p (sym (rests-3 e (x (triggerOf e)) t) ∙ and-right (locks e foundIn v) _ h)
+
+  module _ (k : SoundStores (s .nv) (s .vol)) (p : policyValid (s .policy) ≡ true) where
+    chain-by : (n : ℕ) → ((u : Variable) → next n choiceIn foundIn u ≡ true → (c : Settled s u) × (suc (linksOf c) ≤ n)) → (v : Variable) → settledIn n choiceIn foundIn v ≡ true → SettledWithin n s v
+    chain-by n below v h =
+        let w = settled-lock n choiceIn foundIn v h in
+        let c = chosen-for p (w .1) in
+        lock-shows k (SettledWithin n s v) (next n choiceIn foundIn) (w .0) c (w .2)
+        (λ t. (Settled.now (w .0) c t, zero-le))
+        (λ r t f. (Settled.created (w .0) r c t f, zero-le))
+        (λ r t f q x. let z = below (triggerOf (w .0)) x in (Settled.link (w .0) r c t f q (z .0), z .1))
+
+    has-chain : (n : ℕ) (v : Variable) → settledIn n choiceIn foundIn v ≡ true → SettledWithin n s v
+    has-chain zero v h = chain-by 0 (λ u x. absurd (false≢true x)) v h
+    has-chain (suc n) v h = chain-by (suc n) (λ u x. let z = has-chain n u x in (z .0, suc-le-suc (z .1))) v h
+
+  -- ---- the functions, from a chain
+
+  holds-now : (x : Variable → Bool) (e : Bytes) (v : Variable) → lockPolicyType e ≡ 1 → lockHoldsBy x foundIn e v ≡ true
+  unfolding lockHoldsBy locks lockOf _and_
+  holds-now x e v h = rw h
+
+  holds-created : (x : Variable → Bool) (e r : Bytes) (v : Variable) → lockPolicyType e ≡ 2 → RecordOf s v r → lockHoldsBy x foundIn e v ≡ true
+  unfolding lockHoldsBy locks lockOf exists _and_
+  holds-created x e r v h f = rw (h, found-lookup s v r f)
+
+  holds-link : (x : Variable → Bool) (e r : Bytes) (v : Variable) → lockPolicyType e ≡ 3 → RecordOf s (triggerOf e) r → payloadOf r ≡ triggerValue e ∷ []
+      → x (triggerOf e) ≡ true → lockHoldsBy x foundIn e v ≡ true
+  unfolding lockHoldsBy locks lockOf holdsValue _and_
+  holds-link x e r v h f p y = rw (h, found-lookup s (triggerOf e) r f, tells-same (payloadOf r) (triggerValue e ∷ []) .1 p, y)
+
+  pub is-chain : {v : Variable} (c : Settled s v) (n : ℕ) → linksOf c ≤ n → settledIn n choiceIn foundIn v ≡ true
+  is-chain {v} (Settled.now e k h) n l = lock-settled n choiceIn foundIn v e (for-chosen k) (holds-now (next n choiceIn foundIn) e v h)
+  is-chain {v} (Settled.created e r k h f) n l = lock-settled n choiceIn foundIn v e (for-chosen k) (holds-created (next n choiceIn foundIn) e r v h f)
+  is-chain {v} (Settled.link e r k h f p c) zero l = absurd (not-suc-le-zero l)
+  is-chain {v} (Settled.link e r k h f p c) (suc n) l =
+      lock-settled (suc n) choiceIn foundIn v e (for-chosen k) (holds-link (next (suc n) choiceIn foundIn) e r v h f p (is-chain c n (le-of-suc-le-suc l)))
+
+  -- YES EXACTLY BY THIS MEANING: over sound stores and a valid record, a variable is settled exactly if there is a chain of at most 16 links
+  pub settled-exactly : SoundStores (s .nv) (s .vol) → (es : List Bytes) → HasEntries s es → (v : Variable) → Tells (isSettled s v) (SettledWithin maxLinks s v)
+  settled-exactly k es w v = (has-chain k (tells-entries s .1 (es, w)) maxLinks v, λ c. is-chain (c .0) maxLinks (c .1))
+
+  -- ---- long chains and loops
+
+  not-both : {A : Type 0} (e f : Bytes) (m n : ℕ) → e ≡ f → lockPolicyType e ≡ m → lockPolicyType f ≡ n → Not (m ≡ n) → A
+  not-both e f m n k a b d = absurd (d (sym a ∙ ap lockPolicyType k ∙ b))
+
+  -- ALL CHAINS OF A VARIABLE HAVE THE SAME NUMBER OF LINKS
+  pub one-length : {v w : Variable} → v ≡ w → (c : Settled s v) (d : Settled s w) → linksOf c ≡ linksOf d
+  one-length q (Settled.now e k h) (Settled.now f l i) = refl
+  one-length q (Settled.now e k h) (Settled.created f r l i g) = refl
+  one-length q (Settled.now e k h) (Settled.link f r l i g p d) = not-both e f 1 3 (one-chosen (subst (λ x. ChosenFor s x e) q k) l) h i (λ z. omega arith)
+  one-length q (Settled.created e r k h g) (Settled.now f l i) = refl
+  one-length q (Settled.created e r k h g) (Settled.created f x l i j) = refl
+  one-length q (Settled.created e r k h g) (Settled.link f x l i j p d) = not-both e f 2 3 (one-chosen (subst (λ y. ChosenFor s y e) q k) l) h i (λ z. omega arith)
+  one-length q (Settled.link e r k h g p c) (Settled.now f l i) = not-both e f 3 1 (one-chosen (subst (λ y. ChosenFor s y e) q k) l) h i (λ z. omega arith)
+  one-length q (Settled.link e r k h g p c) (Settled.created f x l i j) = not-both e f 3 2 (one-chosen (subst (λ y. ChosenFor s y e) q k) l) h i (λ z. omega arith)
+  one-length q (Settled.link e r k h g p c) (Settled.link f x l i j o d) =
+      ap suc (one-length (ap triggerOf (one-chosen (subst (λ y. ChosenFor s y e) q k) l)) c d)
+
+  -- A CHAIN OF MORE THAN 16 LINKS IS A NO
+  pub longer-no : SoundStores (s .nv) (s .vol) → (es : List Bytes) → HasEntries s es → {v : Variable} (c : Settled s v) → maxLinks < linksOf c → isSettled s v ≡ false
+  longer-no k es w {v} c l = off-tells _ (settled-exactly k es w v) (λ d. let m = one-length refl c (d .0) in let n = d .1 in omega arith)
+
+  -- from v a link, or links one behind the other, lead to w; what the triggers hold is not asked
+  pub data Leads : Variable → Variable → Type 0 where
+    one : {v : Variable} (e : Bytes) → ChosenFor s v e → lockPolicyType e ≡ 3 → Leads v (triggerOf e)
+    more : {v w : Variable} (e : Bytes) → ChosenFor s v e → lockPolicyType e ≡ 3 → Leads (triggerOf e) w → Leads v w
+
+  -- a link from v, behind which one comes round to w again
+  Round : Variable → Variable → Type 0
+  Round w v = (e : Bytes) × ChosenFor s v e × (lockPolicyType e ≡ 3) × Leads (triggerOf e) w
+
+  goes-round : {v w : Variable} → Leads w w → Leads v w → Round w v
+  unfolding Round
+  goes-round r (one e k h) = (e, k, h, r)
+  goes-round r (more e k h l) = (e, k, h, l)
+
+  round-no : (w : Variable) → Leads w w → {v : Variable} → Leads v w → Not (Settled s v)
+  unfolding Round
+  round-no w r l (Settled.now e k h) = let x = goes-round r l in not-both e (x .0) 1 3 (one-chosen k (x .1)) h (x .2) (λ z. omega arith)
+  round-no w r l (Settled.created e q k h f) = let x = goes-round r l in not-both e (x .0) 2 3 (one-chosen k (x .1)) h (x .2) (λ z. omega arith)
+  round-no w r l (Settled.link e q k h f p c) =
+      let x = goes-round r l in
+      round-no w r (subst⁻¹ (λ y. Leads (triggerOf y) w) (one-chosen k (x .1)) (x .3)) c
+
+  -- A LOOP IS A NO: so no variable from which links lead back to itself is settled, and none that leads to such a one
+  pub loop-no : SoundStores (s .nv) (s .vol) → (es : List Bytes) → HasEntries s es → (v w : Variable) → Leads w w → Leads v w → isSettled s v ≡ false
+  loop-no k es e v w r l = off-tells _ (settled-exactly k es e v) (λ c. round-no w r l (c .0))
 
 -- ---- what the answer depends on
 
@@ -121,131 +248,3 @@ module _ (choice : Choice) (f g : Lookup) (kept : (m : ℕ) (u : Variable) → s
   pub settled-moves : (n : ℕ) (v : Variable) → settledIn n choice f v ≡ true → settledIn n choice g v ≡ true
   settled-moves zero v h = moves-by 0 (λ u k. absurd (false≢true k)) v h
   settled-moves (suc n) v h = moves-by (suc n) (λ u k. (kept n u k, settled-moves n u k)) v h
-
--- ---- the choice in propositions
-module _ (s : State) where
-  abbrev choice : Choice
-  choice = chosen (entriesOf (s .policy))
-
-  abbrev found : Lookup
-  found = lookup (s .nv) (s .vol)
-
-  pub for-chosen : {v : Variable} {e : Bytes} → ChosenFor s v e → choice v ≡ some e
-  for-chosen {v} {e} w = subst (λ x. chosen x v ≡ some e) (entries-read s (w .entries) (w .listed)) (is-chosen (w .entries) v e (w .choice))
-
-  pub chosen-for : policyValid (s .policy) ≡ true → {v : Variable} {e : Bytes} → choice v ≡ some e → ChosenFor s v e
-  chosen-for p {v} {e} c = record { entries = entriesOf (s .policy); listed = valid-entries s p; choice = chosen-is (entriesOf (s .policy)) v e c }
-
-  one-chosen : {v : Variable} {e f : Bytes} → ChosenFor s v e → ChosenFor s v f → e ≡ f
-  one-chosen {v} {e} {f} a b = let k : some e ≡ some f = sym (for-chosen a) ∙ for-chosen b in cc
-
-  pub chosen-formed : {v : Variable} {e : Bytes} → ChosenFor s v e → wellFormed e ≡ true
-  chosen-formed {v} {e} w =
-      all-among (w .entries) (w .listed .formed) e (subst⁻¹ (Among e) (w .choice .place) (among-middle (w .choice .before) e (w .choice .after)))
-
-  -- ---- a chain, from the functions
-
-  -- of type 3 a lock rests on its trigger
-  rests-3 : (e : Bytes) (b : Bool) → lockPolicyType e ≡ 3 → restsOn (lockOf e) b ≡ b
-  unfolding lockOf
-  rests-3 e b h = rw h
-
-  -- what a lock that holds shows
-  lock-shows : SoundStores (s .nv) (s .vol) → (A : Type 0) (x : Variable → Bool) {v : Variable} (e : Bytes) → ChosenFor s v e → lockHoldsBy x found e v ≡ true
-      → (lockPolicyType e ≡ 1 → A) → ((r : Bytes) → lockPolicyType e ≡ 2 → RecordOf s v r → A)
-      → ((r : Bytes) → lockPolicyType e ≡ 3 → RecordOf s (triggerOf e) r → payloadOf r ≡ triggerValue e ∷ [] → x (triggerOf e) ≡ true → A) → A
-  unfolding lockHoldsBy
-  lock-shows k A x {v} e c h one two three = go (tells-locks s k e (chosen-formed c) v .0 (and-left _ _ h))
-    where
-      go : Locks s e v → A
-      go (Locks.now t) = one t
-      go (Locks.onCreate r t f) = two r t f
-      go (Locks.onVarState r t f p) = three r t f p (sym (rests-3 e (x (triggerOf e)) t) ∙ and-right (locks e found v) _ h)
-
-  module _ (k : SoundStores (s .nv) (s .vol)) (p : policyValid (s .policy) ≡ true) where
-    chain-by : (n : ℕ) → ((u : Variable) → next n choice found u ≡ true → (c : Settled s u) × (suc (linksOf c) ≤ n)) → (v : Variable) → settledIn n choice found v ≡ true → SettledWithin n s v
-    chain-by n below v h =
-        let w = settled-lock n choice found v h in
-        let c = chosen-for p (w .1) in
-        lock-shows k (SettledWithin n s v) (next n choice found) (w .0) c (w .2)
-        (λ t. (Settled.now (w .0) c t, zero-le))
-        (λ r t f. (Settled.created (w .0) r c t f, zero-le))
-        (λ r t f q x. let z = below (triggerOf (w .0)) x in (Settled.link (w .0) r c t f q (z .0), z .1))
-
-    has-chain : (n : ℕ) (v : Variable) → settledIn n choice found v ≡ true → SettledWithin n s v
-    has-chain zero v h = chain-by 0 (λ u x. absurd (false≢true x)) v h
-    has-chain (suc n) v h = chain-by (suc n) (λ u x. let z = has-chain n u x in (z .0, suc-le-suc (z .1))) v h
-
-  -- ---- the functions, from a chain
-
-  holds-now : (x : Variable → Bool) (e : Bytes) (v : Variable) → lockPolicyType e ≡ 1 → lockHoldsBy x found e v ≡ true
-  unfolding lockHoldsBy locks lockOf _and_
-  holds-now x e v h = rw h
-
-  holds-created : (x : Variable → Bool) (e r : Bytes) (v : Variable) → lockPolicyType e ≡ 2 → RecordOf s v r → lockHoldsBy x found e v ≡ true
-  unfolding lockHoldsBy locks lockOf exists _and_
-  holds-created x e r v h f = rw (h, found-lookup s v r f)
-
-  holds-link : (x : Variable → Bool) (e r : Bytes) (v : Variable) → lockPolicyType e ≡ 3 → RecordOf s (triggerOf e) r → payloadOf r ≡ triggerValue e ∷ []
-      → x (triggerOf e) ≡ true → lockHoldsBy x found e v ≡ true
-  unfolding lockHoldsBy locks lockOf holdsValue _and_
-  holds-link x e r v h f p y = rw (h, found-lookup s (triggerOf e) r f, tells-same (payloadOf r) (triggerValue e ∷ []) .1 p, y)
-
-  pub is-chain : {v : Variable} (c : Settled s v) (n : ℕ) → linksOf c ≤ n → settledIn n choice found v ≡ true
-  is-chain {v} (Settled.now e k h) n l = lock-settled n choice found v e (for-chosen k) (holds-now (next n choice found) e v h)
-  is-chain {v} (Settled.created e r k h f) n l = lock-settled n choice found v e (for-chosen k) (holds-created (next n choice found) e r v h f)
-  is-chain {v} (Settled.link e r k h f p c) zero l = absurd (not-suc-le-zero l)
-  is-chain {v} (Settled.link e r k h f p c) (suc n) l =
-      lock-settled (suc n) choice found v e (for-chosen k) (holds-link (next (suc n) choice found) e r v h f p (is-chain c n (le-of-suc-le-suc l)))
-
-  -- YES EXACTLY BY THIS MEANING: over sound stores and a valid record, a variable is settled exactly if there is a chain of at most 16 links
-  pub settled-exactly : SoundStores (s .nv) (s .vol) → (es : List Bytes) → HasEntries s es → (v : Variable) → Tells (isSettled s v) (SettledWithin maxLinks s v)
-  settled-exactly k es w v = (has-chain k (tells-entries s .1 (es, w)) maxLinks v, λ c. is-chain (c .0) maxLinks (c .1))
-
-  -- ---- long chains and loops
-
-  not-both : {A : Type 0} (e f : Bytes) (m n : ℕ) → e ≡ f → lockPolicyType e ≡ m → lockPolicyType f ≡ n → Not (m ≡ n) → A
-  not-both e f m n k a b d = absurd (d (sym a ∙ ap lockPolicyType k ∙ b))
-
-  -- ALL CHAINS OF A VARIABLE HAVE THE SAME NUMBER OF LINKS
-  pub one-length : {v w : Variable} → v ≡ w → (c : Settled s v) (d : Settled s w) → linksOf c ≡ linksOf d
-  one-length q (Settled.now e k h) (Settled.now f l i) = refl
-  one-length q (Settled.now e k h) (Settled.created f r l i g) = refl
-  one-length q (Settled.now e k h) (Settled.link f r l i g p d) = not-both e f 1 3 (one-chosen (subst (λ x. ChosenFor s x e) q k) l) h i (λ z. omega arith)
-  one-length q (Settled.created e r k h g) (Settled.now f l i) = refl
-  one-length q (Settled.created e r k h g) (Settled.created f x l i j) = refl
-  one-length q (Settled.created e r k h g) (Settled.link f x l i j p d) = not-both e f 2 3 (one-chosen (subst (λ y. ChosenFor s y e) q k) l) h i (λ z. omega arith)
-  one-length q (Settled.link e r k h g p c) (Settled.now f l i) = not-both e f 3 1 (one-chosen (subst (λ y. ChosenFor s y e) q k) l) h i (λ z. omega arith)
-  one-length q (Settled.link e r k h g p c) (Settled.created f x l i j) = not-both e f 3 2 (one-chosen (subst (λ y. ChosenFor s y e) q k) l) h i (λ z. omega arith)
-  one-length q (Settled.link e r k h g p c) (Settled.link f x l i j o d) =
-      ap suc (one-length (ap triggerOf (one-chosen (subst (λ y. ChosenFor s y e) q k) l)) c d)
-
-  -- A CHAIN OF MORE THAN 16 LINKS IS A NO
-  pub longer-no : SoundStores (s .nv) (s .vol) → (es : List Bytes) → HasEntries s es → {v : Variable} (c : Settled s v) → maxLinks < linksOf c → isSettled s v ≡ false
-  longer-no k es w {v} c l = off-tells _ (settled-exactly k es w v) (λ d. let m = one-length refl c (d .0) in let n = d .1 in omega arith)
-
-  -- from v a link, or links one behind the other, lead to w; what the triggers hold is not asked
-  pub data Leads : Variable → Variable → Type 0 where
-    one : {v : Variable} (e : Bytes) → ChosenFor s v e → lockPolicyType e ≡ 3 → Leads v (triggerOf e)
-    more : {v w : Variable} (e : Bytes) → ChosenFor s v e → lockPolicyType e ≡ 3 → Leads (triggerOf e) w → Leads v w
-
-  -- a link from v, behind which one comes round to w again
-  Round : Variable → Variable → Type 0
-  Round w v = (e : Bytes) × ChosenFor s v e × (lockPolicyType e ≡ 3) × Leads (triggerOf e) w
-
-  goes-round : {v w : Variable} → Leads w w → Leads v w → Round w v
-  unfolding Round
-  goes-round r (one e k h) = (e, k, h, r)
-  goes-round r (more e k h l) = (e, k, h, l)
-
-  round-no : (w : Variable) → Leads w w → {v : Variable} → Leads v w → Not (Settled s v)
-  unfolding Round
-  round-no w r l (Settled.now e k h) = let x = goes-round r l in not-both e (x .0) 1 3 (one-chosen k (x .1)) h (x .2) (λ z. omega arith)
-  round-no w r l (Settled.created e q k h f) = let x = goes-round r l in not-both e (x .0) 2 3 (one-chosen k (x .1)) h (x .2) (λ z. omega arith)
-  round-no w r l (Settled.link e q k h f p c) =
-      let x = goes-round r l in
-      round-no w r (subst⁻¹ (λ y. Leads (triggerOf y) w) (one-chosen k (x .1)) (x .3)) c
-
-  -- A LOOP IS A NO: so no variable from which links lead back to itself is settled, and none that leads to such a one
-  pub loop-no : SoundStores (s .nv) (s .vol) → (es : List Bytes) → HasEntries s es → (v w : Variable) → Leads w w → Leads v w → isSettled s v ≡ false
-  loop-no k es e v w r l = off-tells _ (settled-exactly k es e v) (λ c. round-no w r l (c .0))

@@ -1,23 +1,21 @@
 -- HOW LONG A LOCK LASTS (RULES.md, 12.9), one call: with the engine enabled and locked, no call but a granted start changes, creates or deletes a settled variable, and it
 -- stays settled (`settled-lasts`). Over a list of calls: HowLong.antt in `demand3`. Assumes nothing.
 use Prim.Native.Nat.{ℕ, _<_}
-use mathlib.Core.Path.{_≡_, refl, sym, ap, subst, subst⁻¹, _∙_}
+use mathlib.Core.Path.{_≡_, refl, sym, ap, subst⁻¹, _∙_}
 use mathlib.Core.List.{[]}
-use mathlib.Core.Bool.{Bool, true, false, cond, true≢false, false≢true}
-use mathlib.Core.Option.{none, some}
+use mathlib.Core.Bool.{Bool, true, false, cond, true≢false}
+use mathlib.Core.Option.{none}
 use mathlib.Core.Logic.{_↔_}
 use native.Mathlib.Omega.{arith}
 use lib.Dec.{lit<}
 use Rattle.limits.specs.Limits.{maxLinks}
 use Rattle.slices.specs.Test.{_and_}
-use Rattle.slices.specs.TestLaws.{and-left, and-right, and-intro}
 use Rattle.slices.specs.Bytes.{Bytes}
 use Rattle.names.specs.Name.{Variable, named}
 use Rattle.policy.specs.Policy.{entriesOf, policyValid}
 use Rattle.policy.specs.Choice.{chosen}
 use Rattle.stores.specs.Pair.{sound, lookup}
-use Rattle.status.specs.declared.Status.{Status}
-use Rattle.status.specs.declared.Status.the-variants.{Success, InvalidParameter, Unsupported, WriteProtected, VolumeCorrupted, AlreadyStarted}
+use Rattle.status.specs.declared.Status.the-variants.{Success, InvalidParameter, Unsupported, WriteProtected, VolumeCorrupted}
 use Rattle.status.specs.Status.{isSuccess}
 use Rattle.status.specs.StatusLaws.{success-only}
 use Rattle.rules.specs.Set.{Request}
@@ -26,7 +24,7 @@ use Rattle.rules.specs.Engine.{State, Call, Answer, decisionBy, settledS
 use Rattle.rules.specs.Engine.Call.{powerOn, restart, register, dump, lock, disable, exit, query, read, set, settled}
 use Rattle.rules.specs.EngineLaws.{step-status, refused-changes-nothing, granted-effect}
 use Rattle.rules.specs.StateLaws.{register-passed}
-use Rattle.rules.specs.Grounds.{Not, SoundStores, RecordOf, Enforced, Applies, Answers}
+use Rattle.rules.specs.Grounds.{Not, RecordOf, Enforced, Applies, Answers}
 use Rattle.rules.specs.Grounds.Applies.{setLocked, setDeleted, setEmptyAppend, setDone}
 use Rattle.rules.specs.FoundLaws.{tells-sound}
 use Rattle.rules.specs.SetGroundsLaws.{chosenEntry, tells-locks}

@@ -1,7 +1,6 @@
 -- What each return of the two functions says, by what the code found. Assumes nothing.
-use Prim.Native.Nat.{ℕ, zero, suc, _+_, _-_, _≤_, _<_}
+use Prim.Native.Nat.{ℕ, zero, suc, _+_, _-_, _≤_}
 use mathlib.Core.Path.{_≡_, refl, sym, ap, ap₂, _∙_}
-use mathlib.Core.List.{List}
 use mathlib.Core.Bool.{Bool, true, false, cond}
 use mathlib.Core.Option.{none, some}
 use native.Mathlib.Omega.{arith}
@@ -13,12 +12,12 @@ use Rattle.slices.specs.Test.{_and_}
 use Rattle.slices.specs.TestLaws.{and-no, and-yes}
 use Rattle.slices.specs.Bytes.{Bytes, part}
 use Rattle.names.specs.Name.{Variable, variable}
-use Rattle.entry.specs.Entry.{lockOf, lockPolicyType, offsetToName, triggerOf, wellFormed}
+use Rattle.entry.specs.Entry.{lockOf, lockPolicyType, triggerOf, wellFormed}
 use Rattle.entry.specs.EntryLaws.{sized, trigger-least}
 use Rattle.entry.specs.declared.Trigger.{Trigger}
 use Rattle.entry.specs.declared.LockRule.{LockRule}
 use Rattle.entry.specs.declared.LockRule.the-variants.{NoLock, LockNow, LockOnCreate, LockOnVarState}
-use Rattle.rules.specs.Set.{Lookup, exists, holdsValue, ruleLocks, locks}
+use Rattle.rules.specs.Set.{Lookup, exists, holdsValue, ruleLocks}
 use Rattle.rules.specs.Settled.{Choice, restsOn, lockHoldsBy, lockHoldsIn, settledIn, settled-asks}
 use Rattle.rules.specs.SettledLaws.{next, lock-is}
 use Rattle.set.proofs.LockRules.{triggerIn, rule-trigger, rule-locks, trigger-locks}

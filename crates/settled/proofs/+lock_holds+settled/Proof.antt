@@ -2,12 +2,9 @@
 -- each call, also at the one that keeps the links. Each return is one law of Links.antt. Assumes nothing.
 use Prim.Native.Nat.{ℕ, _+_, _-_, _*_, _<_}
 use mathlib.Core.Path.{_≡_, sym, _∙_}
-use mathlib.Core.Bool.{true}
 use native.Mathlib.Omega.{arith}
 use borrow.Author.Needs.{needs}
 use borrow.Author.Tests.{not-true, not-false}
-use lib.ListN.{length}
-use Rattle.slices.specs.Bytes.{Bytes}
 use Rattle.names.specs.Name.{Variable, variable}
 use Rattle.policy.specs.Policy.{entriesOf}
 use Rattle.policy.specs.Choice.{chosen, choiceOf}
