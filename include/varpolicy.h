@@ -42,9 +42,9 @@
   something else. E10 gave the switches a fourth byte, and so every function that is lent them, is given
   them or hands them back another name; varpolicy_dump and varpolicy_read are given them since.
 
-  Stack: the deepest call, varpolicy_set, takes 9,464 bytes with its return address (read off the
-  machine code); read, restart and power-on take nearly as much. The red zone and what memcpy, memmove
-  and memset take come on top.
+  Stack: the deepest call, varpolicy_set, takes 9,528 bytes with its return address (read off the
+  machine code); settled, read, restart and power-on take nearly as much. The red zone and what memcpy,
+  memmove and memset take come on top.
 
   SPDX-License-Identifier: BSD-2-Clause-Patent
 **/
@@ -119,6 +119,7 @@ extern "C" {
 #define VARPOLICY_MAX_NAME_UNITS  64U    /* 16-bit units of a name */
 #define VARPOLICY_MAX_NAME_BYTES  128U   /* bytes of a name without a closing zero: two for each unit */
 #define VARPOLICY_NAMESPACE_BYTES 16U    /* bytes of a namespace, as an EFI_GUID lies in memory */
+#define VARPOLICY_MAX_LINKS       16U    /* links from a settled variable to the last trigger */
 #define VARPOLICY_MAX_PIECE       4096U  /* bytes of a piece that a reader is fed */
 #define VARPOLICY_READER_BYTES    18438U /* bytes of a reader */
 
@@ -162,6 +163,12 @@ typedef struct {
   size_t   offset;       /* of the payload's first byte in that store */
   size_t   length;       /* of the payload */
 } varpolicy_found;
+
+/** What varpolicy_settled answers. **/
+typedef struct {
+  uint32_t status;
+  bool     settled; /* the variable is settled */
+} varpolicy_lock_state;
 
 /**
   The report of a set: why the chosen entry refused it. Without a ground every number is 0: the set
@@ -521,9 +528,55 @@ varpolicy_set (
   );
 
 /**
+  Tells whether a variable is settled: its lock holds, and depends on nothing that may still change.
+
+  It is settled if the entry chosen for it, as in varpolicy_set, is of type
+
+  - VARPOLICY_TYPE_LOCK_NOW; or
+  - VARPOLICY_TYPE_LOCK_ON_CREATE, and the variable exists; or
+  - VARPOLICY_TYPE_LOCK_ON_VAR_STATE, and the trigger exists with a payload of one byte, which is Value, and is
+    settled in turn.
+
+  From a variable to its trigger is a link, and at most VARPOLICY_MAX_LINKS are followed. Where triggers come
+  round in a loop, or the chain is longer, the answer is no.
+
+  What a yes is worth: while the engine is enabled and locked, no call but a granted varpolicy_power_on or
+  varpolicy_restart changes, creates or deletes the variable, and the answer stays yes. The switches are not
+  asked: an engine that is disabled, unlocked or has exited answers alike, but while it is not enabled and
+  locked a yes promises nothing. A no does not mean that a set is granted: the variable may be locked for now.
+
+  @param[in] nv                  The non-volatile store.
+  @param[in] nv_len              Its length.
+  @param[in] vol                 The volatile store.
+  @param[in] vol_len             Its length.
+  @param[in] policy              The policy record.
+  @param[in] policy_len          Its length.
+  @param[in] variable_namespace  The 16 bytes of the variable's namespace.
+  @param[in] name                The bytes of the 16-bit units of its name, without a closing zero.
+  @param[in] name_len            How many bytes: two for each unit.
+
+  @retval VARPOLICY_VOLUME_CORRUPTED   The stores are unsound, or the policy record is bad, as in
+                                       varpolicy_register.
+  @retval VARPOLICY_INVALID_PARAMETER  The name is not 1 to 64 units, none of them zero, or name_len is odd.
+  @retval VARPOLICY_SUCCESS            The answer is in settled. A variable need not exist to be settled.
+**/
+VARPOLICY_CALL varpolicy_lock_state
+varpolicy_settled (
+  const uint8_t *nv,
+  size_t         nv_len,
+  const uint8_t *vol,
+  size_t         vol_len,
+  const uint8_t *policy,
+  size_t         policy_len,
+  const uint8_t  variable_namespace[VARPOLICY_NAMESPACE_BYTES],
+  const uint8_t *name,
+  size_t         name_len
+  );
+
+/**
   Tells whether two entries of a dump quarrel: they have the same rank, and some variable, stored or not,
   is targeted by both. Unless an entry of lower rank targets it too, the one registered first speaks for
-  it. An engine may be rebuilt in every order exactly if no two entries of its dump quarrel. To settle a
+  it. An engine may be rebuilt in every order exactly if no two entries of its dump quarrel. To end a
   quarrel, put a hex digit in the place of a '#' in one of the two names. The rank is how many '#' a name
   has; entries for a whole namespace quarrel with none.
 

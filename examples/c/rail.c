@@ -1,7 +1,8 @@
 /** @file
   A rail that is locked while the variable "RailLock" holds 0, and that is to be non-volatile. An absent
   "RailLock" locks nothing, so the bring-up script can turn the rail down to 1.8 V; once "RailLock" holds
-  0, nobody turns it up again. The report of a refused set tells why. This is C and C++.
+  0, nobody turns it up again. The report of a refused set tells why. "RailLock" can be written once, so
+  that the rail is then not only locked but settled. This is C and C++.
 
   SPDX-License-Identifier: BSD-2-Clause-Patent
 **/
@@ -16,6 +17,7 @@ static_assert(sizeof(varpolicy_started) == 8, "layout of a start's answer");
 static_assert(sizeof(varpolicy_dumped) == 16, "layout of a dump's answer");
 static_assert(sizeof(varpolicy_state) == 8, "layout of a query's answer");
 static_assert(sizeof(varpolicy_found) == 32, "layout of a read's answer");
+static_assert(sizeof(varpolicy_lock_state) == 8, "layout of the answer to whether a variable is settled");
 static_assert(sizeof(varpolicy_report) == 24, "layout of a set's report");
 static_assert(sizeof(varpolicy_written) == 28, "layout of a set's answer");
 
@@ -39,23 +41,56 @@ static void put_name(uint8_t *entry, size_t *at, const uint8_t *name, size_t len
   *at += length + 2;
 }
 
-/* Packs an entry of type 3: "Rail" requires NV and is locked while "RailLock" holds 0. Answers its length. */
-static size_t pack_entry(uint8_t entry[VARPOLICY_MAX_ENTRY_SIZE]) {
-  size_t at = 44;
-
+/* Begins an entry of a lock type, with any size and attributes. */
+static void begin_entry(uint8_t entry[VARPOLICY_MAX_ENTRY_SIZE], uint8_t lock_type) {
   memset(entry, 0, VARPOLICY_MAX_ENTRY_SIZE);
-  entry[2] = 1;                                  /* Version 0x00010000 */
-  memcpy(entry + 8, Board, sizeof Board);        /* Namespace */
-  memset(entry + 28, 0xFF, 4);                   /* MaxSize */
-  entry[32] = VARPOLICY_ATTRIBUTE_NV;            /* AttributesMustHave */
-  entry[40] = VARPOLICY_TYPE_LOCK_ON_VAR_STATE;  /* LockPolicyType */
-  memcpy(entry + at, Board, sizeof Board);       /* the trigger's Namespace; its Value is 0 */
+  entry[2] = 1;                           /* Version 0x00010000 */
+  memcpy(entry + 8, Board, sizeof Board); /* Namespace */
+  memset(entry + 28, 0xFF, 4);            /* MaxSize */
+  entry[40] = lock_type;                  /* LockPolicyType */
+}
+
+/* Ends an entry with its name at `at`, and answers its length. */
+static size_t end_entry(uint8_t *entry, size_t at, const uint8_t *name, size_t length) {
+  entry[6] = (uint8_t)at; /* OffsetToName */
+  put_name(entry, &at, name, length);
+  entry[4] = (uint8_t)at; /* Size */
+  return at;
+}
+
+/* Packs an entry of type 3: "Rail" requires NV and is locked while "RailLock" holds 0. Answers its length. */
+static size_t pack_rail(uint8_t entry[VARPOLICY_MAX_ENTRY_SIZE]) {
+  size_t at = VARPOLICY_MIN_ENTRY_SIZE;
+
+  begin_entry(entry, VARPOLICY_TYPE_LOCK_ON_VAR_STATE);
+  entry[32] = VARPOLICY_ATTRIBUTE_NV;      /* AttributesMustHave */
+  memcpy(entry + at, Board, sizeof Board); /* the trigger's Namespace; its Value is 0 */
   at += sizeof Board + 2;
   put_name(entry, &at, RailLock, sizeof RailLock);
-  entry[6] = (uint8_t)at;                        /* OffsetToName */
-  put_name(entry, &at, Rail, sizeof Rail);
-  entry[4] = (uint8_t)at;                        /* Size */
-  return at;
+  return end_entry(entry, at, Rail, sizeof Rail);
+}
+
+/* Packs an entry of type 2: "RailLock" is locked once it exists. Answers its length. */
+static size_t pack_rail_lock(uint8_t entry[VARPOLICY_MAX_ENTRY_SIZE]) {
+  begin_entry(entry, VARPOLICY_TYPE_LOCK_ON_CREATE);
+  return end_entry(entry, VARPOLICY_MIN_ENTRY_SIZE, RailLock, sizeof RailLock);
+}
+
+/* Powers the engine on, registers both entries and locks it. */
+static bool start(void) {
+  uint8_t           entry[VARPOLICY_MAX_ENTRY_SIZE];
+  size_t            size    = pack_rail(entry);
+  varpolicy_started started = varpolicy_power_on(NonVolatile, sizeof NonVolatile, Volatile, sizeof Volatile, Policy,
+                                                 sizeof Policy, 0);
+
+  Switches = started.switches;
+  if (started.status != VARPOLICY_SUCCESS ||
+      varpolicy_register(Policy, sizeof Policy, Switches, entry, size) != VARPOLICY_SUCCESS) {
+    return false;
+  }
+  size = pack_rail_lock(entry);
+  return varpolicy_register(Policy, sizeof Policy, Switches, entry, size) == VARPOLICY_SUCCESS &&
+         varpolicy_lock(&Switches) == VARPOLICY_SUCCESS;
 }
 
 static varpolicy_written set(const uint8_t *name, size_t name_len, uint32_t attributes, const char *payload,
@@ -88,19 +123,21 @@ static uint32_t set_rail(const char *volts, uint32_t attributes) {
   return written.status;
 }
 
+/* Tells whether the rail is settled: with the engine enabled and locked, a yes lasts until the next start. */
+static bool rail_is_settled(void) {
+  varpolicy_lock_state state = varpolicy_settled(NonVolatile, sizeof NonVolatile, Volatile, sizeof Volatile, Policy,
+                                                 sizeof Policy, Board, Rail, sizeof Rail);
+
+  printf("is the rail settled: status %u, %s\n", (unsigned)state.status, state.settled ? "yes" : "no");
+  return state.settled;
+}
+
 int main(void) {
-  const uint32_t    kept = VARPOLICY_ATTRIBUTE_NV | VARPOLICY_ATTRIBUTE_BS;
-  uint8_t           entry[VARPOLICY_MAX_ENTRY_SIZE];
-  size_t            size = pack_entry(entry);
-  varpolicy_started started;
-  varpolicy_found   found;
+  const uint32_t  kept = VARPOLICY_ATTRIBUTE_NV | VARPOLICY_ATTRIBUTE_BS;
+  varpolicy_found found;
 
   memset(NonVolatile, 0xFF, sizeof NonVolatile);
-  started  = varpolicy_power_on(NonVolatile, sizeof NonVolatile, Volatile, sizeof Volatile, Policy, sizeof Policy, 0);
-  Switches = started.switches;
-  if (started.status != VARPOLICY_SUCCESS ||
-      varpolicy_register(Policy, sizeof Policy, Switches, entry, size) != VARPOLICY_SUCCESS ||
-      varpolicy_lock(&Switches) != VARPOLICY_SUCCESS) {
+  if (!start() || rail_is_settled()) {
     return 1;
   }
   if (set_rail("3.3 V", kept) != VARPOLICY_SUCCESS || set_rail("1.8 V", kept) != VARPOLICY_SUCCESS) {
@@ -113,7 +150,7 @@ int main(void) {
     return 1;
   }
   puts("RailLock holds 0");
-  if (set_rail("3.3 V", kept) != VARPOLICY_WRITE_PROTECTED) {
+  if (!rail_is_settled() || set_rail("3.3 V", kept) != VARPOLICY_WRITE_PROTECTED) {
     return 1;
   }
   found = varpolicy_read(NonVolatile, sizeof NonVolatile, Volatile, sizeof Volatile, Switches, Board, Rail,

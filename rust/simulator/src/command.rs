@@ -19,6 +19,7 @@ pub enum Command {
     Set { namespace: Namespace, name: Vec<u8>, attributes: Attributes, payload: Vec<u8> },
     Delete { namespace: Namespace, name: Vec<u8> },
     Read { namespace: Namespace, name: Vec<u8> },
+    Settled { namespace: Namespace, name: Vec<u8> },
     Dump { buffer: usize },
     Quarrels(DumpOf),
     StartReader,
@@ -93,8 +94,9 @@ impl<'a> Words<'a> {
     }
 }
 
-const COMMANDS: &str = "namespace, stores, power-on, restart, register, set, append, delete, read, dump, quarrels, \
-                        start-reader, feed, feed-dump, list, lock, disable, exit, state, rebuild, poke or note";
+const COMMANDS: &str = "namespace, stores, power-on, restart, register, set, append, delete, read, settled, dump, \
+                        quarrels, start-reader, feed, feed-dump, list, lock, disable, exit, state, rebuild, poke or \
+                        note";
 const NAMESPACE: &str = "a namespace (an alias, a GUID or 32 hex digits)";
 const NAME: &str = "a name in quotes (or hex:DIGITS)";
 const ENTRY_NAME: &str = "a name of at most 64 units in quotes";
@@ -126,14 +128,9 @@ impl Parser {
             "register" => Command::Register { entry: self.entry(&mut words)? },
             "set" => self.set(&mut words, Attributes::NONE)?,
             "append" => self.set(&mut words, Attributes::APPEND)?,
-            "delete" => {
-                let (namespace, name) = self.variable(&mut words)?;
-                Command::Delete { namespace, name }
-            }
-            "read" => {
-                let (namespace, name) = self.variable(&mut words)?;
-                Command::Read { namespace, name }
-            }
+            "delete" => self.named(&mut words, |namespace, name| Command::Delete { namespace, name })?,
+            "read" => self.named(&mut words, |namespace, name| Command::Read { namespace, name })?,
+            "settled" => self.named(&mut words, |namespace, name| Command::Settled { namespace, name })?,
             "dump" => Command::Dump { buffer: buffer_len(&mut words)? },
             "quarrels" => Command::Quarrels(dump_of(&mut words)?),
             "start-reader" => Command::StartReader,
@@ -169,6 +166,12 @@ impl Parser {
     fn variable(&self, words: &mut Words) -> Result<(Namespace, Vec<u8>), Expected> {
         let namespace = words.read(NAMESPACE, |word| self.namespace(word))?;
         Ok((namespace, words.read(NAME, name)?))
+    }
+
+    /// A command of which a variable is all that is given.
+    fn named(&self, words: &mut Words, command: fn(Namespace, Vec<u8>) -> Command) -> Result<Command, Expected> {
+        let (namespace, name) = self.variable(words)?;
+        Ok(command(namespace, name))
     }
 
     fn set(&self, words: &mut Words, append: Attributes) -> Result<Command, Expected> {

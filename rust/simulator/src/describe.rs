@@ -102,16 +102,23 @@ fn entry(entry: &Entry, namespaces: &BTreeMap<String, Namespace>) -> String {
             line += &format!(" {key}={attributes}");
         }
     }
-    match &entry.lock {
-        Lock::No => {}
-        Lock::Now => line += " lock=now",
-        Lock::OnCreate => line += " lock=on-create",
-        Lock::OnVarState { namespace: space, name: trigger, value } => {
-            let (space, trigger) = (namespace(space, namespaces), name(trigger));
-            line += &format!(" lock=on-state trigger={space}:{trigger} value={value:02X}");
-        }
+    if entry.lock != Lock::No {
+        line += &format!(" {}", lock(&entry.lock, namespaces));
     }
     line
+}
+
+/// A lock, with its trigger and its value if it has them.
+pub fn lock(lock: &Lock, namespaces: &BTreeMap<String, Namespace>) -> String {
+    match lock {
+        Lock::No => "lock=no".to_string(),
+        Lock::Now => "lock=now".to_string(),
+        Lock::OnCreate => "lock=on-create".to_string(),
+        Lock::OnVarState { namespace: space, name: trigger, value } => {
+            let (space, trigger) = (namespace(space, namespaces), name(trigger));
+            format!("lock=on-state trigger={space}:{trigger} value={value:02X}")
+        }
+    }
 }
 
 /// A variable, or what an entry targets: the namespace, and the name in quotes or `*` for none.

@@ -41,6 +41,9 @@ Reads a history from FILE or standard input, one call to a line:
   set NAMESPACE NAME ATTRIBUTES [PAYLOAD]
   append NAMESPACE NAME ATTRIBUTES [PAYLOAD]
   delete NAMESPACE NAME                read NAMESPACE NAME
+  settled NAMESPACE NAME               whether the variable's lock holds and hangs on nothing that may still
+                                       change; then a line for each variable from it over triggers, with
+                                       its chosen entry, and one that says why yes or why no
   dump [BUFFER-BYTES]                  lock, disable, state
   exit                                 the operating system starts, and boot services are gone
   rebuild [reverse | PLACES]           restart, then the entries of a dump again, in order or as told
@@ -75,6 +78,10 @@ Reads a history from FILE or standard input, one call to a line:
 A refused call tells why. A refused set, append or delete begins with the step of docs/RULES.md, 10.9, and
 at step 4 names the entry, by its place in a dump and its name. A set without APPEND that has no payload, or
 neither BS nor RT, is a deletion, and its line says so.
+
+A variable is settled if its entry locks now; or locks on create, and the variable exists; or locks on the state
+of a trigger, which holds the value and is settled in turn, over at most 16 triggers. While the engine is enabled
+and locked, nothing but a start changes, creates or deletes it; where the engine is not, a line says so.
 
 After exit, until the next power-on or restart, register, dump, lock, disable and a second exit are refused, and
 with dump the lines quarrels and feed-dump that need one; reads show variables with RT alone; a set needs NV, BS

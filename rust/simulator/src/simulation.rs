@@ -2,11 +2,11 @@
 
 use crate::command::{Command, DumpOf, Expected, Order, Part};
 use crate::reading::Reading;
-use crate::reason::{self, Refusal};
+use crate::reason::{self, Chains, Refusal};
 use crate::{describe, quarrel};
 use std::collections::BTreeMap;
 use std::fmt::Display;
-use varpolicy::calls::{self, Request, Started};
+use varpolicy::calls::{self, LockState, Request, Started};
 use varpolicy::{Attributes, Namespace, POLICY_BYTES, Quarrel, Status, SwitchBytes, Switches};
 
 /// The four parts of `docs/RULES.md`, 1.2; and what is none of the engine's: a dump that is complete, if there is one,
@@ -83,6 +83,7 @@ impl Simulation {
                 self.set(Request { namespace: &namespace, name: &name, attributes, payload }, "SUCCESS", namespaces)
             }
             Command::Read { namespace, name } => self.read(&namespace, &name),
+            Command::Settled { namespace, name } => self.settled(&namespace, &name, namespaces),
             Command::Dump { buffer } => self.dump(buffer, namespaces),
             Command::Quarrels(DumpOf::Given(bytes)) => quarrels(&bytes, namespaces),
             Command::Quarrels(DumpOf::Engine) => match self.complete_dump() {
@@ -155,6 +156,19 @@ impl Simulation {
             Status::Success => format!("SUCCESS {}, {}", found.attributes, describe::payload(found.payload)),
             refused => answered(refused, |status| reason::read(status, &self.nv, &self.volatile, namespace, name)),
         }
+    }
+
+    /// Whether a variable is settled, and a line for each variable of its chain.
+    fn settled(&self, namespace: &Namespace, name: &[u8], namespaces: &BTreeMap<String, Namespace>) -> String {
+        let Simulation { nv, volatile, policy, .. } = self;
+        let LockState { status, settled } = calls::settled(nv, volatile, policy, namespace, name);
+        if status != Status::Success {
+            return format!("{status} {}", reason::settled(status, nv, volatile, name));
+        }
+        let chain = Chains { nv, volatile, policy, namespaces }.lines(namespace, name, settled);
+        let lasts = reason::lasts(self.switches.into()).filter(|_| settled);
+        let told = format!("{status} {}", reason::yes_or_no(settled));
+        chain.into_iter().chain(lasts).fold(told, |told, line| format!("{told}\n    {line}"))
     }
 
     fn dump(&mut self, buffer: usize, namespaces: &BTreeMap<String, Namespace>) -> String {

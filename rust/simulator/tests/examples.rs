@@ -30,7 +30,7 @@ fn examples_print_what_is_expected() {
         assert!(output.status.success());
         run += 1;
     }
-    assert!(run >= 11);
+    assert!(run >= 12);
 }
 
 #[test]
@@ -39,12 +39,12 @@ fn a_bad_line_is_told_and_the_rest_runs() {
         set G A BS 01\nset G \"A\" BS 0\nset G \"A\" XX 00\nregister G \"A\" lock=later\nregister G \"A\" lock=on-state\n\
         stores 1 many\nrebuild 0\npoke nv 4096 00\nset G \"A\" BS 1024*07\nread G \"A\"\nstate now\nset G \"\" BS 01\n\
         set G hex:410042 BS 01\nset G \"A\\u0000\" BS 01\npoke volatile 0 00\nread G \"A\"\nquarrels now\nquarrels raw 0\n\
-        start-reader 7\nfeed 0\nfeed-dump 0\nfeed-dump 4097\nlist all\n";
+        start-reader 7\nfeed 0\nfeed-dump 0\nfeed-dump 4097\nlist all\nsettled G\nsettled G \"A\" now\n";
     let output = simulate(history);
     assert_eq!(output.status.code(), Some(1));
     let expected = "\
 1: power-off -> not understood: expected namespace, stores, power-on, restart, register, set, append, delete, read, \
-dump, quarrels, start-reader, feed, feed-dump, list, lock, disable, exit, state, rebuild, poke or note, found power-off
+settled, dump, quarrels, start-reader, feed, feed-dump, list, lock, disable, exit, state, rebuild, poke or note, found power-off
 2: set G \"A\" BS 01 -> not understood: expected a namespace (an alias, a GUID or 32 hex digits), found G
 4: power-on now -> not understood: expected allow-disable or the end of the line, found now
 5: power-on -> SUCCESS enabled, unlocked, disabling not allowed
@@ -73,6 +73,8 @@ the line
 26: feed-dump 0 -> not understood: expected a number of bytes from 1 to 4096, found 0
 27: feed-dump 4097 -> not understood: expected a number of bytes from 1 to 4096, found 4097
 28: list all -> not understood: expected the end of the line, found all
+29: settled G -> not understood: expected a name in quotes (or hex:DIGITS) at the end of the line
+30: settled G \"A\" now -> not understood: expected the end of the line, found now
 ";
     assert_eq!(String::from_utf8_lossy(&output.stdout), expected);
 }
@@ -138,14 +140,15 @@ MaxSize, 1
 }
 
 #[test]
-fn help_tells_what_another_order_a_number_sign_a_refused_call_and_exit_do() {
+fn help_tells_what_another_order_a_number_sign_a_refused_call_exit_and_settled_mean() {
     let output = Command::new(env!("CARGO_BIN_EXE_simulate")).arg("--help").output().expect("simulate runs");
     let help = String::from_utf8_lossy(&output.stdout);
     let order = "of equal rank target one variable and\n";
     let trigger = "NAME is one variable's and may\n              have no #";
     let refused = "A refused call tells why. A refused set, append or delete";
     let exit = "After exit, until the next power-on or restart, register, dump, lock, disable and a second exit";
-    for words in [order, "but not in a note", "matches a hex digit and nothing else", trigger, refused, exit] {
+    let settled = "A variable is settled if its entry locks now";
+    for words in [order, "but not in a note", "matches a hex digit and nothing else", trigger, refused, exit, settled] {
         assert!(help.contains(words), "{words}");
     }
 }

@@ -1,5 +1,5 @@
 //! A rail that is locked while the variable "RailLock" holds 0. An absent "RailLock" locks nothing. A refused set tells
-//! which entry refused it, and why.
+//! which entry refused it, and why. "RailLock" can be written once, so that the rail is then settled.
 
 use varpolicy::{Attributes, Engine, Entry, Lock, Name, POLICY_BYTES, Refused, Status};
 
@@ -14,12 +14,14 @@ fn main() -> Result<(), Status> {
 
     let lock = Lock::OnVarState { namespace: BOARD, name: rail_lock, value: 0 };
     engine.register(&Entry { lock, ..Entry::new(BOARD, rail) }.pack())?;
+    engine.register(&Entry { lock: Lock::OnCreate, ..Entry::new(BOARD, rail_lock) }.pack())?;
     engine.lock()?;
 
     engine.set(&BOARD, &rail, attributes, b"3.3 V")?;
     tell("RailLock absent, 1.8 V", engine.set(&BOARD, &rail, attributes, b"1.8 V"));
     engine.set(&BOARD, &rail_lock, Attributes::BS, &[0])?;
     tell("RailLock 00, 3.3 V", engine.set(&BOARD, &rail, attributes, b"3.3 V"));
+    println!("the rail is settled: {}", engine.settled(&BOARD, &rail)?);
     println!("the rail is at {}", String::from_utf8_lossy(engine.read(&BOARD, &rail)?.payload));
     Ok(())
 }

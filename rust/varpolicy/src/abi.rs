@@ -32,6 +32,12 @@ pub(crate) struct Found {
 }
 
 #[repr(C)]
+pub(crate) struct LockState {
+    pub(crate) status: u32,
+    pub(crate) settled: bool,
+}
+
+#[repr(C)]
 pub(crate) struct Report {
     pub(crate) ground: u32,
     pub(crate) place: u32,
@@ -154,6 +160,18 @@ unsafe extern "C" {
         payload_len: usize,
     ) -> Written;
 
+    pub(crate) fn varpolicy_settled(
+        nv: *const u8,
+        nv_len: usize,
+        volatile: *const u8,
+        volatile_len: usize,
+        policy: *const u8,
+        policy_len: usize,
+        namespace: *const [u8; 16],
+        name: *const u8,
+        name_len: usize,
+    ) -> LockState;
+
     pub(crate) fn varpolicy_quarrels(dump: *const u8, dump_len: usize, name: *mut [u8; 2 * MAX_NAME_UNITS]) -> Quarrel;
 
     pub(crate) fn varpolicy_reader_start(reader: *mut [u8; READER_BYTES]) -> u32;
@@ -172,6 +190,7 @@ const _: () = {
     assert!(size_of::<Dumped>() == 16);
     assert!(size_of::<State>() == 8);
     assert!(size_of::<Found>() == 32);
+    assert!(size_of::<LockState>() == 8);
     assert!(size_of::<Report>() == 24);
     assert!(size_of::<Written>() == 28);
     assert!(size_of::<Quarrel>() == 24);

@@ -45,6 +45,15 @@ pub struct Found<'a> {
     pub payload: &'a [u8],
 }
 
+/// What [`settled`] answers.
+#[derive(Clone, Copy, PartialEq, Eq, Debug)]
+pub struct LockState {
+    /// SUCCESS, INVALID_PARAMETER or VOLUME_CORRUPTED.
+    pub status: Status,
+    /// Whether the variable is settled; refused, it is false.
+    pub settled: bool,
+}
+
 /// What a set answers.
 #[derive(Clone, Copy, PartialEq, Eq, Debug)]
 pub struct Written {
@@ -329,6 +338,38 @@ pub fn set(
         )
     };
     Written { status: Status::answered(answer.status), report: Report::answered(&answer.report) }
+}
+
+/// Tells whether a variable is settled: its lock holds, and hangs on nothing that may still change. `name` is the bytes of
+/// its 16-bit units, without a closing zero.
+///
+/// It is settled if the entry chosen for it locks now; or locks on create, and the variable exists; or locks by the state
+/// of a trigger, which exists with a payload of one byte, the entry's value, and is settled in turn. From a variable to its
+/// trigger is a link, and at most [`MAX_LINKS`](crate::MAX_LINKS) are followed. Where triggers come round in a loop, or the
+/// chain is longer, the answer is no.
+///
+/// What a yes is worth: while the engine is enabled and locked, no call but a granted start changes, creates or deletes the
+/// variable, and the answer stays yes. The switches are not asked: an engine that is disabled, unlocked or has exited
+/// answers alike, but while it is not enabled and locked a yes promises nothing.
+///
+/// * VOLUME_CORRUPTED: the stores are unsound, or `policy` is not a policy record.
+/// * INVALID_PARAMETER: the name is not 1 to 64 units, none of them zero, or its bytes are odd in number.
+pub fn settled(nv: &[u8], volatile: &[u8], policy: &[u8], namespace: &Namespace, name: &[u8]) -> LockState {
+    // SAFETY: each pointer and length is of one live slice, and nothing is written.
+    let answer = unsafe {
+        abi::varpolicy_settled(
+            nv.as_ptr(),
+            nv.len(),
+            volatile.as_ptr(),
+            volatile.len(),
+            policy.as_ptr(),
+            policy.len(),
+            namespace,
+            name.as_ptr(),
+            name.len(),
+        )
+    };
+    LockState { status: Status::answered(answer.status), settled: answer.settled }
 }
 
 /// Tells whether two entries of a dump quarrel: they have the same rank, and some variable, stored or not, is targeted

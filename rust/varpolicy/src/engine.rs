@@ -174,6 +174,33 @@ impl<'a> Engine<'a> {
         Ok(Variable { attributes: found.attributes, payload: found.payload })
     }
 
+    /// Whether a variable is settled, its lock hanging on nothing that may still change: see [`calls::settled`]. While the
+    /// engine is enabled and locked a yes lasts until the next granted start.
+    ///
+    /// ```
+    /// use varpolicy::{Attributes, Engine, Entry, Lock, Name, POLICY_BYTES, Status};
+    ///
+    /// let board = *b"sixteen bytes..!";
+    /// let (mut nv, mut volatile, mut policy) = ([0xFF; 256], [0xFF; 256], [0; POLICY_BYTES]);
+    /// let mut engine = Engine::power_on(&mut nv, &mut volatile, &mut policy, false)?;
+    ///
+    /// // The supply limit is locked while Armed holds 1.
+    /// let (limit, armed) = (Name::new("Limit").unwrap(), Name::new("Armed").unwrap());
+    /// let lock = Lock::OnVarState { namespace: board, name: armed, value: 1 };
+    /// engine.register(&Entry { lock, ..Entry::new(board, limit) }.pack())?;
+    /// engine.set(&board, &armed, Attributes::BS, &[1])?;
+    /// assert!(!engine.settled(&board, &limit)?); // Armed may still change
+    ///
+    /// engine.register(&Entry { lock: Lock::OnCreate, ..Entry::new(board, armed) }.pack())?;
+    /// engine.lock()?;
+    /// assert!(engine.settled(&board, &limit)?);
+    /// # Ok::<(), Status>(())
+    /// ```
+    pub fn settled(&self, namespace: &Namespace, name: &[u8]) -> Result<bool, Status> {
+        let answer = calls::settled(self.nv, self.volatile, self.policy, namespace, name);
+        answer.status.ok().map(|()| answer.settled)
+    }
+
     /// Sets a variable: see [`calls::set`]. The refusal has the report beside the status.
     pub fn set(
         &mut self,

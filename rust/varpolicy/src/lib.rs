@@ -8,8 +8,8 @@
 //!
 //! [`calls`] has one function for each call of the library. [`Engine`] keeps the lent slices and the
 //! switches together and answers with `Result`. [`Entry`] packs a policy entry. [`Report`] tells why an entry
-//! refused a set. [`quarrels`] tells of a dump whether the order of its entries matters, and of which two. [`Reader`]
-//! reads a dump that arrives in pieces.
+//! refused a set, and [`Engine::settled`] whether a lock lasts. [`quarrels`] tells of a dump whether the order of its
+//! entries matters, and of which two. [`Reader`] reads a dump that arrives in pieces.
 //!
 //! ```
 //! use varpolicy::{Attributes, Engine, Entry, Ground, Lock, Name, Status, POLICY_BYTES};
@@ -29,6 +29,10 @@
 //! assert_eq!((refused.status, refused.report.ground), (Status::WriteProtected, Ground::Lock));
 //! assert_eq!(refused.to_string(), "WRITE_PROTECTED: entry 0 (rank 0) locks the variable");
 //! assert_eq!(engine.read(&board, &serial)?.payload, b"0042");
+//!
+//! // With the engine locked, nothing but a start changes what is settled.
+//! engine.lock()?;
+//! assert!(engine.settled(&board, &serial)?);
 //!
 //! // The operating system starts: what has no RT is not for it.
 //! engine.exit()?;
@@ -54,8 +58,8 @@ pub use attributes::Attributes;
 pub use engine::{Engine, NotDumped, Variable};
 pub use entry::{Entry, Lock, Name, PackedEntry};
 pub use limits::{
-    MAX_ENTRIES, MAX_ENTRY_SIZE, MAX_NAME_UNITS, MAX_PAYLOAD_BYTES, MAX_PIECE, MAX_STORE_BYTES, MIN_ENTRY_SIZE,
-    POLICY_BYTES, READER_BYTES,
+    MAX_ENTRIES, MAX_ENTRY_SIZE, MAX_LINKS, MAX_NAME_UNITS, MAX_PAYLOAD_BYTES, MAX_PIECE, MAX_STORE_BYTES,
+    MIN_ENTRY_SIZE, POLICY_BYTES, READER_BYTES,
 };
 pub use quarrel::{Quarrel, quarrels};
 pub use reader::{Entries, ListedEntry, Marks, Reader, Verdict};

@@ -16,6 +16,8 @@ pub const MAX_STORE_BYTES: usize = defined(b"#define VARPOLICY_MAX_STORE_BYTES "
 pub const MAX_PAYLOAD_BYTES: usize = defined(b"#define VARPOLICY_MAX_PAYLOAD ");
 /// Most units of a name.
 pub const MAX_NAME_UNITS: usize = defined(b"#define VARPOLICY_MAX_NAME_UNITS ");
+/// Most links from a settled variable to the last trigger: each is the step from a variable to its trigger.
+pub const MAX_LINKS: usize = defined(b"#define VARPOLICY_MAX_LINKS ");
 /// Most bytes of a piece that a reader is fed.
 pub const MAX_PIECE: usize = defined(b"#define VARPOLICY_MAX_PIECE ");
 /// Bytes of a reader.

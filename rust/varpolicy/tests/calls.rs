@@ -1,6 +1,6 @@
 //! Each call of the archive, once or twice: the declarations in `abi.rs` fit it.
 
-use varpolicy::calls::{Request, Written};
+use varpolicy::calls::{LockState, Request, Written};
 use varpolicy::{
     Attributes, Engine, Entry, Ground, Lock, Name, NotDumped, POLICY_BYTES, Refused, Report, Status, SwitchBytes,
     Switches, calls,
@@ -114,6 +114,22 @@ impl Bench {
         assert!(status == Status::Success || before == (self.nv, self.volatile));
         assert_eq!(written.ok().is_ok(), status == Status::Success);
         (status, report)
+    }
+
+    /// Sets variables of G to one byte, which is granted.
+    fn with_set(mut self, variables: &[(&str, u8)]) -> Bench {
+        for (name, byte) in variables {
+            assert_eq!(self.set(name, Attributes(3), &[*byte]), (Status::Success, Report::NONE));
+        }
+        self
+    }
+
+    /// Whether a variable of G is settled.
+    fn settled(&self, name: &str) -> bool {
+        let name = Name::new(name).unwrap();
+        let LockState { status, settled } = calls::settled(&self.nv, &self.volatile, &self.policy, &G, &name);
+        assert_eq!(status, Status::Success);
+        settled
     }
 }
 
@@ -283,6 +299,81 @@ fn after_exit_entries_are_enforced() {
         }
         assert_eq!(bench.set("C", ALL, &[1, 2]), (Status::InvalidParameter, report(Ground::Size)));
     }
+}
+
+/// An entry for this name or pattern of G.
+fn locked(text: &str, lock: Lock) -> Entry {
+    Entry { lock, ..Entry::new(G, name(text)) }
+}
+
+/// An entry that locks while the trigger, of G too, holds 1.
+fn locked_by(text: &str, trigger: &str) -> Entry {
+    locked(text, Lock::OnVarState { namespace: G, name: name(trigger), value: 1 })
+}
+
+#[test]
+fn the_chosen_entry_settles() {
+    assert!(!Bench::with(&[]).settled("A"));
+    assert!(!Bench::with(&[locked("A", Lock::No), locked("", Lock::Now)]).settled("A"), "another entry is chosen");
+    assert!(Bench::with(&[locked("#", Lock::Now), locked("", Lock::No)]).settled("A"));
+    assert!(!Bench::with(&[locked("#", Lock::Now)]).settled("G"), "no hex digit");
+    let once = [locked("A", Lock::OnCreate)];
+    assert!(!Bench::with(&once).settled("A"));
+    let mut bench = Bench::with(&once).with_set(&[("A", 0), ("B", 0)]);
+    assert!(bench.settled("A") && !bench.settled("B"));
+    assert_eq!(bench.set("A", Attributes(3), &[1]).0, Status::WriteProtected);
+    bench = Bench::with(&once);
+    assert_eq!(bench.set("A", Attributes::BS, &[1, 2]).0, Status::Success);
+    assert!(bench.settled("A"), "in the volatile store");
+}
+
+#[test]
+fn a_trigger_settles_if_it_holds_the_value_and_is_settled() {
+    let entries = [locked_by("A", "T"), locked("T", Lock::OnCreate)];
+    assert!(!Bench::with(&entries).settled("A"), "no trigger");
+    let held = Bench::with(&entries).with_set(&[("T", 1)]);
+    assert!(held.settled("A") && held.settled("T"));
+    let other = Bench::with(&entries).with_set(&[("T", 0)]);
+    assert!(!other.settled("A") && other.settled("T"));
+    let mut longer = Bench::with(&entries);
+    assert_eq!(longer.set("T", Attributes::BS, &[1, 1]).0, Status::Success);
+    assert!(!longer.settled("A") && longer.settled("T"));
+    let mut free = Bench::with(&entries[..1]).with_set(&[("A", 7), ("T", 1)]);
+    assert_eq!(free.set("A", Attributes(3), &[8]).0, Status::WriteProtected);
+    assert!(!free.settled("A"), "locked, but by what may change");
+    assert_eq!(free.set("T", Attributes(3), &[0]).0, Status::Success);
+    assert_eq!(free.set("A", Attributes(3), &[8]).0, Status::Success);
+}
+
+#[test]
+fn no_loop_settles() {
+    let mut one = Bench::with(&[locked_by("A", "A"), locked_by("B", "A")]).with_set(&[("A", 1)]);
+    assert_eq!(one.set("A", Attributes(3), &[0]).0, Status::WriteProtected);
+    assert!(!one.settled("A") && !one.settled("B"));
+    let mut two = Bench::with(&[locked_by("A", "T")]).with_set(&[("A", 1), ("T", 1)]);
+    assert_eq!(calls::register(&mut two.policy, two.switches, &locked_by("T", "A").pack()), Status::Success);
+    assert!(!two.settled("A") && !two.settled("T"));
+}
+
+#[test]
+fn of_settled_damage_is_told_before_a_bad_name() {
+    let bench = Bench::with(&[locked("", Lock::Now)]);
+    let refused = |status| LockState { status, settled: false };
+    let mut damaged = bench.policy;
+    damaged[POLICY_BYTES - 1] = 1;
+    for name in [&b"A\0"[..], b""] {
+        let corrupted = refused(Status::VolumeCorrupted);
+        assert_eq!(calls::settled(&[0; 4], &bench.volatile, &bench.policy, &G, name), corrupted);
+        assert_eq!(calls::settled(&bench.nv, &[0; 4], &bench.policy, &G, name), corrupted);
+        assert_eq!(calls::settled(&bench.nv, &bench.volatile, &damaged, &G, name), corrupted);
+        assert_eq!(calls::settled(&bench.nv, &bench.volatile, &bench.policy[1..], &G, name), corrupted);
+    }
+    for name in [&b""[..], b"A", b"A\0B", b"\0\0", b"A\0\0\0", &[0x41; 130]] {
+        let answer = calls::settled(&bench.nv, &bench.volatile, &bench.policy, &G, name);
+        assert_eq!(answer, refused(Status::InvalidParameter), "{name:?}");
+    }
+    let longest = calls::settled(&[], &[], &bench.policy, &G, &[0x41; 128]);
+    assert_eq!(longest, LockState { status: Status::Success, settled: true });
 }
 
 #[test]

@@ -1,5 +1,5 @@
 //! An engine that is started anew: refused, it keeps its own switches and its history goes on. An engine that has exited.
-//! An engine that refuses a set, and the sentence that it tells.
+//! A variable that is settled. An engine that refuses a set, and the sentence that it tells.
 
 use varpolicy::{
     Attributes, Engine, Entry, Ground, Lock, Name, NotDumped, POLICY_BYTES, Refused, Report, Status, Switches,
@@ -18,9 +18,13 @@ struct Lent {
 }
 
 impl Lent {
+    fn erased() -> Lent {
+        Lent { nv: [0xFF; 128], volatile: [0xFF; 128], policy: [0; POLICY_BYTES] }
+    }
+
     /// Left by an engine with one entry and a variable in each store, which is then disabled and locked.
     fn used() -> Lent {
-        let mut lent = Lent { nv: [0xFF; 128], volatile: [0xFF; 128], policy: [0; POLICY_BYTES] };
+        let mut lent = Lent::erased();
         let mut engine = Engine::power_on(&mut lent.nv, &mut lent.volatile, &mut lent.policy, true).unwrap();
         engine.register(&Entry::new(G, Name::EMPTY).pack()).unwrap();
         engine.set(&G, &name("A"), Attributes::NV | Attributes::BS, &[1]).unwrap();
@@ -182,9 +186,57 @@ fn an_engine_that_has_exited_is_rebuilt_from_an_earlier_dump() {
     assert!(lent.nv == as_it_was.nv && lent.volatile == as_it_was.volatile && lent.policy == as_it_was.policy);
 }
 
+/// `A`, which is locked while `T` holds 1, and `T`, which is written once.
+fn with_settled(lent: &mut Lent) -> Result<Engine<'_>, Status> {
+    let mut engine = Engine::power_on(&mut lent.nv, &mut lent.volatile, &mut lent.policy, true)?;
+    let lock = Lock::OnVarState { namespace: G, name: name("T"), value: 1 };
+    engine.register(&Entry { lock, ..Entry::new(G, name("A")) }.pack())?;
+    engine.register(&Entry { lock: Lock::OnCreate, ..Entry::new(G, name("T")) }.pack())?;
+    engine.set(&G, &name("A"), Attributes(7), &[1])?;
+    engine.set(&G, &name("T"), Attributes::BS, &[1])?;
+    Ok(engine)
+}
+
+#[test]
+fn what_is_settled_stays_while_the_engine_is_enabled_and_locked() -> Result<(), Status> {
+    let mut lent = Lent::erased();
+    let mut engine = with_settled(&mut lent)?;
+    engine.lock()?;
+    for exited in [false, true] {
+        for variable in ["A", "T"] {
+            assert_eq!(engine.settled(&G, &name(variable)), Ok(true));
+            let refused = engine.delete(&G, &name(variable)).unwrap_err();
+            assert_eq!((refused.status, refused.report.ground), (Status::WriteProtected, Ground::Lock));
+            assert!(engine.set(&G, &name(variable), Attributes(7), &[0]).is_err());
+        }
+        assert!(engine.disable().is_err() && engine.register(&Entry::new(G, name("B")).pack()).is_err());
+        assert_eq!(engine.read(&G, &name("A"))?.payload, [1]);
+        assert_eq!(engine.exit().is_ok(), !exited);
+    }
+    engine.restart_again(true)?;
+    assert_eq!(engine.settled(&G, &name("A")), Ok(false));
+    Ok(())
+}
+
+/// The switches are not asked, and a yes of an engine that is disabled holds nothing.
+#[test]
+fn a_disabled_engine_answers_by_its_entries() -> Result<(), Status> {
+    let mut lent = Lent::erased();
+    let mut engine = with_settled(&mut lent)?;
+    engine.disable()?;
+    engine.lock()?;
+    assert_eq!(engine.settled(&G, &name("A")), Ok(true));
+    engine.set(&G, &name("T"), Attributes::BS, &[2])?;
+    assert_eq!((engine.settled(&G, &name("A")), engine.settled(&G, &name("T"))), (Ok(false), Ok(true)));
+    assert_eq!(engine.settled(&G, &[]), Err(Status::InvalidParameter));
+    lent.nv[0] = 0;
+    assert_eq!(lent.resumed().settled(&G, &[]), Err(Status::VolumeCorrupted));
+    Ok(())
+}
+
 /// A set and a delete of `A` by an engine with this entry; the first that is refused.
 fn refused(entry: Entry, attributes: Attributes) -> Result<(), Refused> {
-    let mut lent = Lent { nv: [0xFF; 128], volatile: [0xFF; 128], policy: [0; POLICY_BYTES] };
+    let mut lent = Lent::erased();
     let mut engine = Engine::power_on(&mut lent.nv, &mut lent.volatile, &mut lent.policy, true).unwrap();
     engine.register(&entry.pack()).unwrap();
     engine.set(&G, &name("A"), attributes, &[1])?;

@@ -46,6 +46,7 @@ fn header_and_crate_have_the_same_numbers() {
     expect("MAX_NAME_UNITS", varpolicy::MAX_NAME_UNITS);
     expect("MAX_NAME_BYTES", 2 * varpolicy::MAX_NAME_UNITS);
     expect("NAMESPACE_BYTES", size_of::<varpolicy::Namespace>());
+    expect("MAX_LINKS", varpolicy::MAX_LINKS);
     expect("MAX_PIECE", varpolicy::MAX_PIECE);
     expect("READER_BYTES", varpolicy::READER_BYTES);
     assert!(defined.is_empty(), "not checked: {defined:?}");
@@ -91,6 +92,7 @@ fn header_and_crate_have_the_same_records() {
         ("dumped", "Dumped"),
         ("state", "State"),
         ("found", "Found"),
+        ("lock_state", "LockState"),
         ("report", "Report"),
         ("written", "Written"),
         ("quarrel", "Quarrel"),

@@ -2,8 +2,8 @@
 
 use varpolicy::calls::{self, Request, Started};
 use varpolicy::{
-    Attributes, Engine, Entry, Lock, MAX_ENTRIES, MAX_ENTRY_SIZE, MAX_NAME_UNITS, MAX_PAYLOAD_BYTES, MAX_PIECE,
-    MAX_STORE_BYTES, MIN_ENTRY_SIZE, Name, POLICY_BYTES, READER_BYTES, Status, Switches,
+    Attributes, Engine, Entry, Lock, MAX_ENTRIES, MAX_ENTRY_SIZE, MAX_LINKS, MAX_NAME_UNITS, MAX_PAYLOAD_BYTES,
+    MAX_PIECE, MAX_STORE_BYTES, MIN_ENTRY_SIZE, Name, POLICY_BYTES, READER_BYTES, Status, Switches,
 };
 
 /// An entry of MIN_ENTRY_SIZE bytes: all of the namespace of this number.
@@ -127,6 +127,32 @@ fn payload_and_name() {
     assert_eq!(set(MAX_NAME_UNITS, MAX_PAYLOAD_BYTES), Status::Success);
     assert_eq!(set(MAX_NAME_UNITS + 1, 1), Status::InvalidParameter);
     assert_eq!(set(1, MAX_PAYLOAD_BYTES + 1), Status::InvalidParameter);
+}
+
+/// Whether the first variable of a chain of so many links is settled: each but the last locks by the next, which holds 1.
+fn first_of_chain(links: usize, last: Lock) -> Result<bool, Status> {
+    let (mut nv, mut policy) = (vec![0xFF; 4096], [0; POLICY_BYTES]);
+    let mut engine = Engine::power_on(&mut nv, &mut [], &mut policy, false)?;
+    let name = |number: usize| Name::new(&format!("V{number:02}")).expect("a name");
+    for number in 0..=links {
+        engine.set(&namespace(0), &name(number), Attributes::NV | Attributes::BS, &[1])?;
+    }
+    for number in 0..links {
+        let lock = Lock::OnVarState { namespace: namespace(0), name: name(number + 1), value: 1 };
+        engine.register(&Entry { lock, ..Entry::new(namespace(0), name(number)) }.pack())?;
+    }
+    engine.register(&Entry { lock: last, ..Entry::new(namespace(0), name(links)) }.pack())?;
+    engine.settled(&namespace(0), &name(0))
+}
+
+#[test]
+fn links_of_a_settled_variable() {
+    for last in [Lock::Now, Lock::OnCreate] {
+        for links in 0..2 * MAX_LINKS {
+            assert_eq!(first_of_chain(links, last), Ok(links <= MAX_LINKS), "{links}");
+        }
+    }
+    assert_eq!(first_of_chain(MAX_LINKS, Lock::No), Ok(false));
 }
 
 /// A piece of the most bytes is taken. A reader is all of its bytes: its last one is written, the one behind it is not.

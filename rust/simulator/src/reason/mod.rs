@@ -1,6 +1,8 @@
 //! Why a call was refused, as a sentence: what stands behind its status (docs/RULES.md, 9 and 10), found in what the call
-//! was lent and given, which it left as it was.
+//! was lent and given, which it left as it was. Why a variable is settled or not, as the lines of a chain.
 
+mod chain;
+mod choice;
 mod dump;
 mod entry;
 mod set;
@@ -9,6 +11,7 @@ use crate::describe;
 use varpolicy::calls;
 use varpolicy::{MAX_ENTRIES, MAX_NAME_UNITS, MAX_STORE_BYTES, Namespace, POLICY_BYTES, Status, SwitchBytes, Switches};
 
+pub use chain::{Chains, lasts, yes_or_no};
 pub use set::{Refusal, is_deletion};
 
 /// Of every call that is lent a policy record and is no start.
@@ -96,6 +99,14 @@ pub fn read(status: Status, nv: &[u8], volatile: &[u8], namespace: &Namespace, n
         Status::InvalidParameter => bad_name(name),
         Status::NotFound => not_found(nv, volatile, namespace, name).to_string(),
         _ => bad_stores(nv, volatile).unwrap_or_default(),
+    }
+}
+
+/// Of a variable that was asked of, and was answered so.
+pub fn settled(status: Status, nv: &[u8], volatile: &[u8], name: &[u8]) -> String {
+    match status {
+        Status::InvalidParameter => bad_name(name),
+        _ => bad_stores(nv, volatile).unwrap_or(BAD_RECORD.to_string()),
     }
 }
 
