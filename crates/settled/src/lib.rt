@@ -29,7 +29,7 @@ fn namespace_at(e: &[u8], at: usize) -> [u8; 16]
 }
 
 // Whether the variable exists.
-fn exists_there(nv: &[u8], vol: &[u8], ends: Ends, namespace: &[u8; 16], name: &[u8]) -> bool
+fn variable_exists(nv: &[u8], vol: &[u8], ends: Ends, namespace: &[u8; 16], name: &[u8]) -> bool
     requires { ⌜ ends ≡ endsOf (now nv) (now vol) ⌝ }
     ensures { λ r. ⌜ r ≡ exists (lookup (now (nv .entry)) (now (vol .entry)) (variable (now (namespace .entry)) (now (name .entry)))) ⌝ }
 {
@@ -97,7 +97,7 @@ fn lock_holds<'a>(
     match entry::lock_of(e) {
         LockRule::NoLock => false,
         LockRule::LockNow => true,
-        LockRule::LockOnCreate => exists_there(nv, vol, ends, namespace, name),
+        LockRule::LockOnCreate => variable_exists(nv, vol, ends, namespace, name),
         LockRule::LockOnVarState(trigger) => {
             if links == 0 {
                 return false;

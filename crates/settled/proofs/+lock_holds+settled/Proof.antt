@@ -27,7 +27,7 @@ use Rattle.settled.proofs.+lock_holds+settled.Lts-settled as settled-lt
 use Rattle.entry.proofs.lock_of.Reads as lock-of-reads
 use Rattle.policy.proofs.choose.Reads as choose-reads
 use Rattle.set.proofs.trigger_holds.Reads as trigger-holds-reads
-use Rattle.settled.proofs.exists_there.Reads as exists-there-reads
+use Rattle.settled.proofs.variable_exists.Reads as variable-exists-reads
 use Rattle.settled.proofs.namespace_at.Reads as namespace-at-reads
 use Rattle.slices.proofs.le16.Reads as le16-reads
 use Rattle.slices.proofs.part.Reads as part-reads
@@ -66,8 +66,8 @@ abbrev lock-holds-calls : ℕ → lock-holds-lts.Claims
 lock-holds-calls t = (
   lock-of-reads.Asked,
   lock-of-reads.Learnt,
-  exists-there-reads.Asked,
-  exists-there-reads.Learnt,
+  variable-exists-reads.Asked,
+  variable-exists-reads.Learnt,
   trigger-holds-reads.Asked,
   trigger-holds-reads.Learnt,
   namespace-at-reads.Asked,
@@ -125,8 +125,8 @@ lock-holds-enum-told-2 t c = search needs
 lock-holds-enum-told-3 : (t : ℕ) → lock-holds-lts.Need-enum-told-3 (lock-holds-calls t) (lock-holds-at t) lock-holds.Post
 lock-holds-enum-told-3 t c = search needs
 
-lock-holds-exists-there-requires : (t : ℕ) → lock-holds-lts.Need-exists-there-requires (lock-holds-calls t) (lock-holds-at t) lock-holds.Post
-lock-holds-exists-there-requires t c κs = Began (c .before .before) .pre .1 .3
+lock-holds-variable-exists-requires : (t : ℕ) → lock-holds-lts.Need-variable-exists-requires (lock-holds-calls t) (lock-holds-at t) lock-holds.Post
+lock-holds-variable-exists-requires t c κs = Began (c .before .before) .pre .1 .3
 
 lock-holds-enum-known-trigger : (t : ℕ) → lock-holds-lts.Need-enum-known-trigger (lock-holds-calls t) (lock-holds-at t) lock-holds.Post
 lock-holds-enum-known-trigger t c = search needs
@@ -181,7 +181,7 @@ lock-holds-returns-4 t c =
 lock-holds-returns-5 : (t : ℕ) → lock-holds-lts.Need-returns-5 (lock-holds-calls t) (lock-holds-at t) lock-holds.Post
 lock-holds-returns-5 t c =
     let r = c .before .before .before in
-    lock-created (Began r .args .links) (Entries r) (Stored r) (Began r .args .e .now) (Asked r) (r .lock-of .ensures) (c .before .enum-told3 .given .1) (c .exists-there .ensures)
+    lock-created (Began r .args .links) (Entries r) (Stored r) (Began r .args .e .now) (Asked r) (r .lock-of .ensures) (c .before .enum-told3 .given .1) (c .variable-exists .ensures)
 
 lock-holds-returns-6 : (t : ℕ) → lock-holds-lts.Need-returns-6 (lock-holds-calls t) (lock-holds-at t) lock-holds.Post
 lock-holds-returns-6 t c =
@@ -272,7 +272,7 @@ pub +lock-holds+settled-spec : {M : Type 1} → statement M
     (lock-holds-enum-told t)
     (lock-holds-enum-told-2 t)
     (lock-holds-enum-told-3 t)
-    (lock-holds-exists-there-requires t)
+    (lock-holds-variable-exists-requires t)
     (lock-holds-enum-known-trigger t)
     (lock-holds-returns t)
     (lock-holds-trigger-holds-requires t)
