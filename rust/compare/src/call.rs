@@ -18,6 +18,7 @@ pub enum Call {
     Query,
     Read { namespace: Namespace, name: Vec<u8> },
     Set { namespace: Namespace, name: Vec<u8>, attributes: u32, payload: Vec<u8> },
+    Settled { namespace: Namespace, name: Vec<u8> },
 }
 
 impl Call {
@@ -34,6 +35,7 @@ impl Call {
             Call::Query => "query",
             Call::Read { .. } => "read",
             Call::Set { .. } => "set",
+            Call::Settled { .. } => "settled",
         }
     }
 }
@@ -57,6 +59,7 @@ pub enum Values {
     State { enabled: bool },
     Found { attributes: u32, non_volatile: bool, offset: usize, payload: Vec<u8> },
     Written(Report),
+    Settled { settled: bool },
 }
 
 /// Makes the call through the library.
@@ -101,6 +104,10 @@ pub fn by_library(state: &mut State, call: &Call) -> Answer {
             let written = calls::set(nv, volatile, policy, *switches, request);
             Answer { status: written.status, values: Values::Written(written.report) }
         }
+        Call::Settled { namespace, name } => {
+            let calls::LockState { status, settled } = calls::settled(nv, volatile, policy, namespace, name);
+            Answer { status, values: Values::Settled { settled } }
+        }
     }
 }
 
@@ -117,6 +124,8 @@ pub enum Ground {
     ReadAbsent,
     ReadHidden,
     Set(SetGround),
+    Settled,
+    NotSettled,
     Quarrel,
     NoQuarrel,
     NoBytes,
@@ -178,6 +187,11 @@ pub fn by_reference(state: &mut State, call: &Call) -> (Answer, Ground) {
             ground = Ground::Set(decided);
             Answer { status: translate(decided.status()), values: Values::Written(reported(report)) }
         }
+        Call::Settled { namespace, name } => {
+            let asked = reference::settled(nv, volatile, policy, namespace, name);
+            ground = asked.map_or(Ground::Status, |settled| if settled { Ground::Settled } else { Ground::NotSettled });
+            settled_by_reference(asked)
+        }
     };
     (answer, ground)
 }
@@ -208,6 +222,15 @@ fn read_by_reference(
             (Answer { status: translate(status), values }, ground)
         }
     }
+}
+
+/// The answer to whether a variable is settled. Beside a refusal it is no.
+fn settled_by_reference(asked: Result<bool, reference::Status>) -> Answer {
+    let (status, settled) = match asked {
+        Ok(settled) => (Status::Success, settled),
+        Err(status) => (translate(status), false),
+    };
+    Answer { status, values: Values::Settled { settled } }
 }
 
 /// An answer without values.

@@ -2,9 +2,9 @@
 //! and the inputs that the comparison promises to try.
 
 use crate::call::Ground;
-use crate::inputs::{exit, labels, pieces, reports};
+use crate::inputs::{exit, labels, pieces, reports, settled};
 use crate::tallies::{Each, Tallies};
-use crate::{damage, steps};
+use crate::{damage, lasting, steps};
 use reference::Fault as F;
 use reference::RegisterGround as R;
 use reference::SetGround as S;
@@ -12,7 +12,7 @@ use std::fmt;
 use varpolicy::Status;
 
 /// Every answer that can be hit: the call, the status, what decided it, and that in words.
-const ANSWERS: [(&str, Status, Ground, &str); 76] = [
+const ANSWERS: [(&str, Status, Ground, &str); 80] = [
     ("power-on", Status::VolumeCorrupted, Ground::Status, ""),
     ("power-on", Status::Success, Ground::Status, ""),
     ("restart", Status::VolumeCorrupted, Ground::Status, ""),
@@ -72,6 +72,10 @@ const ANSWERS: [(&str, Status, Ground, &str); 76] = [
     ("set", Status::Success, Ground::Set(S::Rewritten), "step 10: rewritten"),
     ("set", Status::Success, Ground::Set(S::AppendCreated), "step 10: append creates"),
     ("set", Status::Success, Ground::Set(S::AppendJoined), "step 10: append joins"),
+    ("settled", Status::VolumeCorrupted, Ground::Status, ""),
+    ("settled", Status::InvalidParameter, Ground::Status, ""),
+    ("settled", Status::Success, Ground::Settled, "yes"),
+    ("settled", Status::Success, Ground::NotSettled, "no"),
     ("rebuild", Status::Success, Ground::Status, "every call of it"),
     ("quarrels", Status::InvalidParameter, Ground::Status, "no dump"),
     ("quarrels", Status::Success, Ground::Quarrel, "two entries quarrel"),
@@ -181,6 +185,15 @@ pub enum Input {
     ExitRoom,
     ExitRebuild,
     ExitHistory,
+    SettledName,
+    SettledUnsound,
+    SettledEnd,
+    SettledRound,
+    SettledRest,
+    SettledChoice,
+    SettledNamespace,
+    Outlasted,
+    Lost,
 }
 
 /// Every group of inputs with its title and what is counted in it, in the order of [`Input`].
@@ -301,7 +314,7 @@ fn groups() -> Vec<Group> {
         Group::new(
             AfterReorder,
             "calls while the order differs",
-            ["set", "read", "dump", "register", "lock or disable", "exit", "start"],
+            ["set", "read", "dump", "register", "lock or disable", "exit", "start", "settled"],
         ),
         Group::new(
             ReportReordered,
@@ -352,6 +365,23 @@ fn groups() -> Vec<Group> {
         ),
         Group::new(ExitRebuild, "rebuild after exit", exit::REBUILD),
         Group::new(ExitHistory, "history with exits", exit::HISTORY),
+        Group::new(SettledName, "name of a variable that is asked whether it is settled", labels::REQUEST_NAME),
+        Group::new(SettledUnsound, "settled: 10 for this alone", settled::unsound_labels()),
+        Group::new(SettledEnd, "settled: how the chain of triggers ends, by its links", settled::end_labels()),
+        Group::new(SettledRound, "settled: triggers that come round", settled::round_labels()),
+        Group::new(SettledRest, "settled: what a yes rests on, by its attributes", settled::rest_labels()),
+        Group::new(
+            SettledChoice,
+            "settled: the chosen entry, and another that targets the variable",
+            settled::choice_labels(),
+        ),
+        Group::new(SettledNamespace, "settled: namespace of a trigger", settled::NAMESPACE),
+        Group::new(
+            Outlasted,
+            "outlasted by a settled variable, the engine enabled and locked",
+            lasting::outlasted_labels(),
+        ),
+        Group::new(Lost, "a condition that was missing, and what became of the variable", lasting::lost_labels()),
     ]
 }
 

@@ -4,7 +4,10 @@
 //! rebuilds: every answer and every byte of the stores and switches must be the same, and the policy
 //! record, granted dumps and the places in reports may differ only in the order of the entries, and only
 //! after a rebuild in another order (docs/RULES.md, 12.5). The dumps of rebuilds, and random ones beside
-//! each history, are asked for quarrels (10.11) and read in pieces (10.12).
+//! each history, are asked for quarrels (10.11) and read in pieces (10.12). In some histories entries hang on one
+//! another, and what is settled is watched (12.9).
+
+mod chains;
 
 use crate::call::{Answer, Call, Ground, Values, by_library};
 use crate::comparison::{Comparison, Sides, check};
@@ -29,7 +32,11 @@ pub fn run(comparison: &mut Comparison, calls: u64, seed: u64) -> Result<(), Str
     while run.comparison.calls < enough {
         number += 1;
         run.pool = Pool::new(&mut run.random);
-        let outcome = if run.random.one_in(5) { run.unrelated_calls() } else { run.history() };
+        let outcome = match run.random.below(10) {
+            0..=1 => run.unrelated_calls(),
+            2..=3 => run.chain_history(),
+            _ => run.history(),
+        };
         let outcome = outcome.and_then(|()| run.random_dumps()).and_then(|()| run.dumps_in_pieces());
         outcome.map_err(|what| format!("seed {seed}, history {number}, {what}"))?;
     }
@@ -118,14 +125,8 @@ impl Run<'_> {
     /// A history from power-on, with rebuilds, and with calls on damaged copies of its state.
     fn history(&mut self) -> Result<(), String> {
         let (nv, volatile) = self.lent_stores();
-        let old_policy = vec![self.random.byte(); POLICY_BYTES];
-        let old_volatile = if self.random.one_in(2) { volatile } else { self.random.bytes(volatile.len()) };
-        let mut sides = Sides::new(State::new(&nv, &old_volatile, &old_policy));
-        let power_on = Call::PowerOn { disabling_allowed: (!self.random.one_in(4)).into() };
-        let answer = self.comparison.exchange(&mut sides, &power_on)?;
-        check(answer.status == Status::Success, "power-on over a sound store was refused")?;
-        let mut history = History::new(sides);
         let crowded = nv.len() == MAX_STORE_BYTES;
+        let mut history = self.powered_on(&nv, volatile)?;
         if self.random.one_in(30) {
             self.fill_policy(&mut history)?;
         }
@@ -144,23 +145,41 @@ impl Run<'_> {
         Ok(())
     }
 
+    /// A history that begins over this non-volatile store. The old bytes of the volatile one and of the policy record
+    /// are of no account.
+    fn powered_on(&mut self, nv: &[u8], volatile: Vec<u8>) -> Result<History, String> {
+        let old_policy = vec![self.random.byte(); POLICY_BYTES];
+        let old_volatile = if self.random.one_in(2) { volatile } else { self.random.bytes(volatile.len()) };
+        let mut sides = Sides::new(State::new(nv, &old_volatile, &old_policy));
+        let power_on = Call::PowerOn { disabling_allowed: (!self.random.one_in(4)).into() };
+        let answer = self.comparison.exchange(&mut sides, &power_on)?;
+        check(answer.status == Status::Success, "power-on over a sound store was refused")?;
+        Ok(History::new(sides))
+    }
+
     /// Calls over a state that no history made: any entries, any switches, often damaged.
     fn unrelated_calls(&mut self) -> Result<(), String> {
-        let (nv, volatile) = self.lent_stores();
-        let entries = self.any_entries()?;
-        let mut state = State::new(&nv, &volatile, &packed(&entries));
+        let chained = self.random.one_in(4);
+        let mut state = if chained { self.chain_state() } else { self.any_state()? };
         state.switches = self.switches();
         for _ in 0..1 + self.random.below(10) {
             if self.random.one_in(3) {
                 self.damaged_call(&state)?;
             } else {
-                let call = self.call(&state);
+                let ask = chained && self.random.one_in(2);
+                let call = if ask { self.pool.settled(&mut self.random) } else { self.call(&state) };
                 let mut sides = Sides::new(state);
                 self.comparison.exchange(&mut sides, &call)?;
                 state = sides.library;
             }
         }
         Ok(())
+    }
+
+    /// Any entries over any stores.
+    fn any_state(&mut self) -> Result<State, String> {
+        let (nv, volatile) = self.lent_stores();
+        Ok(State::new(&nv, &volatile, &packed(&self.any_entries()?)))
     }
 
     /// Random dumps, damaged or not, asked for quarrels.
@@ -246,7 +265,8 @@ impl Run<'_> {
         match random.below(100) {
             0..=54 => self.pool.set(random, state.read_switches().exited),
             55 => Call::Exit,
-            56..=69 => self.pool.read(random),
+            56..=65 => self.pool.read(random),
+            66..=69 => self.pool.settled(random),
             70..=85 if random.one_in(4) => {
                 let (kind, entry) = damage::entry(random, &self.pool);
                 self.comparison.coverage.input(Input::Entry, kind);
@@ -314,8 +334,8 @@ impl Run<'_> {
         if self.random.one_in(2) { self.rebuild(history) } else { Ok(()) }
     }
 
-    /// A call of the history: on both sides, and on the state without rebuilds.
-    fn step(&mut self, history: &mut History, call: &Call) -> Result<(), String> {
+    /// A call of the history: on both sides, and on the state without rebuilds. Tells whether it was granted.
+    fn step(&mut self, history: &mut History, call: &Call) -> Result<bool, String> {
         if history.order != history.straight_order {
             self.count_after_reorder(call);
         }
@@ -326,15 +346,17 @@ impl Run<'_> {
         }
         let answer = self.comparison.exchange(&mut history.sides, call)?;
         let straight_answer = by_library(&mut history.straight, call);
-        self.count_exits(history, exited, call, answer.status == Status::Success);
-        if answer.status == Status::Success {
+        let granted = answer.status == Status::Success;
+        self.count_exits(history, exited, call, granted);
+        if granted {
             history.note(call);
         }
         compare_answers(history, call, &answer, &straight_answer)?;
         if history.order != history.straight_order {
             self.count_moved(&answer, &straight_answer);
         }
-        compare_states(history)
+        compare_states(history)?;
+        Ok(granted)
     }
 
     /// A rebuild: a restart over the same stores, the entries of a complete dump registered again,
@@ -474,6 +496,7 @@ impl Run<'_> {
             Call::Lock | Call::Disable | Call::Query => 4,
             Call::Exit => 5,
             Call::PowerOn { .. } | Call::Restart { .. } => 6,
+            Call::Settled { .. } => 7,
         };
         self.comparison.coverage.input(Input::AfterReorder, label);
     }

@@ -3,11 +3,13 @@
 //! on the way.
 
 pub mod call;
+pub mod chains;
 pub mod comparison;
 pub mod coverage;
 pub mod damage;
 pub mod drive;
 pub mod inputs;
+pub mod lasting;
 pub mod lines;
 pub mod make;
 pub mod pieces;

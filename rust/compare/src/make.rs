@@ -326,8 +326,10 @@ pub fn quarrelsome(random: &mut Random) -> Vec<Vec<u8>> {
 /// A few names and namespaces that one history uses most, so that its calls meet each other.
 #[derive(Clone, Debug, Default)]
 pub struct Pool {
-    names: Vec<Vec<u16>>,
-    namespaces: Vec<Namespace>,
+    /// The names, good ones.
+    pub names: Vec<Vec<u16>>,
+    /// The namespaces.
+    pub namespaces: Vec<Namespace>,
 }
 
 impl Pool {
@@ -455,5 +457,10 @@ impl Pool {
     /// A request to read a variable.
     pub fn read(&self, random: &mut Random) -> Call {
         Call::Read { namespace: self.namespace(random), name: self.request_name(random) }
+    }
+
+    /// The question whether a variable is settled.
+    pub fn settled(&self, random: &mut Random) -> Call {
+        Call::Settled { namespace: self.namespace(random), name: self.request_name(random) }
     }
 }

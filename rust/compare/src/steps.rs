@@ -88,8 +88,7 @@ impl<'a> Met<'a> {
         (namespace, name): (&Namespace, &[u8]),
         (attributes, length): (u32, usize),
     ) -> Met<'a> {
-        let units = units(name);
-        let bad_name = name.len() % 2 == 1 || !(1..=MAX_UNITS).contains(&units.len()) || units.contains(&0);
+        let (units, bad_name) = (units(name), !is_name(name));
         let reference::Switches { enabled, exited, .. } = state.read_switches();
         let choice = policy.choose(namespace, &units);
         Met {
@@ -240,6 +239,12 @@ impl<'a> Met<'a> {
 /// Whether an entry's sizes allow this length.
 pub fn is_within(entry: &Entry, length: usize) -> bool {
     (entry.min_size as usize..=entry.max_size as usize).contains(&length)
+}
+
+/// Whether these bytes are a name, as a request gives one.
+pub fn is_name(bytes: &[u8]) -> bool {
+    let units = units(bytes);
+    bytes.len() == 2 * units.len() && (1..=MAX_UNITS).contains(&units.len()) && !units.contains(&0)
 }
 
 /// The units of these bytes; a last odd byte is left out.

@@ -1,9 +1,9 @@
 //! Inputs that are too many to be listed, and of which each must be hit: units of names, and places in names of every
-//! length; what the numbers of reports can be; what quarrels can be; dumps in pieces; and bytes of switches, and sets
-//! before exit and after.
+//! length; what the numbers of reports can be; what quarrels can be; dumps in pieces; bytes of switches, and sets before
+//! exit and after; and chains of triggers.
 
-use crate::inputs::exit;
 use crate::inputs::labels::SWITCH_BYTES;
+use crate::inputs::{exit, settled};
 use crate::make::LONGEST;
 use crate::reader::MAX_PIECE;
 use reference::{MAX_ENTRIES, MAX_UNITS};
@@ -36,6 +36,7 @@ pub enum Each {
     LentToRegister,
     LentToDump,
     LentToSet,
+    LentToSettled,
     ReportPlace,
     ReportRank,
     ReportCounts,
@@ -67,6 +68,9 @@ pub enum Each {
     SwitchByte,
     UnsoundAndExited,
     AfterExit,
+    SettledSetting,
+    SettledLinks,
+    SettledRound,
 }
 
 const UNITS: usize = 1 << 16;
@@ -86,11 +90,12 @@ const FIRST_OF_REPORTS: usize = Each::ReportPlace as usize;
 const FIRST_OF_QUARRELS: usize = Each::QuarrelEarlier as usize;
 const FIRST_OF_READINGS: usize = Each::ReadEntries as usize;
 const FIRST_OF_SWITCHES: usize = Each::SwitchByte as usize;
+const FIRST_OF_SETTLED: usize = Each::SettledSetting as usize;
 
 /// What is hit, in words, and how many there are of it; in the order of [`Each`]. No pattern and no trigger has the
 /// unit zero, and a name of one unit has no place between two. Names that quarrel have two units at least, at one place
 /// '#' and a digit and at another a digit and '#'.
-const TALLIES: [(Each, &str, usize); 54] = [
+const TALLIES: [(Each, &str, usize); 58] = [
     (Each::UnderSign, "units under '#', which is the whole pattern", UNITS),
     (Each::UnderSignOfFour, "units under '#', one of four units", UNITS),
     (Each::UnderSignOfEight, "units under '#', one of eight units", UNITS),
@@ -114,6 +119,7 @@ const TALLIES: [(Each, &str, usize); 54] = [
     (Each::LentToRegister, "places of '#' in it, lent to register: 10", PLACES),
     (Each::LentToDump, "places of '#' in it, lent to dump: 10", PLACES),
     (Each::LentToSet, "places of '#' in it, lent to set: 10", PLACES),
+    (Each::LentToSettled, "places of '#' in it, lent to settled: 10", PLACES),
     (Each::ReportPlace, "places, by the ground", 3 * MAX_ENTRIES),
     (Each::ReportRank, "ranks, by the ground", 3 * (MAX_UNITS + 2)),
     (Each::ReportCounts, "numbers of missing and of prohibited bits", COUNTS),
@@ -145,6 +151,9 @@ const TALLIES: [(Each, &str, usize); 54] = [
     (Each::SwitchByte, "values of a byte, by the byte and the call", 256 * SWITCH_BYTES),
     (Each::UnsoundAndExited, "values of exited beside 10, by the call", 256 * exit::CALLS_ON_BOTH.len()),
     (Each::AfterExit, "sets before exit and after, by what they meet", exit::SETS),
+    (Each::SettledSetting, "settings of the switches, by the answer", settled::SETTINGS),
+    (Each::SettledLinks, "numbers of links, by the end of the chain", settled::CHAINS),
+    (Each::SettledRound, "variables of a loop, by the links before it", settled::ROUNDS),
 ];
 
 /// The number of a place in a name of so many units.
@@ -211,6 +220,7 @@ impl fmt::Display for Tallies {
                 FIRST_OF_QUARRELS => writeln!(out, "\nquarrels, and what is one but for this alone")?,
                 FIRST_OF_READINGS => writeln!(out, "\ndumps read in pieces")?,
                 FIRST_OF_SWITCHES => writeln!(out, "\nswitches")?,
+                FIRST_OF_SETTLED => writeln!(out, "\nsettled variables")?,
                 _ => {}
             }
             writeln!(out, "  {title:<45}{hit:>8} of {count:>5}")?;

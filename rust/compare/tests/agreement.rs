@@ -28,4 +28,5 @@ fn the_header_and_the_reference_have_the_same_limits() {
     assert_eq!(varpolicy::MAX_STORE_BYTES, reference::MAX_STORE);
     assert_eq!(varpolicy::MAX_PAYLOAD_BYTES, reference::MAX_PAYLOAD);
     assert_eq!(varpolicy::MAX_NAME_UNITS, reference::MAX_UNITS);
+    assert_eq!(varpolicy::MAX_LINKS, reference::MAX_LINKS);
 }

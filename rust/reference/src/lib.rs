@@ -14,6 +14,7 @@ mod policy;
 mod quarrel;
 mod reading;
 mod report;
+mod settled;
 mod store;
 mod switches;
 
@@ -25,6 +26,7 @@ pub use policy::Policy;
 pub use quarrel::{Quarrelled, quarrels};
 pub use reading::{Fault, Listed, Reading, read_dump};
 pub use report::{Ground, Report};
+pub use settled::settled;
 pub use store::{Kind, Pair, Variable};
 pub use switches::{SwitchBytes, Switches, gives_leave};
 
@@ -41,6 +43,8 @@ pub const MAX_STORE: usize = 32768;
 pub const MAX_PAYLOAD: usize = 1024;
 /// Most units of a name.
 pub const MAX_UNITS: usize = 64;
+/// Most links from a settled variable to the last trigger.
+pub const MAX_LINKS: usize = 16;
 
 /// Attribute: non-volatile.
 pub const NV: u32 = 0x01;

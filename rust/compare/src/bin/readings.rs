@@ -1,9 +1,10 @@
 //! The bench readings (docs/RULES.md, 13), each run by the library and by the reference. Of those on an engine the last
-//! eleven, from the store of 40 bytes on, are not proved, and of those of dumps the last six, from the names of 64 units
+//! twelve, from the store of 40 bytes on, are not proved, and of those of dumps the last six, from the names of 64 units
 //! on; this program is what checks them. Those of dumps in pieces are read in as few pieces as there can be, and byte by
 //! byte.
 
 use compare::call::{Answer, Call, Values, by_library, by_reference};
+use compare::chains;
 use compare::lines;
 use compare::make::{EntryFields, G, entries_of_size, entries_of_sum, entry_of_size, packed, unit_bytes, units};
 use compare::pieces;
@@ -12,7 +13,7 @@ use compare::state::{Guarded, State};
 use reference::POLICY_BYTES;
 use std::process::ExitCode;
 use varpolicy::calls::Quarrelled;
-use varpolicy::{Report, Status};
+use varpolicy::{Namespace, Report, Status};
 
 /// An implementation: makes a call on a state.
 type Implementation = fn(&mut State, &Call) -> Answer;
@@ -20,7 +21,11 @@ type Implementation = fn(&mut State, &Call) -> Answer;
 /// A reading: its text, what answers it, and the numbers expected, most of them statuses.
 type Reading = (&'static str, fn(Implementation) -> Vec<u32>, &'static [u32]);
 
-const READINGS: [Reading; 41] = [
+/// What stands for the answers to whether a variable is settled; no status has these numbers.
+const NO: u32 = 100;
+const YES: u32 = 101;
+
+const READINGS: [Reading; 56] = [
     ("an entry of 43 bytes, one of 44", least_entry, &[2, 0]),
     ("a name of no units, closed", zero_unit_name, &[2]),
     ("a trigger's name of no units, of one", trigger_name, &[2, 0]),
@@ -83,6 +88,20 @@ const READINGS: [Reading; 41] = [
         lengths_after_exit,
         LENGTHS.as_flattened(),
     ),
+    ("settled: without an entry, with one that never locks", settled_free, &[NO, 0, NO]),
+    ("settled: the whole namespace, locked now; no name; another namespace", settled_whole, &[0, YES, 2, NO]),
+    ("settled: lock on create, before the set and behind it", settled_on_create, &[0, NO, 0, YES]),
+    ("settled: a trigger that is locked on create, absent, with Value", settled_on_state, &[0, 0, NO, 0, YES, YES]),
+    ("settled: that trigger with another byte, with two bytes", settled_by_payload, &[0, NO, 0, NO]),
+    ("settled: a trigger that nothing locks, and its change", settled_by_free_trigger, &[0, 0, 8, NO, 0, 0]),
+    ("settled: a variable that is its own trigger", settled_by_itself, &[0, 0, 8, NO]),
+    ("settled: two variables that are each other's triggers", settled_round, &[0, 0, 0, 0, 8, 8, NO, NO]),
+    ("settled: two links, the last variable absent, there", settled_two_links, &[0, 0, 0, 0, NO, 0, YES]),
+    ("settled, not locked: an entry of lower rank is registered", settled_not_locked, &[0, YES, 0, NO, 0]),
+    ("settled, not enabled: a set", settled_not_enabled, &[0, 0, 0, YES, 0]),
+    ("settled, a restart: a set", settled_restarted, &[0, 0, YES, 0, NO, 0]),
+    ("settled: a trigger that is locked now and absent", settled_absent_trigger, &[0, 0, 8, NO, YES]),
+    ("settled after exit: a trigger that is no longer read", settled_after_exit, &[0, 0, 0, 0, 0, YES, 14]),
     ("an empty store of 40 bytes: a record of 40, one of 44", forty_bytes, &[0, 9]),
     ("51 entries that sum to 16,384, and one more", full_record, &[0, 16384, 9]),
     ("128 entries of 44 bytes, and one more", most_entries, &[0, 5632, 9]),
@@ -110,9 +129,21 @@ const READINGS: [Reading; 41] = [
         &[10, 0, 3, 0, 0],
     ),
     ("exited is 2, 0x80, 0xff: exit, dump, lock, disable, a read without RT", stray_exited, STRAY.as_flattened()),
+    (
+        "settled: chains of 0 to 20 links that end with type 2, with type 1, without an entry",
+        settled_chains,
+        CHAINS.as_flattened(),
+    ),
 ];
 
 const STRAY: &[[u32; 5]] = &[[3, 3, 3, 3, 14]; 3];
+
+const CHAINS: &[[u32; 3]] = &{
+    let mut answers = [[NO, NO, NO]; 21];
+    let (settled, _) = answers.split_at_mut(17);
+    settled.copy_from_slice(&[[YES, YES, NO]; 17]);
+    answers
+};
 
 const EIGHTS: &[Reported] = &[[8, 0, 0, 0, 0, 0, 0], [8, 3, 0, 0, 0, 0, 0], [2, 0, 0, 0, 0, 0, 0]];
 
@@ -305,6 +336,25 @@ impl Bench {
 
     fn read(&mut self, name: &str) -> u32 {
         self.call(&Call::Read { namespace: G, name: unit_bytes(&units(name)) })
+    }
+
+    fn settled(&mut self, name: &str) -> u32 {
+        self.settled_in(G, name)
+    }
+
+    /// Whether a variable is settled, or the status of a refusal.
+    fn settled_in(&mut self, namespace: Namespace, name: &str) -> u32 {
+        let name = unit_bytes(&units(name));
+        let answer = (self.implementation)(&mut self.state, &Call::Settled { namespace, name });
+        let Values::Settled { settled } = answer.values else {
+            panic!("the answer is yes or no");
+        };
+        assert!(answer.status == Status::Success || !settled, "a refusal has a yes beside it");
+        match answer.status {
+            Status::Success if settled => YES,
+            Status::Success => NO,
+            status => status.number(),
+        }
     }
 }
 
@@ -589,6 +639,124 @@ fn report_of_whole(implementation: Implementation, cant_have: u32) -> Vec<u32> {
     let mut bench = Bench::new(implementation, 256);
     assert_eq!(bench.register(&EntryFields { must_have: 0x8000_0000, cant_have, ..entry("") }), 0);
     bench.report("A", 3, &[1]).to_vec()
+}
+
+fn on_create(name: &str) -> EntryFields {
+    EntryFields { lock_type: 2, ..entry(name) }
+}
+
+/// An entry that is locked while the trigger holds 0.
+fn on_state(name: &str, trigger: &str) -> EntryFields {
+    entry(name).with_trigger(G, &units(trigger), 0)
+}
+
+fn settled_free(implementation: Implementation) -> Vec<u32> {
+    let mut bench = Bench::new(implementation, 256);
+    vec![bench.settled("A"), bench.register(&entry("A")), bench.settled("A")]
+}
+
+fn settled_whole(implementation: Implementation) -> Vec<u32> {
+    let mut bench = Bench::new(implementation, 256);
+    let registered = bench.register(&locked_now(""));
+    vec![registered, bench.settled("A"), bench.settled(""), bench.settled_in(chains::ELSEWHERE, "A")]
+}
+
+fn settled_on_create(implementation: Implementation) -> Vec<u32> {
+    let mut bench = Bench::new(implementation, 256);
+    vec![bench.register(&on_create("A")), bench.settled("A"), bench.set("A", &[1]), bench.settled("A")]
+}
+
+fn settled_on_state(implementation: Implementation) -> Vec<u32> {
+    let mut bench = Bench::new(implementation, 256);
+    let registered = [on_state("A", "T"), on_create("T")].map(|fields| bench.register(&fields));
+    let answers = [bench.settled("A"), bench.set("T", &[0]), bench.settled("A"), bench.settled("T")];
+    [&registered[..], &answers].concat()
+}
+
+fn settled_by_payload(implementation: Implementation) -> Vec<u32> {
+    let payloads: [&[u8]; 2] = [&[1], &[0, 0]];
+    let answers = payloads.map(|payload| {
+        let mut bench = Bench::new(implementation, 256);
+        assert_eq!([on_state("A", "T"), on_create("T")].map(|fields| bench.register(&fields)), [0, 0]);
+        [bench.set("T", payload), bench.settled("A")]
+    });
+    answers.concat()
+}
+
+fn settled_by_free_trigger(implementation: Implementation) -> Vec<u32> {
+    let mut bench = Bench::new(implementation, 256);
+    let held = [bench.register(&on_state("A", "T")), bench.set("T", &[0]), bench.set("A", &[1]), bench.settled("A")];
+    [&held[..], &[bench.set("T", &[1]), bench.set("A", &[1])]].concat()
+}
+
+fn settled_by_itself(implementation: Implementation) -> Vec<u32> {
+    let mut bench = Bench::new(implementation, 256);
+    vec![bench.register(&on_state("A", "A")), bench.set("A", &[0]), bench.set("A", &[0]), bench.settled("A")]
+}
+
+/// The second is registered behind the sets: before it the one would lock the other.
+fn settled_round(implementation: Implementation) -> Vec<u32> {
+    let mut bench = Bench::new(implementation, 256);
+    let first = [bench.register(&on_state("A", "T")), bench.set("A", &[0]), bench.set("T", &[0])];
+    let second = [bench.register(&on_state("T", "A")), bench.set("A", &[1]), bench.set("T", &[1])];
+    [&first[..], &second, &["A", "T"].map(|name| bench.settled(name))].concat()
+}
+
+fn settled_two_links(implementation: Implementation) -> Vec<u32> {
+    let mut bench = Bench::new(implementation, 256);
+    let entries = [on_state("A", "T"), on_state("T", "U"), on_create("U")];
+    let registered = entries.map(|fields| bench.register(&fields));
+    let answers = ["T", "U"].map(|name| [bench.set(name, &[0]), bench.settled("A")]);
+    [&registered[..], answers.as_flattened()].concat()
+}
+
+fn settled_not_locked(implementation: Implementation) -> Vec<u32> {
+    let mut bench = Bench::new(implementation, 256);
+    let before = [bench.register(&locked_now("")), bench.settled("A")];
+    [&before[..], &[bench.register(&entry("A")), bench.settled("A"), bench.set("A", &[1])]].concat()
+}
+
+fn settled_not_enabled(implementation: Implementation) -> Vec<u32> {
+    let mut bench = Bench::new(implementation, 256);
+    let closed = [bench.register(&locked_now("A")), bench.call(&Call::Disable), bench.call(&Call::Lock)];
+    [&closed[..], &[bench.settled("A"), bench.set("A", &[1])]].concat()
+}
+
+fn settled_restarted(implementation: Implementation) -> Vec<u32> {
+    let mut bench = Bench::new(implementation, 256);
+    let before = [bench.register(&locked_now("A")), bench.call(&Call::Lock), bench.settled("A")];
+    let restart = bench.call(&Call::Restart { disabling_allowed: 1 });
+    [&before[..], &[restart, bench.settled("A"), bench.set("A", &[1])]].concat()
+}
+
+fn settled_absent_trigger(implementation: Implementation) -> Vec<u32> {
+    let mut bench = Bench::new(implementation, 256);
+    let registered = [on_state("A", "T"), locked_now("T")].map(|fields| bench.register(&fields));
+    [&registered[..], &[bench.set("T", &[0]), bench.settled("A"), bench.settled("T")]].concat()
+}
+
+fn settled_after_exit(implementation: Implementation) -> Vec<u32> {
+    let mut bench = Bench::new(implementation, 256);
+    let before = [bench.register(&on_state("A", "T")), bench.set("T", &[0]), bench.register(&on_create("T"))];
+    let closed = [Call::Lock, Call::Exit].map(|call| bench.call(&call));
+    [&before[..], &closed, &[bench.settled("A"), bench.read("T")]].concat()
+}
+
+/// Of each number of links the answers for an end of type 2, of type 1 and without an entry.
+fn settled_chains(implementation: Implementation) -> Vec<u32> {
+    let named = |number: usize| format!("V{number:02}");
+    let answers = (0..=20).flat_map(|links| {
+        [Some(2), Some(1), None].map(|lock_type| {
+            let mut bench = Bench::new(implementation, 1024);
+            let set: Vec<u32> = (0..=links).map(|number| bench.set(&named(number), &[1])).collect();
+            let last = lock_type.map(|lock_type| EntryFields { lock_type, ..chains::entry(links) });
+            let entries: Vec<EntryFields> = chains::links(links).into_iter().chain(last).collect();
+            let registered: Vec<u32> = entries.iter().map(|fields| bench.register(fields)).collect();
+            assert!(set.iter().chain(&registered).all(|status| *status == 0));
+            bench.settled("V00")
+        })
+    });
+    answers.collect()
 }
 
 fn forty_bytes(implementation: Implementation) -> Vec<u32> {

@@ -68,7 +68,7 @@ pub const BEYOND: [&str; 7] = [
     "chosen: an entry at later bytes",
 ];
 
-pub(super) const CALLS_ON_RECORD: [&str; 5] = ["power-on", "restart", "register", "dump", "set"];
+pub(super) const CALLS_ON_RECORD: [&str; 6] = ["power-on", "restart", "register", "dump", "set", "settled"];
 const SETTINGS: [&str; 4] = ["open", "disabled", "locked", "exited"];
 
 /// Every call that is lent the policy record, with what stands in it and the switches.
@@ -278,7 +278,7 @@ pub fn data_size_labels() -> [&'static str; 8] {
 }
 
 /// Calls that are lent something unsound, with what is wrong besides.
-pub const UNSOUND: [&str; 12] = [
+pub const UNSOUND: [&str; 15] = [
     "register, locked",
     "register, malformed",
     "register, after exit",
@@ -291,14 +291,17 @@ pub const UNSOUND: [&str; 12] = [
     "set, step 3",
     "set, engine disabled",
     "set, step 3 after exit",
+    "settled, bad name",
+    "settled, engine disabled",
+    "settled, after exit",
 ];
 
-pub(super) const CALLS: [&str; 10] =
-    ["power-on", "restart", "register", "dump", "lock", "disable", "exit", "query", "read", "set"];
+pub(super) const CALLS: [&str; 11] =
+    ["power-on", "restart", "register", "dump", "lock", "disable", "exit", "query", "read", "set", "settled"];
 const PLACES: [&str; 3] = ["absent", "non-volatile", "volatile"];
 
 /// The labels of `rows` with each of `columns`.
-pub(super) fn crossed(rows: &[impl Display], columns: &[impl Display]) -> Vec<String> {
+pub(crate) fn crossed(rows: &[impl Display], columns: &[impl Display]) -> Vec<String> {
     rows.iter().flat_map(|row| columns.iter().map(move |column| format!("{row}, {column}"))).collect()
 }
 

@@ -8,6 +8,7 @@ pub mod pieces;
 pub mod quarrels;
 pub mod reports;
 mod set;
+pub mod settled;
 mod signs;
 mod triggers;
 
@@ -31,11 +32,12 @@ pub fn count(coverage: &mut Coverage, state: &State, call: &Call, answer: &Answe
         Call::Restart { .. } => count_start(coverage, state, START.len() / 2),
         Call::Register { entry } => count_registration(coverage, state, entry),
         Call::Dump { buffer } => count_dump(coverage, state, buffer.len()),
-        Call::Read { name, .. } => count_request_name(coverage, name),
-        Call::Set { name, .. } => count_request_name(coverage, name),
+        Call::Read { name, .. } | Call::Set { name, .. } => count_name(coverage, Input::RequestName, name),
+        Call::Settled { namespace, name } => settled::count(coverage, state, (namespace, name), answer),
         Call::Lock | Call::Disable | Call::Exit | Call::Query => {}
     }
-    if let Call::PowerOn { .. } | Call::Restart { .. } | Call::Read { .. } | Call::Set { .. } = call {
+    let start = matches!(call, Call::PowerOn { .. } | Call::Restart { .. });
+    if start || matches!(call, Call::Read { .. } | Call::Set { .. } | Call::Settled { .. }) {
         count_first_record(coverage, &state.nv);
         count_first_record(coverage, &state.volatile);
     }
@@ -68,16 +70,24 @@ fn count_unsound(coverage: &mut Coverage, switches: Switches, call: &Call) {
             let wrong = [bad, attributes & !0x47 != 0, without_bs, !switches.enabled, not_for_runtime];
             count_if(coverage, Input::Unsound, &wrong, 7);
         }
+        Call::Settled { name, .. } => {
+            let wrong = [!steps::is_name(name), !switches.enabled, switches.exited];
+            count_if(coverage, Input::Unsound, &wrong, 12);
+        }
         _ => {}
     }
 }
 
 fn count_switches(coverage: &mut Coverage, switches: Switches, call: &str) {
-    let bits = [switches.enabled, switches.locked, switches.disabling_allowed, switches.exited];
-    let bits = bits.into_iter().fold(0, |number, bit| 2 * number + usize::from(bit));
     if let Some(call) = CALLS.iter().position(|known| *known == call) {
-        coverage.input(Input::Switches, 16 * call + bits);
+        coverage.input(Input::Switches, 16 * call + switch_bits(switches));
     }
+}
+
+/// The number of a setting of the switches, 0 to 15.
+fn switch_bits(switches: Switches) -> usize {
+    let bits = [switches.enabled, switches.locked, switches.disabling_allowed, switches.exited];
+    bits.into_iter().fold(0, |number, bit| 2 * number + usize::from(bit))
 }
 
 /// Counts the bytes of the calls that are given them: those that are neither 0 nor 1, and each by its value.
@@ -89,6 +99,7 @@ fn count_switch_bytes(coverage: &mut Coverage, state: &State, call: &Call) {
     match call {
         Call::PowerOn { disabling_allowed } => count(0, *disabling_allowed),
         Call::Restart { disabling_allowed } => count(1, *disabling_allowed),
+        Call::Settled { .. } => {}
         _ => {
             let SwitchBytes { enabled, locked, disabling_allowed, exited } = state.switches;
             let place = CALLS_ON_BYTES.iter().position(|known| *known == call.name());
@@ -100,14 +111,16 @@ fn count_switch_bytes(coverage: &mut Coverage, state: &State, call: &Call) {
     }
 }
 
-fn count_start(coverage: &mut Coverage, state: &State, first_label: usize) {
+/// What is wrong with the lent parts: the non-volatile store, the volatile one, both together, the length of either; the
+/// length of the policy record, by a byte, the former one or another; its content.
+fn wrong_parts(state: &State) -> [bool; 10] {
     let alone = |nv: &[u8], volatile: &[u8]| Pair::decode(nv, volatile).is_some();
     let (nv, volatile) = (&state.nv[..], &state.volatile[..]);
     let long = |store: &[u8]| store.len() > MAX_STORE_BYTES;
     let (nv_sound, volatile_sound) = (alone(nv, &[]), alone(&[], volatile));
     let length = state.policy.len();
     let known_lengths = [POLICY_BYTES, POLICY_BYTES - 1, POLICY_BYTES + 1, FORMER_POLICY_BYTES];
-    let wrong = [
+    [
         !nv_sound && !long(nv),
         !volatile_sound && !long(volatile),
         nv_sound && volatile_sound && !alone(nv, volatile),
@@ -118,7 +131,11 @@ fn count_start(coverage: &mut Coverage, state: &State, first_label: usize) {
         length == FORMER_POLICY_BYTES,
         !known_lengths.contains(&length),
         length == POLICY_BYTES && Policy::decode(&state.policy).is_none(),
-    ];
+    ]
+}
+
+fn count_start(coverage: &mut Coverage, state: &State, first_label: usize) {
+    let wrong = wrong_parts(state);
     let mut places = wrong.iter().enumerate().filter(|(_, wrong)| **wrong).map(|(place, _)| place + 1);
     match (places.next(), places.next()) {
         (None, _) => coverage.input(Input::Start, first_label),
@@ -246,7 +263,8 @@ fn count_dump(coverage: &mut Coverage, state: &State, len: usize) {
     coverage.input(Input::DumpBuffer, label);
 }
 
-fn count_request_name(coverage: &mut Coverage, name: &[u8]) {
+/// Counts a name by its place in [`labels::REQUEST_NAME`].
+fn count_name(coverage: &mut Coverage, input: Input, name: &[u8]) {
     let label = match name.len() {
         len if len % 2 == 1 => 6,
         0 => 0,
@@ -256,11 +274,11 @@ fn count_request_name(coverage: &mut Coverage, name: &[u8]) {
         len if len > 128 => 5,
         _ => 2,
     };
-    coverage.input(Input::RequestName, label);
+    coverage.input(input, label);
     let mut units = name.chunks_exact(2);
     let zero = units.clone().any(|unit| unit == [0, 0]);
     let sign = units.any(|unit| unit == [0x23, 0]);
-    count_if(coverage, Input::RequestName, &[zero, sign], 7);
+    count_if(coverage, input, &[zero, sign], 7);
 }
 
 fn count_first_record(coverage: &mut Coverage, store: &[u8]) {

@@ -195,7 +195,14 @@ fn count_record(coverage: &mut Coverage, lent: &State, call: &Call) {
         && let [place] = places[..]
         && let LockRule::LockOnVarState(trigger) = &policy.entries[*number].lock
     {
-        let each = [Each::LentToPowerOn, Each::LentToRestart, Each::LentToRegister, Each::LentToDump, Each::LentToSet];
+        let each = [
+            Each::LentToPowerOn,
+            Each::LentToRestart,
+            Each::LentToRegister,
+            Each::LentToDump,
+            Each::LentToSet,
+            Each::LentToSettled,
+        ];
         coverage.each(each[call], place_number(trigger.name.len(), place));
     }
 }

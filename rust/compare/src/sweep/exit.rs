@@ -36,7 +36,7 @@ pub(super) fn run(sweep: &mut Sweep) -> Outcome {
 const EXITED: SwitchBytes = SwitchBytes { exited: 1, ..OPEN };
 
 /// Every setting of the switches, before exit and after.
-fn all_settings() -> impl Iterator<Item = SwitchBytes> {
+pub(super) fn all_settings() -> impl Iterator<Item = SwitchBytes> {
     settings().flat_map(|setting| [0, 1].map(|exited| SwitchBytes { exited, ..setting }))
 }
 

@@ -6,6 +6,7 @@ mod dumps;
 mod engine;
 mod entries;
 mod exit;
+mod lasting;
 mod limits;
 mod names;
 mod pieces;
@@ -13,6 +14,7 @@ mod quarrels;
 mod reading;
 mod reports;
 mod sets;
+mod settled;
 mod signs;
 mod stores;
 mod sums;
@@ -36,7 +38,7 @@ type Outcome = Result<(), String>;
 
 type Part = (&'static str, fn(&mut Sweep) -> Outcome);
 
-const PARTS: [Part; 17] = [
+const PARTS: [Part; 19] = [
     ("entries", entries::run),
     ("engine", engine::run),
     ("choices", choices::run),
@@ -54,6 +56,8 @@ const PARTS: [Part; 17] = [
     ("reading", reading::run),
     ("pieces", pieces::run),
     ("exit", exit::run),
+    ("settled", settled::run),
+    ("lasting", lasting::run),
 ];
 
 struct Sweep<'a> {
@@ -144,6 +148,10 @@ fn delete(name: &[u16]) -> Call {
 
 fn read(name: &[u16]) -> Call {
     Call::Read { namespace: G, name: unit_bytes(name) }
+}
+
+fn settled(name: &[u16]) -> Call {
+    Call::Settled { namespace: G, name: unit_bytes(name) }
 }
 
 /// Powers of two with their neighbours, and 0.

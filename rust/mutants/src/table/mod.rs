@@ -12,7 +12,9 @@
 //! is asked for attributes has BS); a quarrel that is not looked for among names of one unit, names of '#' alone
 //! or whole namespaces (none of them has any), and 16 bits of a dump's length (128 entries have fewer bytes);
 //! after exit BS not asked for beside NV and RT (step 3 has refused RT without BS), NV and RT asked for before the rest
-//! of step 3 (one status, and no report), and volatile records that need no room (nothing is written there).
+//! of step 3 (one status, and no report), and volatile records that need no room (nothing is written there); of settled
+//! variables a loop that is left after 17 links instead of where it comes round (a no either way), and 7 bits of the number
+//! of links (128 entries make no longer chain that ends with a lock).
 
 mod calls;
 mod entry;
@@ -25,6 +27,7 @@ mod quarrels;
 mod reading;
 mod reports;
 mod set;
+mod settled;
 mod signs;
 mod store;
 mod sums;
@@ -58,7 +61,7 @@ impl Edit {
 }
 
 /// The edits of each file in `reference/src`.
-const FILES: [(&str, &[Edit]); 29] = [
+const FILES: [(&str, &[Edit]); 31] = [
     ("lib.rs", limits::EDITS),
     ("lib.rs", former::LIMIT_EDITS),
     ("cursor.rs", limits::CURSOR_EDITS),
@@ -88,6 +91,8 @@ const FILES: [(&str, &[Edit]); 29] = [
     ("engine.rs", exit::EDITS),
     ("switches.rs", exit::SWITCH_EDITS),
     ("report.rs", exit::REPORT_EDITS),
+    ("lib.rs", settled::LIMIT_EDITS),
+    ("settled.rs", settled::EDITS),
 ];
 
 /// All edits, each with its file.
