@@ -168,7 +168,7 @@ typedef struct {
 typedef struct {
   uint32_t status;
   bool     settled; /* the variable is settled */
-} varpolicy_lock_state;
+} varpolicy_settled_answer;
 
 /**
   The report of a set: why the chosen entry refused it. Without a ground every number is 0: the set
@@ -528,7 +528,7 @@ varpolicy_set (
   );
 
 /**
-  Tells whether a variable is settled: its lock holds, and depends on nothing that may still change.
+  Tells whether a variable is settled. If so, its lock depends on nothing that a call may still change.
 
   It is settled if the entry chosen for it, as in varpolicy_set, is of type
 
@@ -560,7 +560,7 @@ varpolicy_set (
   @retval VARPOLICY_INVALID_PARAMETER  The name is not 1 to 64 units, none of them zero, or name_len is odd.
   @retval VARPOLICY_SUCCESS            The answer is in settled. A variable need not exist to be settled.
 **/
-VARPOLICY_CALL varpolicy_lock_state
+VARPOLICY_CALL varpolicy_settled_answer
 varpolicy_settled (
   const uint8_t *nv,
   size_t         nv_len,

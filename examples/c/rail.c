@@ -17,7 +17,7 @@ static_assert(sizeof(varpolicy_started) == 8, "layout of a start's answer");
 static_assert(sizeof(varpolicy_dumped) == 16, "layout of a dump's answer");
 static_assert(sizeof(varpolicy_state) == 8, "layout of a query's answer");
 static_assert(sizeof(varpolicy_found) == 32, "layout of a read's answer");
-static_assert(sizeof(varpolicy_lock_state) == 8, "layout of the answer to whether a variable is settled");
+static_assert(sizeof(varpolicy_settled_answer) == 8, "layout of the answer to whether a variable is settled");
 static_assert(sizeof(varpolicy_report) == 24, "layout of a set's report");
 static_assert(sizeof(varpolicy_written) == 28, "layout of a set's answer");
 
@@ -125,7 +125,7 @@ static uint32_t set_rail(const char *volts, uint32_t attributes) {
 
 /* Tells whether the rail is settled: with the engine enabled and locked, a yes lasts until the next start. */
 static bool rail_is_settled(void) {
-  varpolicy_lock_state state = varpolicy_settled(NonVolatile, sizeof NonVolatile, Volatile, sizeof Volatile, Policy,
+  varpolicy_settled_answer state = varpolicy_settled(NonVolatile, sizeof NonVolatile, Volatile, sizeof Volatile, Policy,
                                                  sizeof Policy, Board, Rail, sizeof Rail);
 
   printf("is the rail settled: status %u, %s\n", (unsigned)state.status, state.settled ? "yes" : "no");

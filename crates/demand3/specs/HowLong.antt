@@ -2,7 +2,7 @@
 -- which `settled` answers yes, and it goes on to answer yes (`how-long`); nor does one with rebuilds in it (`how-long-rebuilt`). Assumes nothing but, of the
 -- latter, that the power-on answered 0.
 use mathlib.Core.Path.{_≡_, refl, sym, ap, subst⁻¹, _∙_}
-use mathlib.Core.List.{List, [], _∷_, _++_, append-nil}
+use mathlib.Core.List.{List, [], _∷_, _++_}
 use mathlib.Core.Bool.{Bool, true}
 use mathlib.Core.Option.{none, some}
 use mathlib.Core.Logic.{_↔_}
@@ -13,27 +13,23 @@ use Rattle.rules.specs.Engine as rules
 use Rattle.rules.specs.Engine.{State, Call, Answer, isSettled, step}
 use Rattle.rules.specs.Engine.Call.{powerOn, dump, settled}
 use Rattle.rules.specs.Grounds.{RecordOf}
-use Rattle.rules.specs.SettledStays.{Held, Lasts, lasts-more, settled-lasts, yes, Yes, yes-says, says-yes}
+use Rattle.rules.specs.SettledStays.{EnabledLocked, Lasts, lasts-more, settled-lasts, yes, Yes, yes-says, says-yes}
 use Rattle.history.specs.History.{Items, Entries, Order, outcomeOf, end, endWith, answersWith, answersInOrder, answerBy, rebuilding, registered, history, orderAfter, orderRebuilt, standingOrder, stateBy}
 use Rattle.history.specs.History.ItemOf.{call, ownDump, rebuild}
 use Rattle.history.specs.StandingOrder.{NoneRestarts}
 use Rattle.demand3.specs.Machine.{kindOf, machine}
 use Rattle.demand3.specs.Demand3.{poweredOn, demand-3, first-part, append-calls, ProperFrom}
-use Rattle.demand3.specs.AfterExit.{goes-on, end-history, record-by}
+use Rattle.demand3.specs.AfterExit.{goes-on, end-history, record-by, switches-by}
 
 -- ---- a list of calls
 
-lasts-on : (cs : List Call) (s : State) → Held s → NoneRestarts machine s cs → (v : Variable) → isSettled s v ≡ true → Held (end machine s cs) × Lasts s (end machine s cs) v
+lasts-on : (cs : List Call) (s : State) → EnabledLocked s → NoneRestarts machine s cs → (v : Variable) → isSettled s v ≡ true → EnabledLocked (end machine s cs) × Lasts s (end machine s cs) v
 lasts-on [] s h n v y = (h, record { stands = λ q. ((λ f. f), λ f. f); settled = y })
 lasts-on (c ∷ cs) s h n v y =
     let k = settled-lasts s c h (goes-on s c (n .0)) in
     let a = k .1 v y in
     let r = lasts-on cs (step s c .1) (k .0) (n .1) v (a .settled) in
     (r .0, lasts-more s (step s c .1) (end machine (step s c .1) cs) v a (r .1))
-
-none-first : (cs ds : List Call) (s : State) → NoneRestarts machine s (cs ++ ds) → NoneRestarts machine s cs
-none-first [] ds s n = tt
-none-first (c ∷ cs) ds s n = (n .0, none-first cs ds (step s c .1) (n .1))
 
 -- what is claimed of a variable in a state s and a later one t
 pub record AsItWas (s t : State) (v : Variable) : Type 0 where
@@ -44,15 +40,15 @@ pub record AsItWas (s t : State) (v : Variable) : Type 0 where
   pub enabled : t .switches .enabled ≡ true
   pub locked : t .switches .locked ≡ true
 
-held : (s : State) (v : Variable) → Yes s v → s .switches .enabled ≡ true → s .switches .locked ≡ true → Held s
-held s v k e l = record { stores = k .stores; policy = k .policy; enabled = e; locked = l }
+enabled-locked : (s : State) (v : Variable) → Yes s v → s .switches .enabled ≡ true → s .switches .locked ≡ true → EnabledLocked s
+enabled-locked s v k e l = record { stores = k .stores; policy = k .policy; enabled = e; locked = l }
 
--- THE CLAIM: where the call answers yes and the engine is enabled and locked, at every moment of any list of calls without a granted start, between its calls cs and ds
+-- THE CLAIM: where the call answers yes and the engine is enabled and locked, after any list of calls without a granted start; and so at every moment of a longer one
 pub how-long : (s : State) (v : Variable) → step s (settled v) .0 ≡ yes → s .switches .enabled ≡ true → s .switches .locked ≡ true
-    → (cs ds : List Call) → NoneRestarts machine s (cs ++ ds) → AsItWas s (end machine s cs) v
-how-long s v a e l cs ds n =
+    → (cs : List Call) → NoneRestarts machine s cs → AsItWas s (end machine s cs) v
+how-long s v a e l cs n =
     let k = yes-says s v a in
-    let r = lasts-on cs s (held s v k e l) (none-first cs ds s n) v (k .settled) in
+    let r = lasts-on cs s (enabled-locked s v k e l) n v (k .settled) in
     record {
       stands = r .1 .stands;
       answers = says-yes (end machine s cs) v (record { stores = r .0 .stores; policy = r .0 .policy; called = k .called; settled = r .1 .settled });
@@ -102,11 +98,8 @@ module _ (s : State) (allowed : Bool) (answered0 : isSuccess (rules.step s (powe
       sym (answer-behind yes (settled v) is begun) ∙ ap (lastOf yes) k ∙ o .2 ∙ ap (answerBy machine (settled v) (o .0) (o .1)) a ∙ yes-in-order v (o .0) (o .1)
 
   switches-rebuilt : (is : Items machine) → ProperFrom s allowed answered0 is → endWith machine begun is .switches ≡ end machine begun (history machine is) .switches
-  switches-rebuilt is p = ap (λ t. t .switches) (demand-3 s allowed answered0 is p .sameEnd) ∙ go (standingOrder machine none begun is)
-    where
-      go : (w : Order machine) → stateBy machine w (end machine begun (history machine is)) .switches ≡ end machine begun (history machine is) .switches
-      go none = refl
-      go (some o) = refl
+  switches-rebuilt is p =
+      ap (λ t. t .switches) (demand-3 s allowed answered0 is p .sameEnd) ∙ switches-by (standingOrder machine none begun is) (end machine begun (history machine is)) .0
 
   -- its record in the list is that in the history
   record-rebuilt : (is : Items machine) → ProperFrom s allowed answered0 is → (v : Variable) (q : Bytes)
@@ -123,7 +116,7 @@ module _ (s : State) (allowed : Bool) (answered0 : isSuccess (rules.step s (powe
       → AsItWas (endWith machine begun xs) (endWith machine begun (xs ++ ys)) v
   how-long-rebuilt xs ys p v a e l n =
       let t = end machine begun (history machine xs) in
-      let k = how-long t v a e l (history machine ys) [] (subst⁻¹ (NoneRestarts machine t) (append-nil (history machine ys)) n) in
+      let k = how-long t v a e l (history machine ys) n in
       let same = end-history xs ys begun in
       let j : AsItWas t (end machine begun (history machine (xs ++ ys))) v = subst⁻¹ (λ u. AsItWas t u v) same k in
       let w = switches-rebuilt (xs ++ ys) p in

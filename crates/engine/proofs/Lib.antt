@@ -4,4 +4,4 @@ pub mod Registered
 pub mod Started
 pub mod Readings
 pub mod Sets
-pub mod LockStates
+pub mod SettledAnswers

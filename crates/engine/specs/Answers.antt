@@ -20,7 +20,7 @@ use Rattle.rules.specs.Engine.Call.{read}
 use Rattle.engine.specs.declared.DumpAnswer.{DumpAnswer}
 use Rattle.engine.specs.declared.QueryAnswer.{QueryAnswer}
 use Rattle.engine.specs.declared.Reading.{Reading}
-use Rattle.engine.specs.declared.LockState.{LockState}
+use Rattle.engine.specs.declared.SettledAnswer.{SettledAnswer}
 
 -- a dump: the length, and the whole buffer
 abbrev pub dumpAnswer : DumpAnswer → Bytes → Answer
@@ -31,10 +31,10 @@ abbrev pub queryAnswer : QueryAnswer → Answer
 queryAnswer r = answerOf (r .status) (cond (r .enabled) 1 0) [] none
 
 -- settled: yes or no; refused, no
-abbrev pub settledAnswer : LockState → Answer
+abbrev pub settledAnswer : SettledAnswer → Answer
 settledAnswer r = answerOf (r .status) (cond (r .settled) 1 0) [] none
 
-abbrev pub notSettled : Status → LockState
+abbrev pub notSettled : Status → SettledAnswer
 notSettled n = record { status = n; settled = false }
 
 -- ---- a read

@@ -53,8 +53,8 @@ pub struct SetAnswer {
     pub report: Report,
 }
 
-// How long the lock of a variable lasts (RULES.md, 10.14): the status, and whether the variable is settled. It is not beside a refusal.
-pub struct LockState {
+// Whether a variable is settled (RULES.md, 10.14), with the status; false beside a refusal.
+pub struct SettledAnswer {
     pub status: Status,
     pub settled: bool,
 }
@@ -404,16 +404,16 @@ pub fn set(
 }
 
 // A variable that is not settled, or a refusal to tell.
-fn not_settled(status: Status) -> LockState
+fn not_settled(status: Status) -> SettledAnswer
     ensures { λ r. ⌜ r ≡ notSettled status ⌝ }
 {
-    LockState {
+    SettledAnswer {
         status,
         settled: false,
     }
 }
 
-// Tells whether a variable is settled: whether its lock holds until the next power-on or restart, once the engine is enabled and locked.
+// Tells whether a variable is settled. If it is, and the engine is enabled and locked, its lock holds until the next power-on or restart.
 // VOLUME_CORRUPTED where the stores are unsound or the policy record is not valid; INVALID_PARAMETER for a bad name. The switches are not asked.
 pub fn settled<'a>(
     nv: &'a [u8],
@@ -421,7 +421,7 @@ pub fn settled<'a>(
     policy: &[u8],
     namespace: [u8; 16],
     name: &[u8],
-) -> LockState
+) -> SettledAnswer
     ensures { λ r.
         ⌜ ((w : Switches) → step (stateOf (now (nv .entry)) (now (vol .entry)) (now (policy .entry)) w) (settled (variable namespace (now (name .entry))))
         ≡ (settledAnswer r, stateOf (now (nv .entry)) (now (vol .entry)) (now (policy .entry)) w)) ⌝ }
@@ -438,7 +438,7 @@ pub fn settled<'a>(
     if !names::is_name(name) {
         return not_settled(Status::InvalidParameter);
     }
-    LockState {
+    SettledAnswer {
         status: Status::Success,
         settled: settled::settled(
             policy,

@@ -1,19 +1,24 @@
 -- The proved bench readings (RULES.md, 13), as the statuses that whole calls answer from a power-on, under one claim; reports of sets, under
 -- another; and settled variables, under a third.
 -- Assumes nothing.
-use Prim.Native.Nat.{ℕ, _+_, _*_}
+use Prim.Native.Nat.{ℕ, zero, suc, _+_, _*_}
 use mathlib.Core.Path.{_≡_, refl}
 use mathlib.Core.List.{List, [], _∷_, _++_}
 use mathlib.Core.Bool.{true, false}
 use mathlib.Core.Option.{Option, none, some}
 use lib.ListN.{length, replicate, take}
-use Rattle.limits.specs.Limits.{policyBytes}
+use Rattle.limits.specs.Limits.{policyBytes, maxLinks}
 use Rattle.lists.specs.Lists.{All, nil, more}
 use Rattle.lists.specs.ListsLaws.{all-append}
 use Rattle.slices.specs.Bytes.{Bytes, le16Bytes, le32Bytes, same}
+use Rattle.names.specs.Name.{Variable}
+use Rattle.policy.specs.Choice.{chosen}
+use Rattle.store.specs.Record.{encodeRecord}
 use Rattle.status.specs.Status.{statusNumber}
 use Rattle.switches.specs.Switches.{freshSwitches}
 use Rattle.rules.specs.declared.Report.{Report}
+use Rattle.rules.specs.Set.{Lookup}
+use Rattle.rules.specs.Settled.{settledIn}
 use Rattle.rules.specs.Report.{groundNumber}
 use Rattle.rules.specs.Engine.{State, Call, step}
 use Rattle.rules.specs.Engine.Call.{powerOn, restart, register, dump, lock, disable, exit, query, read, set, settled}
@@ -313,6 +318,9 @@ byLinks =
       (register (triggered T A) ∷ register (triggered U T) ∷ register (named-entry 0 2 U) ∷ setting T 3 (0 ∷ []) ∷ asking A ∷ setting U 3 (0 ∷ []) ∷ asking A ∷ []),
       0 ∷ 0 ∷ 0 ∷ 0 ∷ 0 ∷ 0 ∷ 0 ∷ 0 ∷ 0 ∷ 0 ∷ 0 ∷ 0 ∷ 0 ∷ 1 ∷ [],
     )
+    -- a trigger that exists and is locked now, and one in the volatile store that is locked on create
+    ∷ ((setting T 3 (0 ∷ []) ∷ register (named-entry 0 1 T) ∷ register (triggered T A) ∷ asking A ∷ asking T ∷ []), 0 ∷ 0 ∷ 0 ∷ 0 ∷ 0 ∷ 0 ∷ 0 ∷ 1 ∷ 0 ∷ 1 ∷ [])
+    ∷ ((setting T 2 (0 ∷ []) ∷ register (named-entry 0 2 T) ∷ register (triggered T A) ∷ asking A ∷ asking T ∷ []), 0 ∷ 0 ∷ 0 ∷ 0 ∷ 0 ∷ 0 ∷ 0 ∷ 1 ∷ 0 ∷ 1 ∷ [])
     -- a trigger that can never be set
     ∷ ((register (triggered T A) ∷ register (named-entry 0 1 T) ∷ setting T 3 (0 ∷ []) ∷ asking A ∷ asking T ∷ []), 0 ∷ 0 ∷ 0 ∷ 0 ∷ 8 ∷ 0 ∷ 0 ∷ 0 ∷ 0 ∷ 1 ∷ [])
     ∷ []
@@ -352,7 +360,7 @@ by-link = (refl, (refl, (refl, (refl, tt))))
 
 by-links : Each Answers byLinks
 unfolding rulesOpened
-by-links = (refl, (refl, (refl, (refl, tt))))
+by-links = (refl, (refl, (refl, (refl, (refl, (refl, tt))))))
 
 how-long : Each Answers howLong
 unfolding rulesOpened
@@ -361,3 +369,23 @@ how-long = (refl, (refl, (refl, (refl, tt))))
 -- THEY HOLD
 pub settled-readings-hold : All Answers settledReadings
 settled-readings-hold = all-append byEntry (byLink ++ byLinks ++ howLong) (each-all Answers byEntry by-entry) (all-append byLink (byLinks ++ howLong) (each-all Answers byLink by-link) (all-append byLinks howLong (each-all Answers byLinks by-links) (each-all Answers howLong how-long)))
+
+-- 16 LINKS AND 17, computed: entries of n links one behind the other, from the variable whose name is the unit k on, and lock now behind the last
+abbrev chainFrom : ℕ → ℕ → List Bytes
+chainFrom k zero = named-entry 0 1 (k ∷ []) ∷ []
+chainFrom k (suc n) = triggered (suc k ∷ []) (k ∷ []) ∷ chainFrom (suc k) n
+
+-- every variable holds 0
+abbrev allHold : Lookup
+allHold u = some (encodeRecord 3 u (0 ∷ []))
+
+abbrev firstOfChain : Variable
+firstOfChain = record { namespace = G; name = text A }
+
+pub sixteen-links : settledIn maxLinks (chosen (chainFrom 0x41 16)) allHold firstOfChain ≡ true
+unfolding rulesOpened
+sixteen-links = refl
+
+pub seventeen-links : settledIn maxLinks (chosen (chainFrom 0x41 17)) allHold firstOfChain ≡ false
+unfolding rulesOpened
+seventeen-links = refl

@@ -8,6 +8,7 @@ use lib.ListN.{length}
 use lib.Dec.{eqb, leb}
 use borrow.Author.Tests.{ne-eqb}
 use Rattle.limits.specs.Limits.{policyBytes, maxStore}
+use Rattle.slices.specs.Test.{_and_}
 use Rattle.slices.specs.TestLaws.{and-no}
 use Rattle.slices.specs.Bytes.{Bytes}
 use Rattle.policy.specs.Policy.{policyValid}
@@ -62,27 +63,29 @@ abbrev pub Kept : Parts → State → State → Type 0
 Kept w s t = SameParts (parts (not (w .nv)) (not (w .vol)) (not (w .policy)) (not (w .switches))) t s
 
 -- what holds of each call by its row: what it gives has the status 0; it keeps what it does not write; its answer depends on what it is lent;
--- if it is lent a policy record, one of another length is 10, and one that is not valid too, but of a start, which hands switches back
+-- if it is lent a policy record, one of another length is 10, and one that is not valid too, but of a start, which hands switches back; if it is lent the
+-- stores and is no start, stores that are not sound are 10
 record ByRow (s : State) (c : Call) : Type 0 where
   done : given s c .status ≡ Success
   keeps : Kept (uses c .writes) s (effect s c)
   lent : (t : State) → SameParts (uses c .lent) s t → step s c .0 ≡ step t c .0
   length10 : OtherLength (s .policy) → OnlyIf (uses c .lent .policy) (status s c ≡ VolumeCorrupted)
   invalid10 : uses c .handsBack ≡ none → policyValid (s .policy) ≡ false → OnlyIf (uses c .lent .policy) (status s c ≡ VolumeCorrupted)
+  unsound10 : uses c .handsBack ≡ none → sound (s .nv) (s .vol) ≡ false → OnlyIf (uses c .lent .nv) (status s c ≡ VolumeCorrupted)
 
 by-row : (s : State) (c : Call) → ByRow s c
-unfolding step
-by-row s (powerOn allowed) = record { done = refl; keeps = record { nv = refl; vol = tt; policy = tt; switches = tt }; lent = λ t e. rw (e .nv, e .vol, e .policy); length10 = power-on-length s; invalid10 = λ n. absurd (not-none n) }
-by-row s (restart allowed) = record { done = refl; keeps = record { nv = refl; vol = refl; policy = tt; switches = tt }; lent = λ t e. rw (e .nv, e .vol, e .policy); length10 = restart-length s; invalid10 = λ n. absurd (not-none n) }
-by-row s (register x) = record { done = refl; keeps = record { nv = refl; vol = refl; policy = tt; switches = refl }; lent = λ t e. rw (e .policy, e .switches); length10 = λ h. rw (other-length (s .policy) h); invalid10 = λ n v. rw v }
-by-row s (dump buffer) = record { done = refl; keeps = record { nv = refl; vol = refl; policy = refl; switches = refl }; lent = λ t e. rw (e .policy, e .switches); length10 = λ h. rw (other-length (s .policy) h); invalid10 = λ n v. rw v }
-by-row s lock = record { done = refl; keeps = record { nv = refl; vol = refl; policy = refl; switches = tt }; lent = λ t e. rw (e .switches); length10 = λ h. tt; invalid10 = λ n v. tt }
-by-row s disable = record { done = refl; keeps = record { nv = refl; vol = refl; policy = refl; switches = tt }; lent = λ t e. rw (e .switches); length10 = λ h. tt; invalid10 = λ n v. tt }
-by-row s exit = record { done = refl; keeps = record { nv = refl; vol = refl; policy = refl; switches = tt }; lent = λ t e. rw (e .switches); length10 = λ h. tt; invalid10 = λ n v. tt }
-by-row s query = record { done = refl; keeps = record { nv = refl; vol = refl; policy = refl; switches = refl }; lent = λ t e. rw (e .switches); length10 = λ h. tt; invalid10 = λ n v. tt }
-by-row s (read v) = record { done = refl; keeps = record { nv = refl; vol = refl; policy = refl; switches = refl }; lent = λ t e. rw (e .nv, e .vol, e .switches); length10 = λ h. tt; invalid10 = λ n v. tt }
-by-row s (set r) = record { done = refl; keeps = record { nv = tt; vol = tt; policy = refl; switches = refl }; lent = λ t e. rw (e .nv, e .vol, e .policy, e .switches); length10 = λ h. rw (other-length (s .policy) h, and-no (sound (s .nv) (s .vol))); invalid10 = λ n v. rw (v, and-no (sound (s .nv) (s .vol))) }
-by-row s (settled v) = record { done = refl; keeps = record { nv = refl; vol = refl; policy = refl; switches = refl }; lent = λ t e. rw (e .nv, e .vol, e .policy); length10 = λ h. rw (other-length (s .policy) h, and-no (sound (s .nv) (s .vol))); invalid10 = λ n v. rw (v, and-no (sound (s .nv) (s .vol))) }
+unfolding step _and_
+by-row s (powerOn allowed) = record { done = refl; keeps = record { nv = refl; vol = tt; policy = tt; switches = tt }; lent = λ t e. rw (e .nv, e .vol, e .policy); length10 = power-on-length s; invalid10 = λ n. absurd (not-none n); unsound10 = λ n. absurd (not-none n) }
+by-row s (restart allowed) = record { done = refl; keeps = record { nv = refl; vol = refl; policy = tt; switches = tt }; lent = λ t e. rw (e .nv, e .vol, e .policy); length10 = restart-length s; invalid10 = λ n. absurd (not-none n); unsound10 = λ n. absurd (not-none n) }
+by-row s (register x) = record { done = refl; keeps = record { nv = refl; vol = refl; policy = tt; switches = refl }; lent = λ t e. rw (e .policy, e .switches); length10 = λ h. rw (other-length (s .policy) h); invalid10 = λ n v. rw v; unsound10 = λ n v. tt }
+by-row s (dump buffer) = record { done = refl; keeps = record { nv = refl; vol = refl; policy = refl; switches = refl }; lent = λ t e. rw (e .policy, e .switches); length10 = λ h. rw (other-length (s .policy) h); invalid10 = λ n v. rw v; unsound10 = λ n v. tt }
+by-row s lock = record { done = refl; keeps = record { nv = refl; vol = refl; policy = refl; switches = tt }; lent = λ t e. rw (e .switches); length10 = λ h. tt; invalid10 = λ n v. tt; unsound10 = λ n v. tt }
+by-row s disable = record { done = refl; keeps = record { nv = refl; vol = refl; policy = refl; switches = tt }; lent = λ t e. rw (e .switches); length10 = λ h. tt; invalid10 = λ n v. tt; unsound10 = λ n v. tt }
+by-row s exit = record { done = refl; keeps = record { nv = refl; vol = refl; policy = refl; switches = tt }; lent = λ t e. rw (e .switches); length10 = λ h. tt; invalid10 = λ n v. tt; unsound10 = λ n v. tt }
+by-row s query = record { done = refl; keeps = record { nv = refl; vol = refl; policy = refl; switches = refl }; lent = λ t e. rw (e .switches); length10 = λ h. tt; invalid10 = λ n v. tt; unsound10 = λ n v. tt }
+by-row s (read v) = record { done = refl; keeps = record { nv = refl; vol = refl; policy = refl; switches = refl }; lent = λ t e. rw (e .nv, e .vol, e .switches); length10 = λ h. tt; invalid10 = λ n v. tt; unsound10 = λ n v. rw v }
+by-row s (set r) = record { done = refl; keeps = record { nv = tt; vol = tt; policy = refl; switches = refl }; lent = λ t e. rw (e .nv, e .vol, e .policy, e .switches); length10 = λ h. rw (other-length (s .policy) h, and-no (sound (s .nv) (s .vol))); invalid10 = λ n v. rw (v, and-no (sound (s .nv) (s .vol))); unsound10 = λ n v. rw v }
+by-row s (settled v) = record { done = refl; keeps = record { nv = refl; vol = refl; policy = refl; switches = refl }; lent = λ t e. rw (e .nv, e .vol, e .policy); length10 = λ h. rw (other-length (s .policy) h, and-no (sound (s .nv) (s .vol))); invalid10 = λ n v. rw (v, and-no (sound (s .nv) (s .vol))); unsound10 = λ n v. rw v }
 
 -- ---- the status, and a refusal
 
@@ -200,3 +203,8 @@ other-length-corrupted s c l h = step-status s c ∙ subst (λ b. OnlyIf b (stat
 pub invalid-corrupted : (s : State) (c : Call) → uses c .lent .policy ≡ true → uses c .handsBack ≡ none → policyValid (s .policy) ≡ false
     → step s c .0 .status ≡ VolumeCorrupted
 invalid-corrupted s c l n v = step-status s c ∙ subst (λ b. OnlyIf b (status s c ≡ VolumeCorrupted)) l (by-row s c .invalid10 n v)
+
+-- AND STORES THAT ARE NOT SOUND ARE 10, whatever else is wrong, in every call that is lent them and is no start
+pub unsound-corrupted : (s : State) (c : Call) → uses c .lent .nv ≡ true → uses c .handsBack ≡ none → sound (s .nv) (s .vol) ≡ false
+    → step s c .0 .status ≡ VolumeCorrupted
+unsound-corrupted s c l n v = step-status s c ∙ subst (λ b. OnlyIf b (status s c ≡ VolumeCorrupted)) l (by-row s c .unsound10 n v)

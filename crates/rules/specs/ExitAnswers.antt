@@ -331,9 +331,9 @@ query-same : (s : State) → AsBefore s query
 unfolding step
 query-same s = record { answers = refl; nv = refl; vol = refl }
 
-settled-same : (s : State) (v : Variable) → AsBefore s (settled v)
+settled-as-before : (s : State) (v : Variable) → AsBefore s (settled v)
 unfolding step
-settled-same s v = record {
+settled-as-before s v = record {
   answers = refl;
   nv = kept s (settled v) .nv ∙ sym (kept (withoutExit s) (settled v) .nv);
   vol = kept s (settled v) .vol ∙ sym (kept (withoutExit s) (settled v) .vol);
@@ -380,7 +380,7 @@ module _ (s : State) (x : Exited s) where
   pub untouched : (c : Call) → Untouched s c → AsBefore s c
   untouched c (aStart h) = start-same s c h
   untouched c aQuery = query-same s
-  untouched c (aSettled {v}) = settled-same s v
+  untouched c (aSettled {v}) = settled-as-before s v
   untouched c (aRead {v} f) = read-as-before v f
   untouched c (corrupted {r} h) = set-as-before s x r (decides-same s x r (λ k. absurd (true≢false (sym k ∙ h))))
   untouched c (early {r} h) = set-as-before s x r (decides-same s x r (λ k. early-decided (speaker s x r) (s .nv) (s .vol) r h))

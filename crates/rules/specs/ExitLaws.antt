@@ -111,7 +111,7 @@ module _ (s : State) (x : s .switches .exited ≡ false) where
   same-refusal : (c : Call) (m : Status) → refusal s c m ≡ earlierRefusal s c m
   same-refusal c m = rw (same-report (uses c .reports))
 
-  -- BEFORE EXIT EVERY CALL BUT EXIT ITSELF ANSWERS AND LEAVES WHAT IT DID IN THE EDITION BEFORE, whatever else the state is
+  -- BEFORE EXIT EVERY CALL OF THE EDITION BEFORE ANSWERS AND LEAVES WHAT IT DID THERE, whatever else the state is
   pub before-exit : (c : Call) → Not (c ≡ exit) → step s c ≡ earlierStep s c
   unfolding step
   before-exit c n =

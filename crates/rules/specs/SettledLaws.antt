@@ -1,5 +1,6 @@
 -- Settled variables, by the two functions and by chains: both agree (`settled-exactly`); chains of a variable have one length (`one-length`), a longer one than the
--- limit is a no (`longer-no`), and so is a loop (`loop-no`). What the answer depends on (`settled-same`, `settled-moves`). Assumes nothing.
+-- limit is a no (`longer-no`), and so is a loop (`loop-no`); a settled variable is a locked one, of type 3 by a settled trigger (`settled-by-lock`). What the answer depends on
+-- (`settled-same`, `settled-moves`). Assumes nothing.
 use Prim.Native.Nat.{ℕ, zero, suc, _≤_, _<_, zero-le, suc-le-suc}
 use native.Mathlib.Nat.{le-of-suc-le-suc, not-suc-le-zero}
 use native.Mathlib.Omega.{arith}
@@ -7,6 +8,7 @@ use mathlib.Core.Path.{_≡_, refl, sym, ap, subst, subst⁻¹, _∙_}
 use mathlib.Core.List.{List, [], _∷_}
 use mathlib.Core.Bool.{Bool, true, false, false≢true}
 use mathlib.Core.Option.{Option, none, some}
+use mathlib.Core.Logic.{_↔_}
 use Rattle.limits.specs.Limits.{maxLinks}
 use Rattle.lists.specs.Lists.{Among}
 use Rattle.lists.specs.ListsLaws.{all-among, among-middle}
@@ -32,26 +34,26 @@ use Rattle.rules.specs.SetGroundsLaws.{tells-locks}
 -- ---- the two functions
 
 -- whatever the number of links left, a lock goes by some answer about its trigger
-abbrev pub next : ℕ → Choice → Lookup → Variable → Bool
-next zero choice found u = false
-next (suc n) choice found u = settledIn n choice found u
+abbrev pub settledBelow : ℕ → Choice → Lookup → Variable → Bool
+settledBelow zero choice found u = false
+settledBelow (suc n) choice found u = settledIn n choice found u
 
-pub lock-is : (n : ℕ) (choice : Choice) (found : Lookup) (e : Bytes) (v : Variable) → lockHoldsIn n choice found e v ≡ lockHoldsBy (next n choice found) found e v
+pub lock-is : (n : ℕ) (choice : Choice) (found : Lookup) (e : Bytes) (v : Variable) → lockHoldsIn n choice found e v ≡ lockHoldsBy (settledBelow n choice found) found e v
 lock-is zero choice found e v = lock-asks-none choice found e v
 lock-is (suc n) choice found e v = lock-asks n choice found e v
 
 -- the chosen entry of a settled variable, and that its lock holds
 pub settled-lock : (n : ℕ) (choice : Choice) (found : Lookup) (v : Variable) → settledIn n choice found v ≡ true
-    → (e : Bytes) × (choice v ≡ some e) × (lockHoldsBy (next n choice found) found e v ≡ true)
+    → (e : Bytes) × (choice v ≡ some e) × (lockHoldsBy (settledBelow n choice found) found e v ≡ true)
 settled-lock n choice found v h = go (choice v) refl (sym (settled-asks n choice found v) ∙ h)
   where
     go : (o : Option Bytes) → choice v ≡ o → settledBy (λ e. lockHoldsIn n choice found e v) o ≡ true
-        → (e : Bytes) × (choice v ≡ some e) × (lockHoldsBy (next n choice found) found e v ≡ true)
+        → (e : Bytes) × (choice v ≡ some e) × (lockHoldsBy (settledBelow n choice found) found e v ≡ true)
     go none c k = absurd (false≢true k)
     go (some e) c k = (e, c, sym (lock-is n choice found e v) ∙ k)
 
 pub lock-settled : (n : ℕ) (choice : Choice) (found : Lookup) (v : Variable) (e : Bytes) → choice v ≡ some e
-    → lockHoldsBy (next n choice found) found e v ≡ true → settledIn n choice found v ≡ true
+    → lockHoldsBy (settledBelow n choice found) found e v ≡ true → settledIn n choice found v ≡ true
 lock-settled n choice found v e c h = settled-asks n choice found v ∙ rw c (lock-is n choice found e v ∙ h)
 
 -- A SETTLED VARIABLE IS LOCKED by its chosen entry
@@ -100,11 +102,11 @@ module _ (s : State) where
       go (Locks.onVarState r t f p) = three r t f p (sym (rests-3 e (x (triggerOf e)) t) ∙ and-right (locks e foundIn v) _ h)
 
   module _ (k : SoundStores (s .nv) (s .vol)) (p : policyValid (s .policy) ≡ true) where
-    chain-by : (n : ℕ) → ((u : Variable) → next n choiceIn foundIn u ≡ true → (c : Settled s u) × (suc (linksOf c) ≤ n)) → (v : Variable) → settledIn n choiceIn foundIn v ≡ true → SettledWithin n s v
+    chain-by : (n : ℕ) → ((u : Variable) → settledBelow n choiceIn foundIn u ≡ true → (c : Settled s u) × (suc (linksOf c) ≤ n)) → (v : Variable) → settledIn n choiceIn foundIn v ≡ true → SettledWithin n s v
     chain-by n below v h =
         let w = settled-lock n choiceIn foundIn v h in
         let c = chosen-for p (w .1) in
-        lock-shows k (SettledWithin n s v) (next n choiceIn foundIn) (w .0) c (w .2)
+        lock-shows k (SettledWithin n s v) (settledBelow n choiceIn foundIn) (w .0) c (w .2)
         (λ t. (Settled.now (w .0) c t, zero-le))
         (λ r t f. (Settled.created (w .0) r c t f, zero-le))
         (λ r t f q x. let z = below (triggerOf (w .0)) x in (Settled.link (w .0) r c t f q (z .0), z .1))
@@ -129,20 +131,50 @@ module _ (s : State) where
   holds-link x e r v h f p y = rw (h, found-lookup s (triggerOf e) r f, tells-same (payloadOf r) (triggerValue e ∷ []) .1 p, y)
 
   pub is-chain : {v : Variable} (c : Settled s v) (n : ℕ) → linksOf c ≤ n → settledIn n choiceIn foundIn v ≡ true
-  is-chain {v} (Settled.now e k h) n l = lock-settled n choiceIn foundIn v e (for-chosen k) (holds-now (next n choiceIn foundIn) e v h)
-  is-chain {v} (Settled.created e r k h f) n l = lock-settled n choiceIn foundIn v e (for-chosen k) (holds-created (next n choiceIn foundIn) e r v h f)
+  is-chain {v} (Settled.now e k h) n l = lock-settled n choiceIn foundIn v e (for-chosen k) (holds-now (settledBelow n choiceIn foundIn) e v h)
+  is-chain {v} (Settled.created e r k h f) n l = lock-settled n choiceIn foundIn v e (for-chosen k) (holds-created (settledBelow n choiceIn foundIn) e r v h f)
   is-chain {v} (Settled.link e r k h f p c) zero l = absurd (not-suc-le-zero l)
   is-chain {v} (Settled.link e r k h f p c) (suc n) l =
-      lock-settled (suc n) choiceIn foundIn v e (for-chosen k) (holds-link (next (suc n) choiceIn foundIn) e r v h f p (is-chain c n (le-of-suc-le-suc l)))
+      lock-settled (suc n) choiceIn foundIn v e (for-chosen k) (holds-link (settledBelow (suc n) choiceIn foundIn) e r v h f p (is-chain c n (le-of-suc-le-suc l)))
 
   -- YES EXACTLY BY THIS MEANING: over sound stores and a valid record, a variable is settled exactly if there is a chain of at most 16 links
   pub settled-exactly : SoundStores (s .nv) (s .vol) → (es : List Bytes) → HasEntries s es → (v : Variable) → Tells (isSettled s v) (SettledWithin maxLinks s v)
   settled-exactly k es w v = (has-chain k (tells-entries s .1 (es, w)) maxLinks v, λ c. is-chain (c .0) maxLinks (c .1))
 
-  -- ---- long chains and loops
+  -- ---- by the locks of section 5
 
   not-both : {A : Type 0} (e f : Bytes) (m n : ℕ) → e ≡ f → lockPolicyType e ≡ m → lockPolicyType f ≡ n → Not (m ≡ n) → A
   not-both e f m n k a b d = absurd (d (sym a ∙ ap lockPolicyType k ∙ b))
+
+  -- v is locked by its chosen entry and, of type 3, its trigger is settled with one link fewer than n
+  pub record LockedBy (n : ℕ) (v : Variable) : Type 0 where
+    pub entry : Bytes
+    pub chosen : ChosenFor s v entry
+    pub locks : Locks s entry v
+    pub trigger : lockPolicyType entry ≡ 3 → (m : ℕ) × (n ≡ suc m) × SettledWithin m s (triggerOf entry)
+
+  locked-by : (n : ℕ) {v : Variable} (c : Settled s v) → linksOf c ≤ n → LockedBy n v
+  locked-by n (Settled.now e k h) l = record { entry = e; chosen = k; locks = Locks.now h; trigger = λ t. not-both e e 1 3 refl h t (λ z. omega arith) }
+  locked-by n (Settled.created e r k h f) l = record { entry = e; chosen = k; locks = Locks.onCreate r h f; trigger = λ t. not-both e e 2 3 refl h t (λ z. omega arith) }
+  locked-by zero (Settled.link e r k h f p c) l = absurd (not-suc-le-zero l)
+  locked-by (suc n) (Settled.link e r k h f p c) l =
+      record { entry = e; chosen = k; locks = Locks.onVarState r h f p; trigger = λ t. (n, refl, (c, le-of-suc-le-suc l)) }
+
+  by-lock : (n : ℕ) {v : Variable} → LockedBy n v → SettledWithin n s v
+  by-lock n {v} w = go (w .locks)
+    where
+      go : Locks s (w .entry) v → SettledWithin n s v
+      go (Locks.now h) = (Settled.now (w .entry) (w .chosen) h, zero-le)
+      go (Locks.onCreate r h f) = (Settled.created (w .entry) r (w .chosen) h f, zero-le)
+      go (Locks.onVarState r h f p) =
+          let t = w .trigger h in
+          (Settled.link (w .entry) r (w .chosen) h f p (t .2 .0), subst⁻¹ (λ x. suc (linksOf (t .2 .0)) ≤ x) (t .1) (suc-le-suc (t .2 .1)))
+
+  -- SETTLED IS LOCKED AND, OF TYPE 3, BY A TRIGGER THAT IS SETTLED: nothing more is asked, and nothing less
+  pub settled-by-lock : (n : ℕ) (v : Variable) → SettledWithin n s v ↔ LockedBy n v
+  settled-by-lock n v = ((λ c. locked-by n (c .0) (c .1)), by-lock n)
+
+  -- ---- long chains and loops
 
   -- ALL CHAINS OF A VARIABLE HAVE THE SAME NUMBER OF LINKS
   pub one-length : {v w : Variable} → v ≡ w → (c : Settled s v) (d : Settled s w) → linksOf c ≡ linksOf d
@@ -160,6 +192,13 @@ module _ (s : State) where
   -- A CHAIN OF MORE THAN 16 LINKS IS A NO
   pub longer-no : SoundStores (s .nv) (s .vol) → (es : List Bytes) → HasEntries s es → {v : Variable} (c : Settled s v) → maxLinks < linksOf c → isSettled s v ≡ false
   longer-no k es w {v} c l = off-tells _ (settled-exactly k es w v) (λ d. let m = one-length refl c (d .0) in let n = d .1 in omega arith)
+
+  -- 16 LINKS ARE A YES, AND 17 A NO
+  pub sixteen-yes : {v : Variable} (c : Settled s v) → linksOf c ≡ 16 → isSettled s v ≡ true
+  sixteen-yes c l = is-chain c maxLinks (omega arith)
+
+  pub seventeen-no : SoundStores (s .nv) (s .vol) → (es : List Bytes) → HasEntries s es → {v : Variable} (c : Settled s v) → linksOf c ≡ 17 → isSettled s v ≡ false
+  seventeen-no k es w c l = longer-no k es w c (omega arith)
 
   -- from v a link, or links one behind the other, lead to w; what the triggers hold is not asked
   pub data Leads : Variable → Variable → Type 0 where
@@ -207,14 +246,14 @@ lock-same x y found e v k = by-rule (lockOf e)
     by-rule (LockOnVarState t) = by-trigger (found (triggerOf e)) refl
 
 module _ (c d : Choice) (found : Lookup) (agree : (v : Variable) → named v ≡ true → c v ≡ d v) (stored : (v : Variable) (r : Bytes) → found v ≡ some r → named v ≡ true) where
-  same-by : (n : ℕ) → ((u : Variable) → named u ≡ true → next n c found u ≡ next n d found u) → (v : Variable) → named v ≡ true → settledIn n c found v ≡ settledIn n d found v
+  same-by : (n : ℕ) → ((u : Variable) → named u ≡ true → settledBelow n c found u ≡ settledBelow n d found u) → (v : Variable) → named v ≡ true → settledIn n c found v ≡ settledIn n d found v
   same-by n below v m = settled-asks n c found v ∙ rw (agree v m) (by-choice (d v)) ∙ sym (settled-asks n d found v)
     where
       by-choice : (o : Option Bytes) → settledBy (λ e. lockHoldsIn n c found e v) o ≡ settledBy (λ e. lockHoldsIn n d found e v) o
       by-choice none = refl
       by-choice (some e) =
           lock-is n c found e v
-          ∙ lock-same (next n c found) (next n d found) found e v (λ r f. below (triggerOf e) (stored (triggerOf e) r f))
+          ∙ lock-same (settledBelow n c found) (settledBelow n d found) found e v (λ r f. below (triggerOf e) (stored (triggerOf e) r f))
           ∙ sym (lock-is n d found e v)
 
   -- THE ANSWER DEPENDS ON THE CHOICE FOR VARIABLES THAT CAN BE NAMED ALONE, where only such exist
@@ -238,11 +277,11 @@ lock-moves x y f g e v own k h = by-rule (lockOf e) h
         (ap (λ o. holdsValue o (triggerValue e)) (w .0) ∙ and-left (holdsValue (f (triggerOf e)) (triggerValue e)) (x (triggerOf e)) h) (w .1)
 
 module _ (choice : Choice) (f g : Lookup) (kept : (m : ℕ) (u : Variable) → settledIn m choice f u ≡ true → g u ≡ f u) where
-  moves-by : (n : ℕ) → ((u : Variable) → next n choice f u ≡ true → (g u ≡ f u) × (next n choice g u ≡ true))
+  moves-by : (n : ℕ) → ((u : Variable) → settledBelow n choice f u ≡ true → (g u ≡ f u) × (settledBelow n choice g u ≡ true))
       → (v : Variable) → settledIn n choice f v ≡ true → settledIn n choice g v ≡ true
   moves-by n below v h =
       let k = settled-lock n choice f v h in
-      lock-settled n choice g v (k .0) (k .1) (lock-moves (next n choice f) (next n choice g) f g (k .0) v (kept n v h) (below (triggerOf (k .0))) (k .2))
+      lock-settled n choice g v (k .0) (k .1) (lock-moves (settledBelow n choice f) (settledBelow n choice g) f g (k .0) v (kept n v h) (below (triggerOf (k .0))) (k .2))
 
   -- A SETTLED VARIABLE STAYS SETTLED where every settled variable has the record that it had
   pub settled-moves : (n : ℕ) (v : Variable) → settledIn n choice f v ≡ true → settledIn n choice g v ≡ true

@@ -37,7 +37,7 @@ use Rattle.rules.specs.SettledLaws.{chosen-for, chosen-formed, settled-l
 -- ---- what is claimed
 
 -- the stores sound, the record valid, the engine enabled and locked
-pub record Held (s : State) : Type 0 where
+pub record EnabledLocked (s : State) : Type 0 where
   pub stores : sound (s .nv) (s .vol) ≡ true
   pub policy : policyValid (s .policy) ≡ true
   pub enabled : s .switches .enabled ≡ true
@@ -54,19 +54,19 @@ lasts-more s t u v a b =
 
 -- ---- what one call leaves: the entries, and the record of every variable that is settled by whatever number of links
 record Keeps (s t : State) : Type 0 where
-  held : Held t
+  engine : EnabledLocked t
   policy : t .policy ≡ s .policy
   found : (n : ℕ) (v : Variable) → settledIn n (chosen (entriesOf (s .policy))) (lookup (s .nv) (s .vol)) v ≡ true
       → lookup (t .nv) (t .vol) v ≡ lookup (s .nv) (s .vol) v
 
-keeps-same : (s : State) → Held s → Keeps s s
-keeps-same s h = record { held = h; policy = refl; found = λ n v y. refl }
+keeps-same : (s : State) → EnabledLocked s → Keeps s s
+keeps-same s h = record { engine = h; policy = refl; found = λ n v y. refl }
 
-keeps-lasts : (s t : State) → Held s → Keeps s t → (v : Variable) → isSettled s v ≡ true → Lasts s t v
+keeps-lasts : (s t : State) → EnabledLocked s → Keeps s t → (v : Variable) → isSettled s v ≡ true → Lasts s t v
 keeps-lasts s t h k v y =
     record {
       stands = λ q. (
-        same-found s t v (tells-sound (t .nv) (t .vol) .0 (k .held .stores)) (k .found maxLinks v y) q,
+        same-found s t v (tells-sound (t .nv) (t .vol) .0 (k .engine .stores)) (k .found maxLinks v y) q,
         same-found t s v (tells-sound (s .nv) (s .vol) .0 (h .stores)) (sym (k .found maxLinks v y)) q,
       );
       settled = rw (k .policy) (settled-moves (chosen (entriesOf (s .policy))) (lookup (s .nv) (s .vol)) (lookup (t .nv) (t .vol)) (k .found) maxLinks v y);
@@ -79,7 +79,7 @@ past-43 s r k (setDeleted d) = lit< tt
 past-43 s r k (setEmptyAppend e) = lit< tt
 past-43 s r k setDone = lit< tt
 
-module _ (s : State) (h : Held s) (r : Request) (granted : isSuccess (step s (set r) .0 .status) ≡ true) where
+module _ (s : State) (h : EnabledLocked s) (r : Request) (granted : isSuccess (step s (set r) .0 .status) ≡ true) where
   answers0 : Answers s (set r) Success
   answers0 = status-exactly s (set r) Success .0 (success-only _ granted)
 
@@ -96,7 +96,7 @@ module _ (s : State) (h : Held s) (r : Request) (granted : isSuccess (step s (se
   unfolding decisionBy
   set-keeps =
       record {
-        held = record {
+        engine = record {
           stores = set-sound (s .switches .exited) (chosenEntry s r) (s .nv) (s .vol) r (h .stores);
           policy = h .policy;
           enabled = h .enabled;
@@ -115,7 +115,7 @@ lock-refused : (x : Bool) → isSuccess (cond x Unsupported WriteProtected) ≡ 
 lock-refused true = refl
 lock-refused false = refl
 
-granted-keeps : (s : State) (c : Call) → Held s → isStart c ≡ false → isSuccess (step s c .0 .status) ≡ true → Keeps s (effect s c)
+granted-keeps : (s : State) (c : Call) → EnabledLocked s → isStart c ≡ false → isSuccess (step s c .0 .status) ≡ true → Keeps s (effect s c)
 unfolding step
 granted-keeps s (powerOn allowed) h n g = absurd (true≢false n)
 granted-keeps s (restart allowed) h n g = absurd (true≢false n)
@@ -127,13 +127,13 @@ granted-keeps s lock h n g =
 granted-keeps s disable h n g =
     absurd (true≢false (sym (ap isSuccess (sym (step-status s disable)) ∙ g) ∙ rw (h .enabled, h .locked) (lock-refused (s .switches .exited))))
 granted-keeps s exit h n g =
-    record { held = record { stores = h .stores; policy = h .policy; enabled = h .enabled; locked = h .locked }; policy = refl; found = λ n v y. refl }
+    record { engine = record { stores = h .stores; policy = h .policy; enabled = h .enabled; locked = h .locked }; policy = refl; found = λ n v y. refl }
 granted-keeps s query h n g = keeps-same s h
 granted-keeps s (read v) h n g = keeps-same s h
 granted-keeps s (set r) h n g = set-keeps s h r g
 granted-keeps s (settled v) h n g = keeps-same s h
 
-step-keeps : (s : State) (c : Call) → Held s → GoesOn s c → Keeps s (step s c .1)
+step-keeps : (s : State) (c : Call) → EnabledLocked s → GoesOn s c → Keeps s (step s c .1)
 step-keeps s c h n = go (isStart c) (isSuccess (step s c .0 .status)) refl refl
   where
     go : (b g : Bool) → isStart c ≡ b → isSuccess (step s c .0 .status) ≡ g → Keeps s (step s c .1)
@@ -142,8 +142,8 @@ step-keeps s c h n = go (isStart c) (isSuccess (step s c .0 .status)) refl refl
     go false true e k = subst⁻¹ (Keeps s) (granted-effect s c k) (granted-keeps s c h e k)
 
 -- THE STEP LAW: every call but a granted start leaves the engine enabled and locked over sound stores, and every settled variable as it was, and settled
-pub settled-lasts : (s : State) (c : Call) → Held s → GoesOn s c → Held (step s c .1) × ((v : Variable) → isSettled s v ≡ true → Lasts s (step s c .1) v)
-settled-lasts s c h n = let k = step-keeps s c h n in (k .held, keeps-lasts s (step s c .1) h k)
+pub settled-lasts : (s : State) (c : Call) → EnabledLocked s → GoesOn s c → EnabledLocked (step s c .1) × ((v : Variable) → isSettled s v ≡ true → Lasts s (step s c .1) v)
+settled-lasts s c h n = let k = step-keeps s c h n in (k .engine, keeps-lasts s (step s c .1) h k)
 
 -- ---- by the call's own answer
 

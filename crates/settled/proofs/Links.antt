@@ -19,7 +19,7 @@ use Rattle.entry.specs.declared.LockRule.{LockRule}
 use Rattle.entry.specs.declared.LockRule.the-variants.{NoLock, LockNow, LockOnCreate, LockOnVarState}
 use Rattle.rules.specs.Set.{Lookup, exists, holdsValue, ruleLocks}
 use Rattle.rules.specs.Settled.{Choice, restsOn, lockHoldsBy, lockHoldsIn, settledIn, settled-asks}
-use Rattle.rules.specs.SettledLaws.{next, lock-is}
+use Rattle.rules.specs.SettledLaws.{settledBelow, lock-is}
 use Rattle.set.proofs.LockRules.{triggerIn, rule-trigger, rule-locks, trigger-locks}
 
 -- ---- the chosen entry
@@ -67,10 +67,10 @@ namespace-within e t w q =
 
 module _ (n : ℕ) (choice : Choice) (found : Lookup) (e : Bytes) (v : Variable) {rule : LockRule} (q : rule ≡ lockOf e) where
   -- the lock holds as its rule says
-  by-rule : (r : LockRule) → rule ≡ r → (ruleLocks r e found v and restsOn r (next n choice found (triggerOf e))) ≡ lockHoldsIn n choice found e v
+  by-rule : (r : LockRule) → rule ≡ r → (ruleLocks r e found v and restsOn r (settledBelow n choice found (triggerOf e))) ≡ lockHoldsIn n choice found e v
   unfolding lockHoldsBy
   by-rule r k =
-      ap₂ (λ x y. x and restsOn y (next n choice found (triggerOf e))) (rule-locks e found v q r k) (sym k ∙ q)
+      ap₂ (λ x y. x and restsOn y (settledBelow n choice found (triggerOf e))) (rule-locks e found v q r k) (sym k ∙ q)
       ∙ sym (lock-is n choice found e v)
 
   pub lock-none : rule ≡ NoLock → false ≡ lockHoldsIn n choice found e v
@@ -86,19 +86,19 @@ module _ (n : ℕ) (choice : Choice) (found : Lookup) (e : Bytes) (v : Variable)
 
   module _ (t : Trigger) (k : rule ≡ LockOnVarState t) where
     -- x tells whether the trigger holds the Value
-    by-trigger : {x : Bool} → x ≡ holdsValue (found (triggerAt e t)) (t .value) → (x and next n choice found (triggerAt e t)) ≡ lockHoldsIn n choice found e v
+    by-trigger : {x : Bool} → x ≡ holdsValue (found (triggerAt e t)) (t .value) → (x and settledBelow n choice found (triggerAt e t)) ≡ lockHoldsIn n choice found e v
     unfolding lockHoldsBy
     by-trigger h =
         ap₂ _and_ (trigger-locks e found v q t k h)
-        (ap (next n choice found) (trigger-is e t (rule-trigger e t (sym k ∙ q))) ∙ ap (λ y. restsOn y (next n choice found (triggerOf e))) (sym k ∙ q))
+        (ap (settledBelow n choice found) (trigger-is e t (rule-trigger e t (sym k ∙ q))) ∙ ap (λ y. restsOn y (settledBelow n choice found (triggerOf e))) (sym k ∙ q))
         ∙ sym (lock-is n choice found e v)
 
     pub lock-end : n ≡ 0 → false ≡ lockHoldsIn n choice found e v
-    lock-end z = sym (and-no (holdsValue (found (triggerAt e t)) (t .value))) ∙ ap (λ m. holdsValue (found (triggerAt e t)) (t .value) and next m choice found (triggerAt e t)) (sym z) ∙ by-trigger refl
+    lock-end z = sym (and-no (holdsValue (found (triggerAt e t)) (t .value))) ∙ ap (λ m. holdsValue (found (triggerAt e t)) (t .value) and settledBelow m choice found (triggerAt e t)) (sym z) ∙ by-trigger refl
 
     pub lock-differs : {x : Bool} → x ≡ holdsValue (found (triggerAt e t)) (t .value) → x ≡ false → false ≡ lockHoldsIn n choice found e v
     unfolding _and_
-    lock-differs h d = ap (λ y. y and next n choice found (triggerAt e t)) (sym d) ∙ by-trigger h
+    lock-differs h d = ap (λ y. y and settledBelow n choice found (triggerAt e t)) (sym d) ∙ by-trigger h
 
     -- g and m are what was read as the trigger's namespace and name
     pub lock-link : {x y : Bool} {g m : Bytes} → x ≡ holdsValue (found (triggerAt e t)) (t .value) → x ≡ true → (n ≡ 0 → ⊥)
@@ -106,8 +106,8 @@ module _ (n : ℕ) (choice : Choice) (found : Lookup) (e : Bytes) (v : Variable)
         → y ≡ settledIn (n - 1) choice found (variable g m) → y ≡ lockHoldsIn n choice found e v
     unfolding _and_
     lock-link {y = y} h i nz a b s =
-        s ∙ ap₂ (λ p o. settledIn (n - 1) choice found (variable p o)) a b ∙ below n nz (triggerAt e t) ∙ ap (λ z. z and next n choice found (triggerAt e t)) (sym i) ∙ by-trigger h
+        s ∙ ap₂ (λ p o. settledIn (n - 1) choice found (variable p o)) a b ∙ below n nz (triggerAt e t) ∙ ap (λ z. z and settledBelow n choice found (triggerAt e t)) (sym i) ∙ by-trigger h
       where
-        below : (n : ℕ) → (n ≡ 0 → ⊥) → (u : Variable) → settledIn (n - 1) choice found u ≡ next n choice found u
+        below : (n : ℕ) → (n ≡ 0 → ⊥) → (u : Variable) → settledIn (n - 1) choice found u ≡ settledBelow n choice found u
         below zero nz u = absurd (nz refl)
         below (suc n) nz u = ap (λ m. settledIn m choice found u) (omega arith)

@@ -1,7 +1,7 @@
 // Whether a variable is settled (RULES.md, 10.14): two functions that call each other, while the links that may still be followed fall from 16. The stores were
 // found sound and the policy record valid before, once, and nothing is checked again at a link.
 ghost use mathlib.Core.Path.{_≡_};
-ghost use mathlib.Core.Bool.{Bool, true};
+ghost use mathlib.Core.Bool.{true};
 ghost use Prim.Native.Nat.{_+_, _≤_};
 ghost use lib.ListN.{length};
 ghost use Rattle.limits.specs.Limits.{namespaceBytes};

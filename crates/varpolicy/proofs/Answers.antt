@@ -17,7 +17,7 @@ use Rattle.rules.specs.Engine.{State, Answer, Call, stateOf, onlyStatus, handBa
 use Rattle.engine.specs.declared.DumpAnswer.{DumpAnswer}
 use Rattle.engine.specs.declared.QueryAnswer.{QueryAnswer}
 use Rattle.engine.specs.declared.SetAnswer.{SetAnswer}
-use Rattle.engine.specs.declared.LockState.{LockState}
+use Rattle.engine.specs.declared.SettledAnswer.{SettledAnswer}
 use Rattle.engine.specs.Answers.{dumpAnswer, queryAnswer, settledAnswer}
 use Rattle.varpolicy.specs.declared.Started.{Started}
 use Rattle.varpolicy.specs.declared.Reported.{Reported}
@@ -26,7 +26,7 @@ use Rattle.reader.specs.declared.Listing.{Listing}
 use Rattle.varpolicy.specs.declared.Quarrelled.{Quarrelled}
 use Rattle.varpolicy.specs.declared.ReaderVerdict.{ReaderVerdict}
 use Rattle.varpolicy.specs.declared.ReaderEntry.{ReaderEntry}
-use Rattle.varpolicy.specs.Exports.{Numbered, numbered, statusAlone, startedAnswer, standing, dumpedAnswer, queriedAnswer, reportedOf, writtenAnswer, lockStateAnswer, quarrelledOf, quarrelled, readerVerdictOf, readerEntryOf}
+use Rattle.varpolicy.specs.Exports.{Numbered, numbered, statusAlone, startedAnswer, standing, dumpedAnswer, queriedAnswer, reportedOf, writtenAnswer, isSettledAnswer, quarrelledOf, quarrelled, readerVerdictOf, readerEntryOf}
 
 module _ {x : Answer × State} {s : State} where
   pub status-numbered : {n : ℕ} (a : Status) → x ≡ (onlyStatus a, s) → n ≡ statusNumber a → numbered x ≡ (statusAlone n, s)
@@ -40,9 +40,9 @@ module _ {x : Answer × State} {s : State} where
       → numbered x ≡ (queriedAnswer (record { status = n; enabled = a .enabled }), s)
   query-numbered a e k = ap numbered e ∙ ap (λ m. (queriedAnswer (record { status = m; enabled = a .enabled }), s)) (sym k)
 
-  pub settled-numbered : {n : ℕ} (a : LockState) → x ≡ (settledAnswer a, s) → n ≡ statusNumber (a .status)
-      → numbered x ≡ (lockStateAnswer (record { status = n; settled = a .settled }), s)
-  settled-numbered a e k = ap numbered e ∙ ap (λ m. (lockStateAnswer (record { status = m; settled = a .settled }), s)) (sym k)
+  pub settled-numbered : {n : ℕ} (a : SettledAnswer) → x ≡ (settledAnswer a, s) → n ≡ statusNumber (a .status)
+      → numbered x ≡ (isSettledAnswer (record { status = n; settled = a .settled }), s)
+  settled-numbered a e k = ap numbered e ∙ ap (λ m. (isSettledAnswer (record { status = m; settled = a .settled }), s)) (sym k)
 
 -- a call at switches u, which are those that the bytes say
 module _ {u w : Switches} (same : u ≡ w) where

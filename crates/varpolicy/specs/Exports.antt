@@ -33,7 +33,7 @@ use Rattle.varpolicy.specs.declared.Queried.{Queried}
 use Rattle.varpolicy.specs.declared.Read.{Read}
 use Rattle.varpolicy.specs.declared.Reported.{Reported}
 use Rattle.varpolicy.specs.declared.Written.{Written}
-use Rattle.varpolicy.specs.declared.LockState.{LockState}
+use Rattle.varpolicy.specs.declared.Settled.{Settled}
 use Rattle.varpolicy.specs.declared.Quarrelled.{Quarrelled}
 use Rattle.varpolicy.specs.declared.ReaderVerdict.{ReaderVerdict}
 use Rattle.varpolicy.specs.declared.ReaderEntry.{ReaderEntry}
@@ -109,8 +109,8 @@ abbrev pub writtenAnswer : Written → Numbered
 writtenAnswer r = record { status = r .status; number = 0; bytes = []; switches = none; report = some (r .report) }
 
 -- settled: yes or no
-abbrev pub lockStateAnswer : LockState → Numbered
-lockStateAnswer r = numberedOf (r .status) (cond (r .settled) 1 0) [] none
+abbrev pub isSettledAnswer : Settled → Numbered
+isSettledAnswer r = numberedOf (r .status) (cond (r .settled) 1 0) [] none
 
 -- a read: what it tells, with the number of the status
 abbrev pub readOf : Reading → Read

@@ -19,7 +19,7 @@ ghost use Rattle.rules.specs.Set.{requestOf};
 ghost use Rattle.rules.specs.Report.{groundNumber};
 ghost use Rattle.engine.specs.Answers.{readingOf};
 ghost use Rattle.reader.specs.Reader.{fresh, feedStatus, afterFeed, verdictIn, listingIn};
-ghost use Rattle.varpolicy.specs.Exports.{numbered, statusAlone, startedAnswer, standing, dumpedAnswer, queriedAnswer, readOf, NumberedRead, reportedOf, writtenAnswer, lockStateAnswer, noPair, quarrelled, readerVerdictOf, readerEntryOf};
+ghost use Rattle.varpolicy.specs.Exports.{numbered, statusAlone, startedAnswer, standing, dumpedAnswer, queriedAnswer, readOf, NumberedRead, reportedOf, writtenAnswer, isSettledAnswer, noPair, quarrelled, readerVerdictOf, readerEntryOf};
 use quarrels::Verdict;
 use reader::Listing;
 use rules::Ground;
@@ -86,9 +86,9 @@ pub struct Written {
     pub report: Reported,
 }
 
-// How long the lock of a variable lasts (RULES.md, 10.14): whether the variable is settled.
+// What settled answers (RULES.md, 10.14).
 #[repr(C)]
-pub struct LockState {
+pub struct Settled {
     pub status: u32,
     pub settled: bool,
 }
@@ -377,7 +377,7 @@ pub extern "C" fn varpolicy_set_e10(
     }
 }
 
-// Settled: whether the variable's lock holds until the next power-on or restart, once the engine is enabled and locked. The switches are not asked.
+// Settled: if so, and the engine is enabled and locked, the variable's lock holds until the next power-on or restart. The switches are not asked.
 #[no_mangle]
 pub extern "C" fn varpolicy_settled<'a>(
     nv: &'a [u8],
@@ -385,14 +385,14 @@ pub extern "C" fn varpolicy_settled<'a>(
     policy: &[u8],
     namespace: &[u8; 16],
     name: &[u8],
-) -> LockState
+) -> Settled
     ensures { λ r.
         ⌜ ((w : Switches) → numbered (step (stateOf (now (nv .entry)) (now (vol .entry)) (now (policy .entry)) w) (settled (variable (now (namespace .entry)) (now (name .entry)))))
-        ≡ (lockStateAnswer r, stateOf (now (nv .entry)) (now (vol .entry)) (now (policy .entry)) w)) ⌝ }
+        ≡ (isSettledAnswer r, stateOf (now (nv .entry)) (now (vol .entry)) (now (policy .entry)) w)) ⌝ }
 {
     let answer = engine::settled(nv, vol, policy, *namespace, name);
     let status = answer.status;
-    LockState {
+    Settled {
         status: number(status),
         settled: answer.settled,
     }

@@ -3,6 +3,7 @@
 use crate::lent::{Answer, Lent, OURS, SWITCHES, answer};
 use crate::plain::calls as plain;
 use crate::plain::index::{Small, Standard};
+use crate::plain::settled::{self as by_links, Settled};
 use std::hint::black_box;
 use varpolicy::{Attributes, Name, Report, Switches, calls};
 
@@ -32,6 +33,11 @@ pub enum Call {
     Dump,
     /// Looks for two entries that quarrel, in the entries as a dump; the name goes to the front of the buffer.
     Quarrels,
+    /// Tells whether a variable is settled.
+    Settled {
+        /// Its name.
+        name: Name,
+    },
 }
 
 /// Who makes the call.
@@ -66,6 +72,7 @@ impl Call {
             }
             Call::Dump => dump(who, switches, lent),
             Call::Quarrels => quarrels(who, lent),
+            Call::Settled { name } => settled(column, name, lent),
         }
     }
 
@@ -139,6 +146,20 @@ fn quarrels(who: Who, lent: &mut Lent) -> Answer {
     answer([status as usize, found.into(), earlier, later, name_length])
 }
 
+/// Ordinary Rust chooses as in a set, or by the table of the entries first.
+fn settled(column: usize, name: &[u8], lent: &Lent) -> Answer {
+    let Lent { nv, volatile, policy, .. } = lent;
+    let Settled { status, settled } = match column {
+        0 => {
+            let calls::Settled { status, settled } = calls::settled(nv, volatile, policy, &OURS, name);
+            Settled { status: status.number(), settled }
+        }
+        1 => by_links::settled::<false>(nv, volatile, policy, &OURS, name),
+        _ => by_links::settled::<true>(nv, volatile, policy, &OURS, name),
+    };
+    answer([status as usize, settled.into()])
+}
+
 fn plain_switches(switches: Switches) -> plain::Switches {
     let Switches { enabled, locked, disabling_allowed, exited } = switches;
     plain::Switches { enabled, locked, disabling_allowed, exited }
@@ -148,7 +169,7 @@ fn plain_switches(switches: Switches) -> plain::Switches {
 mod tests {
     use super::*;
     use crate::inputs;
-    use varpolicy::Entry;
+    use varpolicy::{Entry, Lock};
 
     const EXITED: Switches = Switches { exited: true, ..SWITCHES };
 
@@ -188,5 +209,45 @@ mod tests {
             assert!(after_exit(Who::Standard, &name) == library);
             assert!(after_exit(Who::Small, &name) == library);
         }
+    }
+
+    /// Entries by chance for the variables "A0" to "A7", some of which are stored with a payload of 1.
+    fn by_chance(below: &mut impl FnMut(usize) -> usize) -> Lent {
+        let variable = |number: usize| inputs::text(&format!("A{number}"));
+        let mut entries: Vec<Entry> = Vec::new();
+        for _ in 0..below(12) {
+            let name = [variable(below(8)), variable(below(8)), inputs::text("A#"), Name::EMPTY][below(9) / 2 % 4];
+            let trigger = Lock::OnVarState { namespace: OURS, name: variable(below(8)), value: 1 + below(9) as u8 / 8 };
+            let lock = [Lock::No, Lock::Now, Lock::OnCreate, trigger][below(8).min(3)];
+            if entries.iter().all(|known| known.name != name) {
+                entries.push(Entry { lock, ..Entry::new(OURS, name) });
+            }
+        }
+        let stored: Vec<Name> = (0..8).map(variable).filter(|_| below(9) > 0).collect();
+        inputs::with_stored(&entries, &stored)
+    }
+
+    #[test]
+    fn all_versions_agree_whether_a_variable_is_settled() {
+        let mut seed = 1_u64;
+        let mut below = |most: usize| {
+            seed = seed.wrapping_mul(6_364_136_223_846_793_005).wrapping_add(1);
+            (seed >> 33) as usize % most
+        };
+        let mut settled_ones = 0;
+        for round in 0..2000 {
+            let mut lent = by_chance(&mut below);
+            match round % 50 {
+                0 => lent.nv.push(0),
+                1 => lent.policy[0] = 1,
+                _ => {}
+            }
+            for name in ["A0", "A1", "A7", "A8", "A#", ""].map(inputs::text) {
+                let library = settled(0, &name, &lent);
+                assert_eq!([1, 2].map(|column| settled(column, &name, &lent)), [library; 2], "{name} in {round}");
+                settled_ones += library[1];
+            }
+        }
+        assert!((2000..6000).contains(&settled_ones), "{settled_ones} are settled");
     }
 }

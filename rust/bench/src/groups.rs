@@ -2,12 +2,13 @@
 
 use crate::calls::Call;
 use crate::case::{Bar, Case, Group, Growth, Work};
-use crate::inputs::{self, Policy, VOLATILE, variable};
+use crate::inputs::{self, Full, Policy, VOLATILE, variable};
 use crate::lent::{Lent, OURS};
 use crate::parts::Part;
 use crate::reading::Reading;
 use varpolicy::{
-    Attributes, Entry, Ground, Lock, MAX_ENTRIES, MAX_PIECE, MAX_STORE_BYTES, MIN_ENTRY_SIZE, Name, POLICY_BYTES,
+    Attributes, Entry, Ground, Lock, MAX_ENTRIES, MAX_LINKS, MAX_PIECE, MAX_STORE_BYTES, MIN_ENTRY_SIZE, Name,
+    POLICY_BYTES,
 };
 
 /// How many entries a policy record holds, from a quarter of the most to the most.
@@ -44,6 +45,7 @@ pub fn whole() -> Group {
     cases.extend([COUNTS[1], COUNTS[3]].into_iter().flat_map(over_entries));
     cases.extend([0, 1].map(over_few_entries));
     cases.extend(refused(COUNTS[1]));
+    cases.extend([COUNTS[1], COUNTS[3]].into_iter().flat_map(triggered));
     Group { title: "whole calls", columns: VERSIONS, ratios: RATIOS, cases, growth: Vec::new() }
 }
 
@@ -110,6 +112,18 @@ fn refused(count: usize) -> Vec<Case> {
     ]
 }
 
+/// Sets of which the last of `count` entries asks a trigger: there is none, or it locks.
+fn triggered(count: usize) -> [Case; 2] {
+    let (units, _) = TRIGGERS[0];
+    let entries = inputs::with_triggers(count, units);
+    let (made, trigger) = (|| set_under(entries[count - 1].name, true), inputs::trigger(units));
+    let stored = inputs::with_stored(&entries, &[trigger]);
+    [
+        call(format!("set, {count} entries, trigger absent"), made(), &inputs::with_short_stores(&entries), 1.1),
+        call(format!("set refused, {count} entries, trigger"), made(), &stored, 1.1),
+    ]
+}
+
 /// The registration of one entry more.
 pub fn register() -> Group {
     let case = |what: &str, units: usize, mut entries: Vec<Entry>, bar: f64| {
@@ -138,6 +152,74 @@ pub fn quarrels() -> Group {
     let cases = COUNTS.into_iter().flat_map(of_count).map(|(count, dump)| case(count, dump)).collect();
     let title = "quarrels of a dump";
     Group { title, columns: &["library", "ordinary"], ratios: &["to ord."], cases, growth: Vec::new() }
+}
+
+/// Whether a variable is settled, over full stores and the most entries, and over short stores.
+pub fn settled() -> Group {
+    Group {
+        title: "settled variables",
+        columns: &["library", "as a set", "by table"],
+        ratios: &["to set", "to table"],
+        cases: over_full_stores().into_iter().chain(far_links()).chain(over_short_stores()).collect(),
+        growth: Vec::new(),
+    }
+}
+
+fn settled_case(what: &str, name: Name, lent: &Lent, bar: f64) -> Case {
+    call(format!("settled, {what}"), Call::Settled { name }, lent, bar)
+}
+
+/// Whether the first of these variables is settled: each is linked to the next, and the last is locked as is told.
+fn chain(full: Full, names: &[Name], last: Lock, what: &str, bar: f64) -> Case {
+    let links = match names.len() - 1 {
+        0 => "no link".into(),
+        1 => "1 link".into(),
+        links => format!("{links} links"),
+    };
+    settled_case(&format!("{links}, {what}"), names[0], &full.under(inputs::linked(names, last)), bar)
+}
+
+/// Chains that are spread evenly over the stores and among the entries.
+fn over_full_stores() -> Vec<Case> {
+    let full = Full::ONE_UNIT;
+    let spread = |links: usize, last: Lock, what: &str, bar: f64| chain(full, &full.spread(links + 1), last, what, bar);
+    let two = full.spread(2);
+    let back = Lock::OnVarState { namespace: OURS, name: two[0], value: 1 };
+    vec![
+        spread(MAX_LINKS, Lock::OnCreate, "lock on create", 1.25),
+        spread(MAX_LINKS, Lock::Now, "lock now", 1.25),
+        spread(MAX_LINKS + 1, Lock::Now, "lock now", 1.25),
+        spread(1, Lock::Now, "lock now", 1.0),
+        spread(0, Lock::OnCreate, "lock on create", 1.0),
+        spread(0, Lock::Now, "lock now", 1.0),
+        settled_case("a loop of two", two[0], &full.under(inputs::linked(&two, back)), 1.25),
+        settled_case("no entry", two[0], &full.under(Vec::new()), 1.0),
+    ]
+}
+
+/// The longest chains where the library, which searches from record to record, has most to do: at the end of the stores,
+/// and where names begin alike.
+fn far_links() -> [Case; 3] {
+    let (full, alike, count) = (Full::ONE_UNIT, Full::ALIKE, MAX_LINKS + 1);
+    let case = |full: Full, names: Vec<Name>, what: &str| chain(full, &names, Lock::OnCreate, what, 1.25);
+    [
+        case(full, full.last(count), "the last records"),
+        case(alike, alike.spread(count), "names alike"),
+        case(alike, alike.last(count), "names alike, the last records"),
+    ]
+}
+
+/// A short chain over few entries and the longest over the most, with no other variables. The second has no bar: the
+/// library goes over the entries for each link.
+fn over_short_stores() -> [Case; 2] {
+    let names: Vec<Name> = (0..=MAX_LINKS).map(variable).collect();
+    let few = &names[..2];
+    let case = |what: String, entries: &[Entry], names: &[Name]| {
+        settled_case(&format!("{what}, short stores"), names[0], &inputs::with_stored(entries, names), 1.1)
+    };
+    let most = Full::ONE_UNIT.entries(inputs::linked(&names, Lock::Now));
+    let most = case(format!("{MAX_LINKS} links, {MAX_ENTRIES} entries"), &most, &names);
+    [case("1 link, 2 entries".into(), &inputs::linked(few, Lock::Now), few), Case { bar: None, ..most }]
 }
 
 /// A dump to read: what it is, and its entries.
@@ -372,7 +454,7 @@ pub fn moves() -> Group {
 #[cfg(test)]
 mod tests {
     use super::*;
-    use crate::lent::Answer;
+    use crate::lent::{Answer, answer};
 
     #[test]
     fn each_refused_set_has_its_report() {
@@ -382,5 +464,16 @@ mod tests {
         };
         let answers: Vec<Answer> = refused(64).into_iter().map(answer).collect();
         assert_eq!(answers, [[2, 1, 63, 0, 0, 0, 0], [2, 2, 63, 0, 1, 1, 1], [8, 3, 63, 0, 0, 0, 0]]);
+    }
+
+    #[test]
+    fn each_settled_case_has_its_answer() {
+        let is_settled = |case: &Case| match &case.work {
+            Work::Call(call) => call.run(0, &mut case.lent.clone()) == answer([0, 1]),
+            _ => panic!("not a call"),
+        };
+        let not_settled: Vec<String> =
+            settled().cases.into_iter().filter(|case| !is_settled(case)).map(|case| case.name).collect();
+        assert_eq!(not_settled, ["settled, 17 links, lock now", "settled, a loop of two", "settled, no entry"]);
     }
 }

@@ -2,7 +2,7 @@
 
 use crate::archive;
 use crate::lent::{Lent, OURS, Readers};
-use varpolicy::{Entry, Lock, MAX_STORE_BYTES, Name, POLICY_BYTES};
+use varpolicy::{Entry, Lock, MAX_ENTRIES, MAX_STORE_BYTES, Name, POLICY_BYTES};
 
 /// No variables and no entries.
 pub fn empty() -> Lent {
@@ -48,14 +48,72 @@ pub fn with_names(numbers: &[u32], count: usize) -> Lent {
 /// The number of the first variable of the volatile store.
 pub const VOLATILE: usize = 5000;
 
+/// Two full stores: how many records each has, and the name of each record by its place among those of both.
+#[derive(Clone, Copy)]
+pub struct Full {
+    records: usize,
+    name: fn(usize) -> Name,
+}
+
+impl Full {
+    /// Names of one unit, records of 40 bytes.
+    pub const ONE_UNIT: Full = Full { records: 819, name: variable };
+    /// Names of 8 units of which the first four are the same, records of 52 bytes.
+    pub const ALIKE: Full = Full { records: 630, name: |place| text(&format!("Boot{place:04X}")) };
+
+    /// The names of `count` variables spread evenly over both stores.
+    pub fn spread(self, count: usize) -> Vec<Name> {
+        (0..count).map(|place| (self.name)((2 * place + 1) * self.records / count)).collect()
+    }
+
+    /// The names of the last `count` variables of the volatile store.
+    pub fn last(self, count: usize) -> Vec<Name> {
+        (2 * self.records - count..2 * self.records).map(self.name).collect()
+    }
+
+    /// The most entries: these, spread evenly among entries for variables that are not stored.
+    pub fn entries(self, entries: Vec<Entry>) -> Vec<Entry> {
+        let count = entries.len();
+        let absent = 2 * self.records..2 * self.records + MAX_ENTRIES - count;
+        let mut all: Vec<Entry> = absent.map(|place| Entry::new(OURS, (self.name)(place))).collect();
+        for (place, entry) in entries.into_iter().enumerate() {
+            all.insert((2 * place + 1) * MAX_ENTRIES / (2 * count), entry);
+        }
+        all
+    }
+
+    /// The stores, under the most entries, these among them.
+    pub fn under(self, entries: Vec<Entry>) -> Lent {
+        let names = |first: usize| (first..first + self.records).map(self.name);
+        let (nv, volatile) = (store(names(0), 3), store(names(self.records), 2));
+        Lent { nv, volatile, ..with_entries(&self.entries(entries)) }
+    }
+}
+
+/// Entries for these variables: each is locked while the next holds 1, and the last as is told.
+pub fn linked(names: &[Name], last: Lock) -> Vec<Entry> {
+    let next = names[1..].iter().map(|name| Lock::OnVarState { namespace: OURS, name: *name, value: 1 });
+    let entry = |(name, lock): (&Name, Lock)| Entry { lock, ..Entry::new(OURS, *name) };
+    names.iter().zip(next.chain([last])).map(entry).collect()
+}
+
+/// A policy record with these entries, and short stores with these variables.
+pub fn with_stored(entries: &[Entry], names: &[Name]) -> Lent {
+    let mut nv = records(names.iter().copied(), 3);
+    nv.resize(nv.len().next_multiple_of(256), 0xFF);
+    Lent { nv, ..with_entries(entries) }
+}
+
 /// A store of full length with a record of one payload byte for each name.
 fn store(names: impl Iterator<Item = Name>, attributes: u32) -> Vec<u8> {
-    let mut bytes = Vec::new();
-    for name in names {
-        bytes.extend(record(&name, attributes));
-    }
+    let mut bytes = records(names, attributes);
     bytes.resize(MAX_STORE_BYTES, 0xFF);
     bytes
+}
+
+/// The records of such a store.
+fn records(names: impl Iterator<Item = Name>, attributes: u32) -> Vec<u8> {
+    names.flat_map(|name| record(&name, attributes)).collect()
 }
 
 fn record(name: &[u8], attributes: u32) -> Vec<u8> {
@@ -126,8 +184,13 @@ pub fn numbered(count: usize, units: usize) -> Vec<Entry> {
 
 /// `count` entries with names of 8 units and one trigger, whose name has `units` units.
 pub fn with_triggers(count: usize, units: usize) -> Vec<Entry> {
-    let lock = Lock::OnVarState { namespace: OURS, name: text(&"EndOfDxe".repeat(8)[..units]), value: 1 };
+    let lock = Lock::OnVarState { namespace: OURS, name: trigger(units), value: 1 };
     numbered(count, 8).into_iter().map(|entry| Entry { lock, ..entry }).collect()
+}
+
+/// The name of the trigger of such entries.
+pub fn trigger(units: usize) -> Name {
+    text(&"EndOfDxe".repeat(8)[..units])
 }
 
 /// Dumps of `count` entries: what they are, and the entries. No two of these quarrel but where it is said.

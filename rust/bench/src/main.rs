@@ -49,6 +49,10 @@ first unit first. Every call checks all it is lent: two stores of 32,768 bytes w
 are named, one of 256 bytes. Names of one slot share a slot of the filter in the library's check. In rows of triggers
 all entries have the same one, and names of 8 units. In those of quarrels the entries are one dump; where '#' is named,
 all have it in one namespace, as often and in names of one length.
+In rows of settled variables the stores are full and the entries 128, and the linked variables are spread evenly over
+the stores and their entries among the others, but where a row says otherwise. Names alike share their first four units
+of 8. as a set: the choice is that of a set. by table: an entry of just the variable's name is looked for first, in the
+table of the entries. Both find variables by the small table.
 A dump is read by a reader that is started, fed in pieces of 4,096 bytes or of as many as are named, and asked for its
 verdict. check: the check of a record with the same entries, in libbench_parts.a. ordinary: with what the ordinary check
 has. one pass: with one pass over a name for the test and the hash. The calls alone are the instructions of
@@ -64,10 +68,11 @@ are then told to use vector instructions: of `rep stosb` every byte would be cou
 ";
 
 /// The groups of cases. Each is made by itself, so that a run under valgrind makes only its own.
-const GROUPS: [fn(&[u32]) -> Group; 15] = [
+const GROUPS: [fn(&[u32]) -> Group; 16] = [
     |_| groups::whole(),
     |_| groups::register(),
     |_| groups::quarrels(),
+    |_| groups::settled(),
     |_| groups::reading(),
     |_| groups::small_pieces(),
     |_| groups::single_bytes(),

@@ -105,7 +105,7 @@ pub fn by_library(state: &mut State, call: &Call) -> Answer {
             Answer { status: written.status, values: Values::Written(written.report) }
         }
         Call::Settled { namespace, name } => {
-            let calls::LockState { status, settled } = calls::settled(nv, volatile, policy, namespace, name);
+            let calls::Settled { status, settled } = calls::settled(nv, volatile, policy, namespace, name);
             Answer { status, values: Values::Settled { settled } }
         }
     }

@@ -6,7 +6,7 @@ use crate::reason::{self, Chains, Refusal};
 use crate::{describe, quarrel};
 use std::collections::BTreeMap;
 use std::fmt::Display;
-use varpolicy::calls::{self, LockState, Request, Started};
+use varpolicy::calls::{self, Settled, Request, Started};
 use varpolicy::{Attributes, Namespace, POLICY_BYTES, Quarrel, Status, SwitchBytes, Switches};
 
 /// The four parts of `docs/RULES.md`, 1.2; and what is none of the engine's: a dump that is complete, if there is one,
@@ -161,7 +161,7 @@ impl Simulation {
     /// Whether a variable is settled, and a line for each variable of its chain.
     fn settled(&self, namespace: &Namespace, name: &[u8], namespaces: &BTreeMap<String, Namespace>) -> String {
         let Simulation { nv, volatile, policy, .. } = self;
-        let LockState { status, settled } = calls::settled(nv, volatile, policy, namespace, name);
+        let Settled { status, settled } = calls::settled(nv, volatile, policy, namespace, name);
         if status != Status::Success {
             return format!("{status} {}", reason::settled(status, nv, volatile, name));
         }

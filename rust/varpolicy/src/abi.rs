@@ -32,7 +32,7 @@ pub(crate) struct Found {
 }
 
 #[repr(C)]
-pub(crate) struct LockState {
+pub(crate) struct Settled {
     pub(crate) status: u32,
     pub(crate) settled: bool,
 }
@@ -170,7 +170,7 @@ unsafe extern "C" {
         namespace: *const [u8; 16],
         name: *const u8,
         name_len: usize,
-    ) -> LockState;
+    ) -> Settled;
 
     pub(crate) fn varpolicy_quarrels(dump: *const u8, dump_len: usize, name: *mut [u8; 2 * MAX_NAME_UNITS]) -> Quarrel;
 
@@ -190,7 +190,7 @@ const _: () = {
     assert!(size_of::<Dumped>() == 16);
     assert!(size_of::<State>() == 8);
     assert!(size_of::<Found>() == 32);
-    assert!(size_of::<LockState>() == 8);
+    assert!(size_of::<Settled>() == 8);
     assert!(size_of::<Report>() == 24);
     assert!(size_of::<Written>() == 28);
     assert!(size_of::<Quarrel>() == 24);

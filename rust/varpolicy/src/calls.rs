@@ -47,7 +47,7 @@ pub struct Found<'a> {
 
 /// What [`settled`] answers.
 #[derive(Clone, Copy, PartialEq, Eq, Debug)]
-pub struct LockState {
+pub struct Settled {
     /// SUCCESS, INVALID_PARAMETER or VOLUME_CORRUPTED.
     pub status: Status,
     /// Whether the variable is settled; refused, it is false.
@@ -340,8 +340,8 @@ pub fn set(
     Written { status: Status::answered(answer.status), report: Report::answered(&answer.report) }
 }
 
-/// Tells whether a variable is settled: its lock holds, and hangs on nothing that may still change. `name` is the bytes of
-/// its 16-bit units, without a closing zero.
+/// Tells whether a variable is settled. If so, its lock depends on nothing that a call may still change. `name` is the
+/// bytes of its 16-bit units, without a closing zero.
 ///
 /// It is settled if the entry chosen for it locks now; or locks on create, and the variable exists; or locks by the state
 /// of a trigger, which exists with a payload of one byte, the entry's value, and is settled in turn. From a variable to its
@@ -354,7 +354,7 @@ pub fn set(
 ///
 /// * VOLUME_CORRUPTED: the stores are unsound, or `policy` is not a policy record.
 /// * INVALID_PARAMETER: the name is not 1 to 64 units, none of them zero, or its bytes are odd in number.
-pub fn settled(nv: &[u8], volatile: &[u8], policy: &[u8], namespace: &Namespace, name: &[u8]) -> LockState {
+pub fn settled(nv: &[u8], volatile: &[u8], policy: &[u8], namespace: &Namespace, name: &[u8]) -> Settled {
     // SAFETY: each pointer and length is of one live slice, and nothing is written.
     let answer = unsafe {
         abi::varpolicy_settled(
@@ -369,7 +369,7 @@ pub fn settled(nv: &[u8], volatile: &[u8], policy: &[u8], namespace: &Namespace,
             name.len(),
         )
     };
-    LockState { status: Status::answered(answer.status), settled: answer.settled }
+    Settled { status: Status::answered(answer.status), settled: answer.settled }
 }
 
 /// Tells whether two entries of a dump quarrel: they have the same rank, and some variable, stored or not, is targeted

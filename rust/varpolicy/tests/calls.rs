@@ -1,6 +1,6 @@
 //! Each call of the archive, once or twice: the declarations in `abi.rs` fit it.
 
-use varpolicy::calls::{LockState, Request, Written};
+use varpolicy::calls::{Settled, Request, Written};
 use varpolicy::{
     Attributes, Engine, Entry, Ground, Lock, Name, NotDumped, POLICY_BYTES, Refused, Report, Status, SwitchBytes,
     Switches, calls,
@@ -127,7 +127,7 @@ impl Bench {
     /// Whether a variable of G is settled.
     fn settled(&self, name: &str) -> bool {
         let name = Name::new(name).unwrap();
-        let LockState { status, settled } = calls::settled(&self.nv, &self.volatile, &self.policy, &G, &name);
+        let Settled { status, settled } = calls::settled(&self.nv, &self.volatile, &self.policy, &G, &name);
         assert_eq!(status, Status::Success);
         settled
     }
@@ -358,7 +358,7 @@ fn no_loop_settles() {
 #[test]
 fn of_settled_damage_is_told_before_a_bad_name() {
     let bench = Bench::with(&[locked("", Lock::Now)]);
-    let refused = |status| LockState { status, settled: false };
+    let refused = |status| Settled { status, settled: false };
     let mut damaged = bench.policy;
     damaged[POLICY_BYTES - 1] = 1;
     for name in [&b"A\0"[..], b""] {
@@ -373,7 +373,7 @@ fn of_settled_damage_is_told_before_a_bad_name() {
         assert_eq!(answer, refused(Status::InvalidParameter), "{name:?}");
     }
     let longest = calls::settled(&[], &[], &bench.policy, &G, &[0x41; 128]);
-    assert_eq!(longest, LockState { status: Status::Success, settled: true });
+    assert_eq!(longest, Settled { status: Status::Success, settled: true });
 }
 
 #[test]

@@ -6,7 +6,7 @@ use Rattle.names.specs.Name.{Variable, variable, named, isName}
 use Rattle.policy.specs.PolicyLaws.{Checked, check-valid, check-invalid}
 use Rattle.stores.specs.Pair.{sound, endsOf}
 use Rattle.stores.specs.PairLaws.{check-sound, check-unsound}
-use Rattle.engine.proofs.LockStates.{settled-unsound, settled-invalid, settled-unnamed, settled-told}
+use Rattle.engine.proofs.SettledAnswers.{settled-unsound, settled-invalid, settled-unnamed, settled-told}
 use borrow.Author.Tests.{eq-eqb, not-true, not-false}
 use lib.ListN.{length}
 use mathlib.Core.Bool.{true, false}

@@ -1,9 +1,9 @@
-use Prim.Native.Nat.{_+_, _≤_}
+use Prim.Native.Nat.{_+_}
 use mathlib.Core.Path.{_≡_, refl, ap, _∙_}
 use mathlib.Core.List.{[], _++_, append-nil}
 use native.Mathlib.Omega.{arith}
 use lib.ListN.{length, drop, replicate}
-use Rattle.slices.specs.Bytes.{Bytes, overwrite, part}
+use Rattle.slices.specs.Bytes.{Bytes, overwrite}
 use Rattle.slices.specs.PartLaws.{length-part}
 use Rattle.slices.specs.OverwriteLaws.{overwrite-seam}
 use borrow.Author.Needs.{needs}

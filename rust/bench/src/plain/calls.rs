@@ -4,7 +4,7 @@ use super::index::{Index, Place, Small, Standard};
 use super::policy::{Chosen, Entries, is_entry};
 use super::quarrels::{Quarrel, first_quarrel};
 use super::stores::{Key, Stores, record_len};
-use super::{APPEND, BS, ENTRY_HEADER, HEADER, MAX_NAME, NV, RT, is_name, le16, le32};
+use super::{APPEND, BS, ENTRY_HEADER, HEADER, MAX_NAME, NV, RT, is_name, le32};
 use varpolicy::{Ground, MAX_ENTRIES, MAX_PAYLOAD_BYTES, POLICY_BYTES, Report};
 
 pub const SUCCESS: u32 = 0;
@@ -308,10 +308,7 @@ fn enforce<'a, I: Index<'a>>(
         0 => false,
         1 => true,
         2 => found.is_some(),
-        _ => {
-            let trigger = Key::new(&entry[44..60], &entry[62..usize::from(le16(entry, 6)) - 2]);
-            stores.find(trigger.bytes()).is_some_and(|place| *stores.payload(place) == [entry[60]])
-        }
+        _ => stores.holds(&Key::of_trigger(entry), entry[60]),
     };
     if locked { Err(Written { status: WRITE_PROTECTED, report: report(Ground::Lock) }) } else { Ok(()) }
 }

@@ -13,6 +13,7 @@ mod pattern;
 mod policy;
 mod quarrels;
 pub mod reader;
+pub mod settled;
 mod stores;
 
 use varpolicy::MAX_NAME_UNITS;

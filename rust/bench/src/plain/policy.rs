@@ -219,7 +219,12 @@ impl<'a> Entries<'a> {
 
     /// The slot of an entry of the same namespace and name, or the free one where it belongs.
     fn slot(&self, entry: &[u8]) -> usize {
-        let (namespace, name) = (&entry[8..24], name_of(entry));
+        self.slot_of(&entry[8..24], name_of(entry))
+    }
+
+    /// The same by namespace and name. As a call it would cost the check some 45 instructions more for each entry.
+    #[inline(always)]
+    fn slot_of(&self, namespace: &[u8], name: &[u8]) -> usize {
         let hash = Small::hash(namespace) ^ Small::hash(name);
         let mut slot = hash % self.table.len();
         while self.table[slot] != 0 {
@@ -247,6 +252,13 @@ impl<'a> Entries<'a> {
     /// Whether an entry of the same namespace and name is there.
     pub fn contains(&self, entry: &[u8]) -> bool {
         self.table[self.slot(entry)] != 0
+    }
+
+    /// The entry for this variable and no other: of the same namespace and name, without '#'. If there is one, it is
+    /// chosen. The name has its zero unit.
+    pub fn only_for(&self, namespace: &[u8], name: &[u8]) -> Option<&'a [u8]> {
+        let place = self.table[self.slot_of(namespace, name)].checked_sub(1)?;
+        (signs(name) == 0).then(|| self.entry(place.into()))
     }
 
     /// The chosen entry: lowest rank, first among equals. Most entries are passed by after a look at how long their names

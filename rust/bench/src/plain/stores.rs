@@ -1,7 +1,7 @@
 //! The two stores: the check of both, and what their records say.
 
 use super::index::{Index, Place, Seen};
-use super::{BS, HEADER, MAX_NAME, NV, RT, all_are, is_closed_name, le32};
+use super::{BS, HEADER, MAX_NAME, NV, RT, all_are, is_closed_name, le16, le32};
 use varpolicy::{MAX_PAYLOAD_BYTES, MAX_STORE_BYTES};
 
 pub fn record_len(name_size: usize, data_size: usize) -> usize {
@@ -70,6 +70,11 @@ impl<'a, I: Index<'a>> Stores<'a, I> {
     pub fn find(&self, key: &[u8]) -> Option<Place> {
         self.index.get(self.bytes, key)
     }
+
+    /// Whether a trigger is stored with the one byte that locks.
+    pub fn holds(&self, trigger: &Key, value: u8) -> bool {
+        self.find(trigger.bytes()).is_some_and(|place| *self.payload(place) == [value])
+    }
 }
 
 /// A key as it stands in a record: namespace, name, zero unit.
@@ -87,7 +92,17 @@ impl Key {
         Key { bytes, len: 16 + name.len() + 2 }
     }
 
+    /// Of the trigger of an entry that has one.
+    pub fn of_trigger(entry: &[u8]) -> Key {
+        Key::new(&entry[44..60], &entry[62..usize::from(le16(entry, 6)) - 2])
+    }
+
     pub fn bytes(&self) -> &[u8] {
         &self.bytes[..self.len]
+    }
+
+    /// The namespace, and the name with its zero unit.
+    pub fn parts(&self) -> (&[u8; 16], &[u8]) {
+        self.bytes().split_first_chunk().expect("a key")
     }
 }

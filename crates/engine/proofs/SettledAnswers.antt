@@ -14,7 +14,7 @@ use Rattle.status.specs.declared.Status.the-variants.{Success, InvalidParameter
 use Rattle.switches.specs.declared.Switches.{Switches}
 use Rattle.rules.specs.Engine.{State, stateOf, settledStatus, isSettled, answerOf, status, step}
 use Rattle.rules.specs.Engine.Call.{settled}
-use Rattle.engine.specs.declared.LockState.{LockState}
+use Rattle.engine.specs.declared.SettledAnswer.{SettledAnswer}
 use Rattle.engine.specs.Answers.{settledAnswer, notSettled}
 use Rattle.engine.proofs.Steps.{step-is}
 
@@ -22,15 +22,15 @@ module _ (nv vol p : Bytes) (v : Variable) where
   abbrev lent : Switches → State
   lent w = stateOf nv vol p w
 
-  corrupt : {a : LockState} → a ≡ notSettled VolumeCorrupted → (sound nv vol and policyValid p) ≡ false → (w : Switches) → step (lent w) (settled v) ≡ (settledAnswer a, lent w)
+  corrupt : {a : SettledAnswer} → a ≡ notSettled VolumeCorrupted → (sound nv vol and policyValid p) ≡ false → (w : Switches) → step (lent w) (settled v) ≡ (settledAnswer a, lent w)
   corrupt k h w =
       step-is (lent w) (settled v) VolumeCorrupted (ap (λ b. cond b (settledStatus v) VolumeCorrupted) h) ∙ ap (λ x. (settledAnswer x, lent w)) (sym k)
 
-  pub settled-unsound : {a : LockState} → a ≡ notSettled VolumeCorrupted → sound nv vol ≡ false → (w : Switches) → step (lent w) (settled v) ≡ (settledAnswer a, lent w)
+  pub settled-unsound : {a : SettledAnswer} → a ≡ notSettled VolumeCorrupted → sound nv vol ≡ false → (w : Switches) → step (lent w) (settled v) ≡ (settledAnswer a, lent w)
   unfolding _and_
   settled-unsound k h = corrupt k (rw h)
 
-  pub settled-invalid : {a : LockState} → a ≡ notSettled VolumeCorrupted → policyValid p ≡ false → (w : Switches) → step (lent w) (settled v) ≡ (settledAnswer a, lent w)
+  pub settled-invalid : {a : SettledAnswer} → a ≡ notSettled VolumeCorrupted → policyValid p ≡ false → (w : Switches) → step (lent w) (settled v) ≡ (settledAnswer a, lent w)
   settled-invalid k h = corrupt k (rw h (and-no (sound nv vol)))
 
   module _ (s : sound nv vol ≡ true) (q : policyValid p ≡ true) where
@@ -39,7 +39,7 @@ module _ (nv vol p : Bytes) (v : Variable) where
     unfolding _and_
     tested n e w = rw (s, q) e
 
-    pub settled-unnamed : {a : LockState} → a ≡ notSettled InvalidParameter → named v ≡ false → (w : Switches) → step (lent w) (settled v) ≡ (settledAnswer a, lent w)
+    pub settled-unnamed : {a : SettledAnswer} → a ≡ notSettled InvalidParameter → named v ≡ false → (w : Switches) → step (lent w) (settled v) ≡ (settledAnswer a, lent w)
     unfolding settledStatus
     settled-unnamed k h w = step-is (lent w) (settled v) InvalidParameter (tested InvalidParameter (rw h) w) ∙ ap (λ x. (settledAnswer x, lent w)) (sym k)
 
