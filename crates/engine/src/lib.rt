@@ -440,16 +440,6 @@ pub fn settled<'a>(
     }
     SettledAnswer {
         status: Status::Success,
-        settled: settled::settled(
-            policy,
-            &entry_ends,
-            count,
-            nv,
-            vol,
-            ends,
-            &namespace,
-            name,
-            limits::MAX_LINKS,
-        ),
+        settled: settled::is_settled(policy, &entry_ends, count, nv, vol, ends, &namespace, name),
     }
 }

@@ -22,6 +22,7 @@ use Rattle.policy.specs.PolicyLaws as policy
 use Rattle.store.specs.Record.{hasRT, attributesOf, isOf, sameVariable, variableOf}
 use Rattle.store.specs.VariableLaws.{isOf-self, isOf-variable, isOf-like}
 use Rattle.store.specs.Store.{recordsOf, storeOk}
+use Rattle.store.specs.DistinctLaws.{among-contains, found-only}
 use Rattle.store.specs.StoreLaws as store
 use Rattle.stores.specs.Pair.{allRecords, sound, soundAlone, lookup}
 use Rattle.stores.specs.PairLaws.{sound-nv, sound-vol, sound-distinct, sound-of}
@@ -32,11 +33,6 @@ use Rattle.rules.specs.Effects.{Taken}
 use Rattle.rules.specs.ConditionLaws.{Tells, tells-not, tells-off, off-tells, tells-nv, tells-rt}
 
 -- ---- members of a list, and tests
-
-pub among-contains : (p : Bytes → Bool) (l : List Bytes) (a : Bytes) → Among a l → p a ≡ true → contains p l ≡ true
-unfolding contains
-among-contains p (x ∷ l) a (inl e) h = rw (sym (ap p e) ∙ h)
-among-contains p (x ∷ l) a (inr k) h = rw (among-contains p l a k h) (or-true (p x))
 
 abbrev IsSome : Option Bytes → Type 0
 IsSome none = ⊥
@@ -201,18 +197,6 @@ tells-entries s = ((λ e. (entriesOf (s .policy), valid-entries s e)), λ w. pol
 
 own-of : (v : Variable) (r : Bytes) → variableOf r ≡ v → isOf v r ≡ true
 own-of v r e = subst (λ w. isOf w r ≡ true) e (isOf-self r)
-
--- of distinct records the one of a variable is what is found
-found-only : (l : List Bytes) → distinct sameVariable l ≡ true → (v : Variable) (r : Bytes) → Among r l → isOf v r ≡ true → find (isOf v) l ≡ some r
-unfolding find
-found-only (c ∷ cs) d v r k o = go (isOf v c) refl k (found-only cs (distinct-apart sameVariable c cs d .rest) v r)
-  where
-    go : (b : Bool) → isOf v c ≡ b → Among r (c ∷ cs) → (Among r cs → isOf v r ≡ true → find (isOf v) cs ≡ some r) → cond b (some c) (find (isOf v) cs) ≡ some r
-    go true e (inl h) f = ap some (sym h)
-    go true e (inr h) f =
-        absurd (true≢false (sym (among-contains (sameVariable c) cs r h (sym (isOf-like v c e r) ∙ o)) ∙ distinct-apart sameVariable c cs d .here))
-    go false e (inl h) f = absurd (true≢false (sym o ∙ ap (isOf v) h ∙ e))
-    go false e (inr h) f = f h o
 
 module _ (s : State) (v : Variable) where
   pub found-lookup : (r : Bytes) → RecordOf s v r → lookup (s .nv) (s .vol) v ≡ some r

@@ -33,7 +33,8 @@ use Rattle.rules.specs.Grounds.Applies.{powerOnUnsound, powerOnVolatileT
 use Rattle.rules.specs.Grounds.Applies.{registerBadRecord, registerExited, registerLocked, registerMalformed, registerRepeated, registerTooMany, registerTooLong, registerDone, dumpBadRecord, dumpExited, dumpShort, dumpDone}
 use Rattle.rules.specs.Grounds.Applies.{lockExited, lockLocked, lockDone, disableExited, disableDisabled, disableLocked, disableNotAllowed, disableDone, exitExited, exitDone, queryDone, readUnsound, readBadName, readAbsent, readHidden, readDone}
 use Rattle.rules.specs.ConditionLaws.{tells-not, tells-eq, tells-le, tells-more, tells-off, tells-named}
-use Rattle.rules.specs.FoundLaws.{tells-sound, tells-alone, sum-of-sizes, valid-entries, entries-read, tells-entries, tells-unseen, among-contains, contains-among}
+use Rattle.store.specs.DistinctLaws.{among-contains}
+use Rattle.rules.specs.FoundLaws.{tells-sound, tells-alone, sum-of-sizes, valid-entries, entries-read, tells-entries, tells-unseen, contains-among}
 use Rattle.rules.specs.Grounds.Applies.{setUnsound, setBadRecord, setBadName, setLongPayload, setUnknownBit, setRuntimeWithoutBS, setAppendWithoutBS, setNotRuntime, setTooShort, setTooLong, setBitMissing, setBitProhibited, setLocked}
 use Rattle.rules.specs.Grounds.Applies.{setAbsent, setHidden, setVolatile, setDeleted, setOtherAttributes, setEmptyAppend, setAppendTooLong, setNoRoomNV, setNoRoomVol, setDone, settledUnsound, settledBadRecord, settledBadName, settledDone}
 use Rattle.rules.specs.SetGroundsLaws.{set-answers}

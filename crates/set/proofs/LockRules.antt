@@ -41,7 +41,7 @@ exists-at nv vol p = go (p .found)
 pub exists-place : (nv vol : Bytes) (v : Variable) (p : Place) → p ≡ placeIn nv vol v → isSomewhere p ≡ exists (lookup nv vol v)
 exists-place nv vol v p e = sym (ap exists (lookup-place nv vol v ∙ ap (recordAt nv vol) (sym e)) ∙ exists-at nv vol p)
 
-holds-found : (o : Option Bytes) (value : ℕ) → same (payloadIn o) (value ∷ []) ≡ holdsValue o value
+pub holds-found : (o : Option Bytes) (value : ℕ) → same (payloadIn o) (value ∷ []) ≡ holdsValue o value
 unfolding holdsValue pairwise
 holds-found none value = refl
 holds-found (some r) value = refl

@@ -188,7 +188,7 @@ fn request_ground(entry: Entry, n: usize, attributes: u32, payload: &[u8]) -> Gr
 }
 
 // Whether a payload is that one byte.
-fn is_value(payload: &[u8], value: u8) -> bool
+pub fn is_value(payload: &[u8], value: u8) -> bool
     ensures { λ r. ⌜ r ≡ same (now (payload .entry)) (value ∷ []) ⌝ }
 {
     if payload.len() != 1 {
@@ -198,13 +198,7 @@ fn is_value(payload: &[u8], value: u8) -> bool
 }
 
 // Whether the trigger of an entry locks (RULES.md, 5): it is stored, and its payload is the one byte Value.
-pub fn trigger_holds<'a>(
-    e: &[u8],
-    trigger: Trigger,
-    nv: &'a [u8],
-    vol: &'a [u8],
-    ends: Ends,
-) -> bool
+fn trigger_holds<'a>(e: &[u8], trigger: Trigger, nv: &'a [u8], vol: &'a [u8], ends: Ends) -> bool
     requires { ⌜ (ends ≡ endsOf (now nv) (now vol)) × (trigger .namespace ≡ triggerNamespaceAt) ⌝ }
     ensures { λ r.
         ⌜ r ≡ holdsValue (lookup (now (nv .entry)) (now (vol .entry)) (variable

@@ -1,6 +1,7 @@
 -- What each return of the two functions says, by what the code found. Assumes nothing.
 use Prim.Native.Nat.{ℕ, zero, suc, _+_, _-_, _≤_}
 use mathlib.Core.Path.{_≡_, refl, sym, ap, ap₂, _∙_}
+use mathlib.Core.List.{[], _∷_}
 use mathlib.Core.Bool.{Bool, true, false, cond}
 use mathlib.Core.Option.{none, some}
 use native.Mathlib.Omega.{arith}
@@ -10,17 +11,21 @@ use borrow.Author.Tests.{eqb-false, lt-leb}
 use Rattle.limits.specs.Limits.{namespaceBytes}
 use Rattle.slices.specs.Test.{_and_}
 use Rattle.slices.specs.TestLaws.{and-no, and-yes}
-use Rattle.slices.specs.Bytes.{Bytes, part}
+use Rattle.slices.specs.Bytes.{Bytes, part, same}
 use Rattle.names.specs.Name.{Variable, variable}
 use Rattle.entry.specs.Entry.{lockOf, lockPolicyType, triggerOf, wellFormed}
 use Rattle.entry.specs.EntryLaws.{sized, trigger-least}
 use Rattle.entry.specs.declared.Trigger.{Trigger}
 use Rattle.entry.specs.declared.LockRule.{LockRule}
 use Rattle.entry.specs.declared.LockRule.the-variants.{NoLock, LockNow, LockOnCreate, LockOnVarState}
+use Rattle.store.specs.Parts.{payloadIn}
+use Rattle.stores.specs.Pair.{lookup}
+use Rattle.stores.specs.declared.Place.{Place}
+use Rattle.stores.specs.Place.{recordAt, payloadAt}
 use Rattle.rules.specs.Set.{Lookup, exists, holdsValue, ruleLocks}
 use Rattle.rules.specs.Settled.{Choice, restsOn, lockHoldsBy, lockHoldsIn, settledIn, settled-asks}
 use Rattle.rules.specs.SettledLaws.{settledBelow, lock-is}
-use Rattle.set.proofs.LockRules.{triggerIn, rule-trigger, rule-locks, trigger-locks}
+use Rattle.set.proofs.LockRules.{holds-found, triggerIn, rule-trigger, rule-locks, trigger-locks}
 
 -- ---- the chosen entry
 
@@ -62,6 +67,13 @@ namespace-within e t w q =
     let k = ap (λ x. x .namespace) (rule-trigger e t q) in
     let l = trigger-least e w (type-over e t q) in
     omega (arith, k, l, sized e w .offset-most)
+
+-- what the code finds where the notes lead: of the trigger as it is read, its namespace g and name n, the place p of its record, and its payload d
+pub trigger-noted : {x : Bool} {d g n g′ n′ : Bytes} (nv vol : Bytes) (p : Place) (value : ℕ) → x ≡ same d (value ∷ []) → d ≡ payloadAt nv vol p
+    → recordAt nv vol p ≡ lookup nv vol (variable g n) → g ≡ g′ → n ≡ n′ → x ≡ holdsValue (lookup nv vol (variable g′ n′)) value
+trigger-noted nv vol p value e₁ e₂ e₃ e₄ e₅ =
+    e₁ ∙ ap (λ l. same l (value ∷ [])) (e₂ ∙ ap payloadIn e₃) ∙ holds-found (lookup nv vol (variable _ _)) value
+    ∙ ap₂ (λ a b. holdsValue (lookup nv vol (variable a b)) value) e₄ e₅
 
 -- ---- the lock, by the rule that the entry was found to have
 

@@ -1,20 +1,21 @@
 // Whether a variable is settled (RULES.md, 10.14): two functions that call each other, while the links that may still be followed fall from 16. The stores were
-// found sound and the policy record valid before, once, and nothing is checked again at a link.
+// found sound and the policy record valid before, once, and nothing is checked again at a link; where records begin is noted once for all links.
 ghost use mathlib.Core.Path.{_≡_};
 ghost use mathlib.Core.Bool.{true};
 ghost use Prim.Native.Nat.{_+_, _≤_};
 ghost use lib.ListN.{length};
-ghost use Rattle.limits.specs.Limits.{namespaceBytes};
+ghost use Rattle.limits.specs.Limits.{namespaceBytes, maxLinks, triggerNamespaceAt};
 ghost use Rattle.slices.specs.Bytes.{part};
 ghost use Rattle.names.specs.Name.{variable};
 ghost use Rattle.entry.specs.Entry.{wellFormed};
 ghost use Rattle.policy.specs.Policy.{entriesOf};
-ghost use Rattle.policy.specs.Walk.{EntryEnds};
 ghost use Rattle.policy.specs.Choice.{chosen};
-ghost use Rattle.stores.specs.Pair.{lookup, endsOf};
-ghost use Rattle.rules.specs.Set.{exists};
+ghost use Rattle.stores.specs.Pair.{sound, lookup, endsOf};
+ghost use Rattle.rules.specs.Set.{exists, holdsValue};
 ghost use Rattle.rules.specs.Settled.{lockHoldsIn, settledIn};
+ghost use Rattle.settled.specs.Prepared.{Prepared, Searched};
 use entry::LockRule;
+use entry::Trigger;
 use policy::Choice;
 use stores::Ends;
 
@@ -29,26 +30,59 @@ fn namespace_at(e: &[u8], at: usize) -> [u8; 16]
 }
 
 // Whether the variable exists.
-fn variable_exists(nv: &[u8], vol: &[u8], ends: Ends, namespace: &[u8; 16], name: &[u8]) -> bool
-    requires { ⌜ ends ≡ endsOf (now nv) (now vol) ⌝ }
+fn variable_exists(
+    nv: &[u8],
+    vol: &[u8],
+    ends: Ends,
+    in_nv: &[u16; noted::NOTES],
+    in_vol: &[u16; noted::NOTES],
+    namespace: &[u8; 16],
+    name: &[u8],
+) -> bool
+    requires { ⌜ Searched (now nv) (now vol) ends (now «in_nv») (now «in_vol») ⌝ }
     ensures { λ r. ⌜ r ≡ exists (lookup (now (nv .entry)) (now (vol .entry)) (variable (now (namespace .entry)) (now (name .entry)))) ⌝ }
 {
-    stores::is_somewhere(stores::locate(nv, vol, ends, namespace, name))
+    stores::is_somewhere(noted::locate(nv, vol, ends, in_nv, in_vol, namespace, name))
+}
+
+// Whether the trigger of an entry holds the Value (RULES.md, 5).
+fn trigger_holds<'a>(
+    e: &[u8],
+    trigger: Trigger,
+    nv: &'a [u8],
+    vol: &'a [u8],
+    ends: Ends,
+    in_nv: &[u16; noted::NOTES],
+    in_vol: &[u16; noted::NOTES],
+) -> bool
+    requires { ⌜ Searched (now nv) (now vol) ends (now «in_nv») (now «in_vol») × (trigger .namespace ≡ triggerNamespaceAt) ⌝ }
+    ensures { λ r.
+        ⌜ r ≡ holdsValue (lookup (now (nv .entry)) (now (vol .entry)) (variable
+        (part (trigger .namespace) (trigger .namespace + 16) (now (e .entry)))
+        (part (trigger .name) (trigger .«name_end») (now (e .entry))))) (trigger .value) ⌝ }
+{
+    let from = trigger.namespace;
+    let namespace = slices::part(e, from, from + limits::NAMESPACE_BYTES);
+    let name = slices::part(e, trigger.name, trigger.name_end);
+    let place = noted::locate(nv, vol, ends, in_nv, in_vol, namespace, name);
+    set::is_value(stores::payload_at(nv, vol, place), trigger.value)
 }
 
 // Whether the variable is settled, where at most so many links are followed: an entry is chosen for it, and the lock of that entry holds.
-pub fn settled<'a>(
+fn settled<'a>(
     policy: &[u8],
     entry_ends: &[u16; policy::ENTRIES],
     count: usize,
     nv: &'a [u8],
     vol: &'a [u8],
     ends: Ends,
+    in_nv: &[u16; noted::NOTES],
+    in_vol: &[u16; noted::NOTES],
     namespace: &[u8; 16],
     name: &[u8],
     links: usize,
 ) -> bool
-    requires { ⌜ (count ≡ length (entriesOf (now policy))) × EntryEnds (now «entry_ends») (now policy) × (ends ≡ endsOf (now nv) (now vol)) ⌝ }
+    requires { ⌜ Prepared (now policy) count (now «entry_ends») × Searched (now nv) (now vol) ends (now «in_nv») (now «in_vol») ⌝ }
     ensures { λ r.
         ⌜ r ≡ settledIn links (chosen (entriesOf (now (policy .entry)))) (lookup (now (nv .entry)) (now (vol .entry))) (variable (now (namespace .entry)) (now (name .entry))) ⌝ }
 {
@@ -70,6 +104,8 @@ pub fn settled<'a>(
         nv,
         vol,
         ends,
+        in_nv,
+        in_vol,
         namespace,
         name,
         links,
@@ -86,23 +122,25 @@ fn lock_holds<'a>(
     nv: &'a [u8],
     vol: &'a [u8],
     ends: Ends,
+    in_nv: &[u16; noted::NOTES],
+    in_vol: &[u16; noted::NOTES],
     namespace: &[u8; 16],
     name: &[u8],
     links: usize,
 ) -> bool
-    requires { ⌜ (wellFormed (now e) ≡ true) × (count ≡ length (entriesOf (now policy))) × EntryEnds (now «entry_ends») (now policy) × (ends ≡ endsOf (now nv) (now vol)) ⌝ }
+    requires { ⌜ (wellFormed (now e) ≡ true) × Prepared (now policy) count (now «entry_ends») × Searched (now nv) (now vol) ends (now «in_nv») (now «in_vol») ⌝ }
     ensures { λ r.
         ⌜ r ≡ lockHoldsIn links (chosen (entriesOf (now (policy .entry)))) (lookup (now (nv .entry)) (now (vol .entry))) (now (e .entry)) (variable (now (namespace .entry)) (now (name .entry))) ⌝ }
 {
     match entry::lock_of(e) {
         LockRule::NoLock => false,
         LockRule::LockNow => true,
-        LockRule::LockOnCreate => variable_exists(nv, vol, ends, namespace, name),
+        LockRule::LockOnCreate => variable_exists(nv, vol, ends, in_nv, in_vol, namespace, name),
         LockRule::LockOnVarState(trigger) => {
             if links == 0 {
                 return false;
             }
-            if !set::trigger_holds(e, trigger, nv, vol, ends) {
+            if !trigger_holds(e, trigger, nv, vol, ends, in_nv, in_vol) {
                 return false;
             }
             let its_namespace = namespace_at(e, trigger.namespace);
@@ -114,10 +152,46 @@ fn lock_holds<'a>(
                 nv,
                 vol,
                 ends,
+                in_nv,
+                in_vol,
                 &its_namespace,
                 its_name,
                 links - 1,
             )
         }
     }
+}
+
+// Whether the variable is settled, over sound stores and a valid policy record.
+pub fn is_settled<'a>(
+    policy: &[u8],
+    entry_ends: &[u16; policy::ENTRIES],
+    count: usize,
+    nv: &'a [u8],
+    vol: &'a [u8],
+    ends: Ends,
+    namespace: &[u8; 16],
+    name: &[u8],
+) -> bool
+    requires { ⌜ Prepared (now policy) count (now «entry_ends») × (sound (now nv) (now vol) ≡ true) × (ends ≡ endsOf (now nv) (now vol)) ⌝ }
+    ensures { λ r.
+        ⌜ r ≡ settledIn maxLinks (chosen (entriesOf (now (policy .entry)))) (lookup (now (nv .entry)) (now (vol .entry))) (variable (now (namespace .entry)) (now (name .entry))) ⌝ }
+{
+    let mut in_nv = noted::none();
+    noted::note(nv, true, ends.nv, &mut in_nv);
+    let mut in_vol = noted::none();
+    noted::note(vol, false, ends.vol, &mut in_vol);
+    settled(
+        policy,
+        entry_ends,
+        count,
+        nv,
+        vol,
+        ends,
+        &in_nv,
+        &in_vol,
+        namespace,
+        name,
+        limits::MAX_LINKS,
+    )
 }

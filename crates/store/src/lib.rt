@@ -88,7 +88,7 @@ fn body_ok(r: &[u8], n: usize, d: usize) -> bool
 }
 
 // How long a record is with a NameSize of n and a DataSize of d.
-fn record_size(n: usize, d: usize) -> usize
+pub fn record_size(n: usize, d: usize) -> usize
     requires { ⌜ (n < 4294967296) × (d < 4294967296) ⌝ }
     ensures { λ r. ⌜ r ≡ recordSize n d ⌝ }
 {

@@ -105,17 +105,20 @@ returns-3 c =
     let n : isName (Args i .args .name .now) ≡ false = sym (i .is-name .ensures) ∙ not-true (i .is-name .result) (t .if1 .taken) in
     settled-unnamed _ _ _ _ (checked (Sound (Valid i)) .0) (valid (Valid i) .valid) (c .not-settled3 .ensures) (simp (n, and-no))
 
-settled-requires : tie.Need-settled-requires
-settled-requires c κs =
+is-settled-requires : tie.Need-is-settled-requires
+is-settled-requires c κs =
     let i = c .before .before .before in
-    let e = Valid i in
-    (valid e .counted, e .before .before .check-noting .ensures .1 (valid e .valid), checked (Sound e) .1)
+    let e = Valid i in (
+      record { counted = valid e .counted; ends = e .before .before .check-noting .ensures .1 (valid e .valid) },
+      checked (Sound e) .0,
+      checked (Sound e) .1,
+    )
 
 returns-4 : tie.Need-returns-4
 returns-4 c =
     let l = c .before .before .before in
     let i = l .before in
-    settled-told _ _ _ _ (checked (Sound (Valid i)) .0) (valid (Valid i) .valid) (good l) (λ w. c .settled .ensures)
+    settled-told _ _ _ _ (checked (Sound (Valid i)) .0) (valid (Valid i) .valid) (good l) (λ w. c .is-settled .ensures)
 
 pub settled-spec : {M : Type 1} → statement M
 settled-spec =
@@ -135,5 +138,5 @@ settled-spec =
     is-name-requires
     not-settled-requires-3
     returns-3
-    settled-requires
+    is-settled-requires
     returns-4)

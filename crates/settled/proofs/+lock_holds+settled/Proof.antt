@@ -26,7 +26,7 @@ use Rattle.settled.proofs.settled.Kinds as settled-kinds
 use Rattle.settled.proofs.+lock_holds+settled.Lts-settled as settled-lts
 use Rattle.entry.proofs.lock_of.Reads as lock-of-reads
 use Rattle.policy.proofs.choose.Reads as choose-reads
-use Rattle.set.proofs.trigger_holds.Reads as trigger-holds-reads
+use Rattle.settled.proofs.trigger_holds.Reads as trigger-holds-reads
 use Rattle.settled.proofs.variable_exists.Reads as variable-exists-reads
 use Rattle.settled.proofs.namespace_at.Reads as namespace-at-reads
 use Rattle.slices.proofs.le16.Reads as le16-reads
@@ -41,25 +41,25 @@ falls-by-two nz e = omega arith
 below-one : (n : ℕ) {t : ℕ} → n * 2 + 1 ≡ t → n * 2 < t
 below-one n e = omega arith
 
-abbrev μ-lock-holds : Measures 6 lock-holds-kinds.ps ℕ
-μ-lock-holds κs a = a .1 .1 .1 .1 .1 .1 .1 .1 .1 .0 * 2
+abbrev μ-lock-holds : Measures 8 lock-holds-kinds.ps ℕ
+μ-lock-holds κs a = a .1 .1 .1 .1 .1 .1 .1 .1 .1 .1 .1 .0 * 2
 
-abbrev μ-settled : Measures 5 settled-kinds.ps ℕ
-μ-settled κs a = a .1 .1 .1 .1 .1 .1 .1 .1 .0 * 2 + 1
+abbrev μ-settled : Measures 7 settled-kinds.ps ℕ
+μ-settled κs a = a .1 .1 .1 .1 .1 .1 .1 .1 .1 .1 .0 * 2 + 1
 
-abbrev lock-holds-at : ℕ → In 6 lock-holds-kinds.ps
+abbrev lock-holds-at : ℕ → In 8 lock-holds-kinds.ps
 lock-holds-at t =
-    and 6 lock-holds-kinds.ps (is 6 lock-holds-kinds.ps μ-lock-holds t) lock-holds.Pre
+    and 8 lock-holds-kinds.ps (is 8 lock-holds-kinds.ps μ-lock-holds t) lock-holds.Pre
 
-abbrev lock-holds-below : ℕ → In 6 lock-holds-kinds.ps
+abbrev lock-holds-below : ℕ → In 8 lock-holds-kinds.ps
 lock-holds-below t =
-    and 6 lock-holds-kinds.ps (falls 6 lock-holds-kinds.ps _<_ μ-lock-holds t) lock-holds.Pre
+    and 8 lock-holds-kinds.ps (falls 8 lock-holds-kinds.ps _<_ μ-lock-holds t) lock-holds.Pre
 
-abbrev settled-at : ℕ → In 5 settled-kinds.ps
-settled-at t = and 5 settled-kinds.ps (is 5 settled-kinds.ps μ-settled t) settled.Pre
+abbrev settled-at : ℕ → In 7 settled-kinds.ps
+settled-at t = and 7 settled-kinds.ps (is 7 settled-kinds.ps μ-settled t) settled.Pre
 
-abbrev settled-below : ℕ → In 5 settled-kinds.ps
-settled-below t = and 5 settled-kinds.ps (falls 5 settled-kinds.ps _<_ μ-settled t) settled.Pre
+abbrev settled-below : ℕ → In 7 settled-kinds.ps
+settled-below t = and 7 settled-kinds.ps (falls 7 settled-kinds.ps _<_ μ-settled t) settled.Pre
 
 -- what each asks and learns at its calls
 abbrev lock-holds-calls : ℕ → lock-holds-lts.Claims
@@ -126,7 +126,7 @@ lock-holds-enum-told-3 : (t : ℕ) → lock-holds-lts.Need-enum-told-3 (lock-hol
 lock-holds-enum-told-3 t c = search needs
 
 lock-holds-variable-exists-requires : (t : ℕ) → lock-holds-lts.Need-variable-exists-requires (lock-holds-calls t) (lock-holds-at t) lock-holds.Post
-lock-holds-variable-exists-requires t c κs = Began (c .before .before) .pre .1 .3
+lock-holds-variable-exists-requires t c κs = Began (c .before .before) .pre .1 .2
 
 lock-holds-enum-known-trigger : (t : ℕ) → lock-holds-lts.Need-enum-known-trigger (lock-holds-calls t) (lock-holds-at t) lock-holds.Post
 lock-holds-enum-known-trigger t c = search needs
@@ -141,7 +141,7 @@ lock-holds-trigger-holds-requires : (t : ℕ) → lock-holds-lts.Need-trigger-ho
 lock-holds-trigger-holds-requires t c κs =
     let g = Left c in
     let r = Triggered g in
-    (Began r .pre .1 .3, trigger-place _ _ (sym (g .trigger .given .1) ∙ r .lock-of .ensures))
+    (Began r .pre .1 .2, trigger-place _ _ (sym (g .trigger .given .1) ∙ r .lock-of .ensures))
 
 lock-holds-returns-2 : (t : ℕ) → lock-holds-lts.Need-returns-2 (lock-holds-calls t) (lock-holds-at t) lock-holds.Post
 lock-holds-returns-2 t c =
@@ -166,7 +166,7 @@ lock-holds-settled-requires : (t : ℕ) → lock-holds-lts.Need-settled-requires
 lock-holds-settled-requires t c κs =
     let l = c .before .before .before .before .before in
     let r = Triggered (Left l) in
-    (falls-by-two (l .if1 .left) (Began r .pre .0), (Began r .pre .1 .1, Began r .pre .1 .2, Began r .pre .1 .3))
+    (falls-by-two (l .if1 .left) (Began r .pre .0), (Began r .pre .1 .1, Began r .pre .1 .2))
 
 lock-holds-returns-3 : (t : ℕ) → lock-holds-lts.Need-returns-3 (lock-holds-calls t) (lock-holds-at t) lock-holds.Post
 lock-holds-returns-3 t c =
@@ -214,7 +214,7 @@ chosen-is : {t : ℕ} (c : Found t) → choiceOf (entriesOf (Given (c .before .b
 chosen-is c = sym (c .before .before .choose .ensures) ∙ c .choice .given .1
 
 settled-choose-requires : (t : ℕ) → settled-lts.Need-choose-requires (settled-calls t) (settled-at t) settled.Post
-settled-choose-requires t c κs = let g = c .before .before .before .before in (g .pre .1 .0, g .pre .1 .1)
+settled-choose-requires t c κs = let k = c .before .before .before .before .pre .1 .0 in (k .counted, k .ends)
 
 settled-enum-known-choice : (t : ℕ) → settled-lts.Need-enum-known-choice (settled-calls t) (settled-at t) settled.Post
 settled-enum-known-choice t c = search needs
@@ -254,7 +254,7 @@ settled-lock-holds-requires t c κs =
     let z = c .before in
     let h = z .before .before in
     let g = Given (h .before .before) in
-    (below-one _ (g .pre .0), (entry-formed _ _ _ _ _ (chosen-is h) _ (z .le16 .ensures), g .pre .1 .0, g .pre .1 .1, g .pre .1 .2))
+    (below-one _ (g .pre .0), (entry-formed _ _ _ _ _ (chosen-is h) _ (z .le16 .ensures), g .pre .1 .0, g .pre .1 .1))
 
 settled-returns-2 : (t : ℕ) → settled-lts.Need-returns-2 (settled-calls t) (settled-at t) settled.Post
 settled-returns-2 t c =
