@@ -344,7 +344,7 @@ fn report<'a>(
     let Choice::Chosen { index, at, rank } = choice else {
         return no_report();
     };
-    let end = at + slices::le16(policy, at + limits::SIZE_AT) as usize;
+    let end = at + slices::get16(policy, at + limits::SIZE_AT);
     let e = &policy[at..end];
     let ground = entry_ground(e, nv, vol, known, attributes, payload);
     report_for(ground, index as u32, rank as u32, e, attributes)

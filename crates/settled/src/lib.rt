@@ -95,7 +95,7 @@ fn settled<'a>(
     else {
         return false;
     };
-    let end = at + slices::le16(policy, at + limits::SIZE_AT) as usize;
+    let end = at + slices::get16(policy, at + limits::SIZE_AT);
     lock_holds(
         &policy[at..end],
         policy,

@@ -62,17 +62,14 @@ returns-2 c =
     (a .enabled) _ (c .no-report2 .ensures)
     (choice-none _ _ (sym (t .before .before .choose .ensures) ∙ t .enum-told .given .1))
 
-add-le16 : tie.Need-add-le16
-add-le16 c = omega (arith, header-within _ _ _ _ _ (chosen-is (c .before)))
+add-get16 : tie.Need-add-get16
+add-get16 c = omega (arith, header-within _ _ _ _ _ (chosen-is (c .before)))
 
-le16-requires : tie.Need-le16-requires
-le16-requires c κs = search needs
-
-cast-end : tie.Need-cast-end
-cast-end c = search needs
+get16-requires : tie.Need-get16-requires
+get16-requires c κs = omega (arith, header-within _ _ _ _ _ (chosen-is (c .before)))
 
 add-end : tie.Need-add-end
-add-end c = omega (arith, end-within _ _ _ _ _ (chosen-is (c .before .before)) _ (c .le16 .ensures))
+add-end c = omega (arith, end-within _ _ _ _ _ (chosen-is (c .before .before)) _ (c .get16 .ensures .0))
 
 sub-e : tie.Need-sub-e
 sub-e c = search needs
@@ -81,14 +78,14 @@ part-e-start : tie.Need-part-e-start
 part-e-start c = search needs
 
 part-e-end : tie.Need-part-e-end
-part-e-end c = end-within _ _ _ _ _ (chosen-is (c .before .before)) _ (c .le16 .ensures)
+part-e-end c = end-within _ _ _ _ _ (chosen-is (c .before .before)) _ (c .get16 .ensures .0)
 
 entry-ground-requires : tie.Need-entry-ground-requires
 entry-ground-requires c κs =
     let z = c .before in
     let h = z .before .before in
     let l = Start (Enabled h) .pre .0 .located in
-    (l .ends, located-within _ _ _ _ l, entry-formed _ _ _ _ _ (chosen-is h) _ (z .le16 .ensures))
+    (l .ends, located-within _ _ _ _ l, entry-formed _ _ _ _ _ (chosen-is h) _ (z .get16 .ensures .0))
 
 cast-report-for : tie.Need-cast-report-for
 cast-report-for c =
@@ -102,7 +99,7 @@ report-for-requires : tie.Need-report-for-requires
 report-for-requires c κs =
     let z = c .before .before in
     let h = z .before .before in
-    entry-rank _ _ _ _ _ (chosen-is h) _ (z .le16 .ensures)
+    entry-rank _ _ _ _ _ (chosen-is h) _ (z .get16 .ensures .0)
 
 returns-3 : tie.Need-returns-3
 returns-3 c =
@@ -110,7 +107,7 @@ returns-3 c =
     let z = g .before .before in
     let h = z .before .before in
     let s = Start (Enabled h) in
-    let e = z .le16 .ensures in
+    let e = z .get16 .ensures .0 in
     spoken-report _ _ _ _ (s .args .enabled) _ _ (c .report-for .ensures) (g .entry-ground .ensures _ (s .pre .0 .located))
     (entry-place _ _ _ _ _ (chosen-is h) _ e) (entry-chosen _ _ _ _ _ (chosen-is h) _ e) (not-false (s .args .enabled) (Enabled h .if1 .left))
 
@@ -125,9 +122,8 @@ report-spec =
     enum-told
     no-report-requires-2
     returns-2
-    add-le16
-    le16-requires
-    cast-end
+    add-get16
+    get16-requires
     add-end
     sub-e
     part-e-start

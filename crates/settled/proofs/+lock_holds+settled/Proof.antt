@@ -29,7 +29,7 @@ use Rattle.policy.proofs.choose.Reads as choose-reads
 use Rattle.settled.proofs.trigger_holds.Reads as trigger-holds-reads
 use Rattle.settled.proofs.variable_exists.Reads as variable-exists-reads
 use Rattle.settled.proofs.namespace_at.Reads as namespace-at-reads
-use Rattle.slices.proofs.le16.Reads as le16-reads
+use Rattle.slices.proofs.get16.Reads as get16-reads
 use Rattle.slices.proofs.part.Reads as part-reads
 use Rattle.settled.proofs.+lock_holds+settled.{statement}
 use Rattle.settled.proofs.+lock_holds+settled.Tie.{close}
@@ -82,8 +82,8 @@ abbrev settled-calls : ℕ → settled-lts.Claims
 settled-calls t = (
   choose-reads.Asked,
   choose-reads.Learnt,
-  le16-reads.Asked,
-  le16-reads.Learnt,
+  get16-reads.Asked,
+  get16-reads.Learnt,
   lock-holds-below t,
   lock-holds.Post,
 )
@@ -228,17 +228,14 @@ settled-returns t c =
     let a = Given k .args in
     settled-none (a .links) (chosen (entriesOf (a .policy .now))) (lookup (a .nv .now) (a .vol .now)) (Named k) (choice-none _ _ (sym (k .choose .ensures) ∙ c .enum-told .given .1))
 
-settled-add-le16 : (t : ℕ) → settled-lts.Need-add-le16 (settled-calls t) (settled-at t) settled.Post
-settled-add-le16 t c = omega (arith, header-within _ _ _ _ _ (chosen-is (c .before)))
+settled-add-get16 : (t : ℕ) → settled-lts.Need-add-get16 (settled-calls t) (settled-at t) settled.Post
+settled-add-get16 t c = omega (arith, header-within _ _ _ _ _ (chosen-is (c .before)))
 
-settled-le16-requires : (t : ℕ) → settled-lts.Need-le16-requires (settled-calls t) (settled-at t) settled.Post
-settled-le16-requires t c κs = search needs
-
-settled-cast-end : (t : ℕ) → settled-lts.Need-cast-end (settled-calls t) (settled-at t) settled.Post
-settled-cast-end t c = search needs
+settled-get16-requires : (t : ℕ) → settled-lts.Need-get16-requires (settled-calls t) (settled-at t) settled.Post
+settled-get16-requires t c κs = omega (arith, header-within _ _ _ _ _ (chosen-is (c .before)))
 
 settled-add-end : (t : ℕ) → settled-lts.Need-add-end (settled-calls t) (settled-at t) settled.Post
-settled-add-end t c = omega (arith, end-within _ _ _ _ _ (chosen-is (c .before .before)) _ (c .le16 .ensures))
+settled-add-end t c = omega (arith, end-within _ _ _ _ _ (chosen-is (c .before .before)) _ (c .get16 .ensures .0))
 
 settled-sub-lock-holds : (t : ℕ) → settled-lts.Need-sub-lock-holds (settled-calls t) (settled-at t) settled.Post
 settled-sub-lock-holds t c = search needs
@@ -247,14 +244,14 @@ settled-part-lock-holds-start : (t : ℕ) → settled-lts.Need-part-lock-holds-s
 settled-part-lock-holds-start t c = search needs
 
 settled-part-lock-holds-end : (t : ℕ) → settled-lts.Need-part-lock-holds-end (settled-calls t) (settled-at t) settled.Post
-settled-part-lock-holds-end t c = end-within _ _ _ _ _ (chosen-is (c .before .before)) _ (c .le16 .ensures)
+settled-part-lock-holds-end t c = end-within _ _ _ _ _ (chosen-is (c .before .before)) _ (c .get16 .ensures .0)
 
 settled-lock-holds-requires : (t : ℕ) → settled-lts.Need-lock-holds-requires (settled-calls t) (settled-at t) settled.Post
 settled-lock-holds-requires t c κs =
     let z = c .before in
     let h = z .before .before in
     let g = Given (h .before .before) in
-    (below-one _ (g .pre .0), (entry-formed _ _ _ _ _ (chosen-is h) _ (z .le16 .ensures), g .pre .1 .0, g .pre .1 .1))
+    (below-one _ (g .pre .0), (entry-formed _ _ _ _ _ (chosen-is h) _ (z .get16 .ensures .0), g .pre .1 .0, g .pre .1 .1))
 
 settled-returns-2 : (t : ℕ) → settled-lts.Need-returns-2 (settled-calls t) (settled-at t) settled.Post
 settled-returns-2 t c =
@@ -262,7 +259,7 @@ settled-returns-2 t c =
     let h = z .before .before in
     let k = h .before .before in
     let a = Given k .args in
-    settled-some (a .links) (chosen (entriesOf (a .policy .now))) (lookup (a .nv .now) (a .vol .now)) (Named k) _ (entry-chosen _ _ _ _ _ (chosen-is h) _ (z .le16 .ensures)) (c .lock-holds .ensures)
+    settled-some (a .links) (chosen (entriesOf (a .policy .now))) (lookup (a .nv .now) (a .vol .now)) (Named k) _ (entry-chosen _ _ _ _ _ (chosen-is h) _ (z .get16 .ensures .0)) (c .lock-holds .ensures)
 
 pub +lock-holds+settled-spec : {M : Type 1} → statement M
 +lock-holds+settled-spec = close μ-lock-holds μ-settled (λ t. lock-holds-lts.spec (lock-holds-calls t)
@@ -292,9 +289,8 @@ pub +lock-holds+settled-spec : {M : Type 1} → statement M
     (settled-enum-known-choice t)
     (settled-enum-told t)
     (settled-returns t)
-    (settled-add-le16 t)
-    (settled-le16-requires t)
-    (settled-cast-end t)
+    (settled-add-get16 t)
+    (settled-get16-requires t)
     (settled-add-end t)
     (settled-sub-lock-holds t)
     (settled-part-lock-holds-start t)
