@@ -42,9 +42,9 @@
   something else. E10 gave the switches a fourth byte, and so every function that is lent them, is given
   them or hands them back another name; varpolicy_dump and varpolicy_read are given them since.
 
-  Stack: the deepest call, varpolicy_set, takes 9,528 bytes with its return address (read off the
-  machine code); settled, read, restart and power-on take nearly as much. The red zone and what memcpy,
-  memmove and memset take come on top.
+  Stack: the deepest call, varpolicy_settled, takes 17,368 bytes with its return address (read off the
+  machine code); varpolicy_set takes 9,448, and read, restart and power-on nearly as much. The red zone and
+  what memcpy, memmove and memset take come on top.
 
   SPDX-License-Identifier: BSD-2-Clause-Patent
 **/
