@@ -6,7 +6,7 @@ use crate::reason::{self, Chains, Refusal};
 use crate::{describe, quarrel};
 use std::collections::BTreeMap;
 use std::fmt::Display;
-use varpolicy::calls::{self, Settled, Request, Started};
+use varpolicy::calls::{self, Request, Settled, Started};
 use varpolicy::{Attributes, Namespace, POLICY_BYTES, Quarrel, Status, SwitchBytes, Switches};
 
 /// The four parts of `docs/RULES.md`, 1.2; and what is none of the engine's: a dump that is complete, if there is one,

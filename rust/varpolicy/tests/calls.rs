@@ -1,6 +1,6 @@
 //! Each call of the archive, once or twice: the declarations in `abi.rs` fit it.
 
-use varpolicy::calls::{Settled, Request, Written};
+use varpolicy::calls::{Request, Settled, Written};
 use varpolicy::{
     Attributes, Engine, Entry, Ground, Lock, Name, NotDumped, POLICY_BYTES, Refused, Report, Status, SwitchBytes,
     Switches, calls,

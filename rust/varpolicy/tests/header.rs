@@ -92,7 +92,7 @@ fn header_and_crate_have_the_same_records() {
         ("dumped", "Dumped"),
         ("state", "State"),
         ("found", "Found"),
-        ("lock_state", "Settled"),
+        ("settled_answer", "Settled"),
         ("report", "Report"),
         ("written", "Written"),
         ("quarrel", "Quarrel"),

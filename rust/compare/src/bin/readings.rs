@@ -25,7 +25,7 @@ type Reading = (&'static str, fn(Implementation) -> Vec<u32>, &'static [u32]);
 const NO: u32 = 100;
 const YES: u32 = 101;
 
-const READINGS: [Reading; 56] = [
+const READINGS: [Reading; 58] = [
     ("an entry of 43 bytes, one of 44", least_entry, &[2, 0]),
     ("a name of no units, closed", zero_unit_name, &[2]),
     ("a trigger's name of no units, of one", trigger_name, &[2, 0]),
@@ -100,6 +100,8 @@ const READINGS: [Reading; 56] = [
     ("settled, not locked: an entry of lower rank is registered", settled_not_locked, &[0, YES, 0, NO, 0]),
     ("settled, not enabled: a set", settled_not_enabled, &[0, 0, 0, YES, 0]),
     ("settled, a restart: a set", settled_restarted, &[0, 0, YES, 0, NO, 0]),
+    ("settled: a trigger that is there and locked now", settled_by_locked_trigger, &[0, 0, 0, YES, YES]),
+    ("settled: a volatile trigger that is locked on create", settled_by_volatile_trigger, &[0, 0, 0, YES, YES]),
     ("settled: a trigger that is locked now and absent", settled_absent_trigger, &[0, 0, 8, NO, YES]),
     ("settled after exit: a trigger that is no longer read", settled_after_exit, &[0, 0, 0, 0, 0, YES, 14]),
     ("an empty store of 40 bytes: a record of 40, one of 44", forty_bytes, &[0, 9]),
@@ -727,6 +729,22 @@ fn settled_restarted(implementation: Implementation) -> Vec<u32> {
     let before = [bench.register(&locked_now("A")), bench.call(&Call::Lock), bench.settled("A")];
     let restart = bench.call(&Call::Restart { disabling_allowed: 1 });
     [&before[..], &[restart, bench.settled("A"), bench.set("A", &[1])]].concat()
+}
+
+fn settled_by_locked_trigger(implementation: Implementation) -> Vec<u32> {
+    settled_behind(implementation, 3, &locked_now("T"))
+}
+
+fn settled_by_volatile_trigger(implementation: Implementation) -> Vec<u32> {
+    settled_behind(implementation, 2, &on_create("T"))
+}
+
+/// Of A and its trigger T, which is set with these attributes and then gets this entry.
+fn settled_behind(implementation: Implementation, attributes: u32, of_trigger: &EntryFields) -> Vec<u32> {
+    let mut bench = Bench::new(implementation, 256);
+    let set = bench.set_with("T", attributes, &[0]);
+    let registered = [of_trigger, &on_state("A", "T")].map(|fields| bench.register(fields));
+    [&[set], &registered[..], &["A", "T"].map(|name| bench.settled(name))].concat()
 }
 
 fn settled_absent_trigger(implementation: Implementation) -> Vec<u32> {
