@@ -1,5 +1,7 @@
 // The parts of the calls that the benchmark measures by themselves; not for users, who link varpolicy.
 // Each takes any bytes, tests what the part asks for, and answers for every input.
+#![tactic(auto)]
+
 ghost use Rattle.std.specs.Prelude.{◌≡◌, ◌+◌, leb};
 ghost use Rattle.names.specs.Name.{units, matches, variable};
 ghost use Rattle.policy.specs.Policy.{policy_check};
@@ -12,7 +14,7 @@ use stores::{PairCheck, Place};
 
 // What a part found, as numbers for C: which case, 0 for nothing, and the two numbers of that case.
 #[repr(C)]
-#[derive(Drop)]
+#[derive(Clone, Copy)]
 pub struct Numbers {
     pub kind: u32,
     pub first: usize,

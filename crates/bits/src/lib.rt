@@ -1,4 +1,6 @@
 // The bits in which attributes offend against masks: how many are missing, how many prohibited, and the lowest of them all.
+#![tactic(auto)]
+
 ghost use Rattle.std.specs.Prelude.{◌≡◌};
 ghost use Rattle.bits.specs.Bits.{missing_bits, prohibited_bits, lowest_bit};
 

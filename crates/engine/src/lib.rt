@@ -1,6 +1,8 @@
 // The calls of the engine (RULES.md, 10). The promise of each is one equation with the rules' `step`: from the state before, with the parts
 // that the call is not lent as they may be, to the answer and the state afterwards, for every input. The read pair is one call
 // of the rules: its first call tells the status, the attributes and where the payload stands, its second hands that part back.
+#![tactic(auto)]
+
 ghost use Rattle.std.specs.Prelude.{◌≡◌, true, false, cond};
 ghost use Rattle.slices.specs.Bytes.{Bytes};
 ghost use Rattle.store.specs.Parts.{variable};
@@ -24,7 +26,7 @@ use stores::{PairCheck, Place};
 use switches::{SwitchAnswer, Switches};
 
 // What a read tells: its status, the variable's attributes, which store holds it, and from where up to where its payload stands there. Zeros beside a refusal.
-#[derive(Drop)]
+#[derive(Clone, Copy)]
 pub struct Reading {
     pub status: Status,
     pub attributes: u32,
@@ -34,28 +36,28 @@ pub struct Reading {
 }
 
 // A dump's status, and beside 0 the length written, beside 5 the length needed.
-#[derive(Drop)]
+#[derive(Clone, Copy)]
 pub struct DumpAnswer {
     pub status: Status,
     pub length: usize,
 }
 
 // A query's status and the enabled switch.
-#[derive(Drop)]
+#[derive(Clone, Copy)]
 pub struct QueryAnswer {
     pub status: Status,
     pub enabled: bool,
 }
 
 // A set's status, and what step 4 said (RULES.md, 10.10).
-#[derive(Drop)]
+#[derive(Clone, Copy)]
 pub struct SetAnswer {
     pub status: Status,
     pub report: Report,
 }
 
 // Whether a variable is settled (RULES.md, 10.14), with the status; false beside a refusal.
-#[derive(Drop)]
+#[derive(Clone, Copy)]
 pub struct SettledAnswer {
     pub status: Status,
     pub settled: bool,

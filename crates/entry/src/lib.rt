@@ -1,10 +1,12 @@
 // The packed policy entry.
+#![tactic(auto)]
+
 ghost use Rattle.std.specs.Prelude.{◌≡◌, true};
 ghost use Rattle.entry.specs.Entry.{offset_to_name, header_ok, lock_ok, name_ok, well_formed, name_of, lock_of, entry_of, parse, rank, same_target};
 
 // The trigger of the fourth lock rule: the value that locks, and where its namespace and its name stand in the entry's bytes.
 // The name's last byte before its closing zero unit is at name_end - 1.
-#[derive(Drop)]
+#[derive(Clone, Copy)]
 pub struct Trigger {
     pub value: u8,
     pub namespace: usize,
@@ -13,7 +15,7 @@ pub struct Trigger {
 }
 
 // The lock rule of an entry (RULES.md, 5).
-#[derive(Drop)]
+#[derive(Clone, Copy)]
 pub enum LockRule {
     NoLock,
     LockNow,
@@ -22,7 +24,7 @@ pub enum LockRule {
 }
 
 // What a packed entry says. Its name starts at offset_to_name and ends, with its zero unit, at size.
-#[derive(Drop)]
+#[derive(Clone, Copy)]
 pub struct Entry {
     pub size: usize,
     pub offset_to_name: usize,
@@ -33,7 +35,7 @@ pub struct Entry {
     pub lock: LockRule,
 }
 
-#[derive(Drop)]
+#[derive(Clone, Copy)]
 pub enum Parsed {
     WellFormed(Entry),
     Malformed,

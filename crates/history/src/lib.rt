@@ -1,1 +1,2 @@
 // Demand 3 over any machine that has its laws. Definitions and laws only.
+#![tactic(auto)]

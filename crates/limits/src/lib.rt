@@ -1,4 +1,5 @@
 // The limits (RULES.md, 11), once for the code; `specs/Limits.antt` has the same for the rules.
+#![tactic(auto)]
 
 // The most bytes of a name without its closing zero unit: 64 units.
 pub const MAX_NAME_BYTES: usize = 128;

@@ -4,6 +4,8 @@
 // A read that fails is told on standard error: the lines so far stay, and no closing line follows, since nothing is known of the rest. A write that
 // fails is told there too and ends the program; where the system ends it at a pipe that nobody reads any more, it says nothing. There is no exit
 // status but 0: whether all is well is what the last line says.
+#![tactic(auto)]
+
 ghost use Rattle.std.specs.Prelude.{◌≡◌, ◌++◌, ◌+◌, ◌≤◌, length, take};
 ghost use Rattle.io.specs.Counts.{IsPrefixLen};
 ghost use Rattle.list_dump.specs.Lines.{ascii, decimal, marks, entry_line, closing_line, Put};
@@ -127,7 +129,7 @@ fn list_entries(reader: &[u8; READER_BYTES], index: u32, from: u32) -> bool {
     true
 }
 
-#[derive(Drop)]
+#[derive(Clone, Copy)]
 enum Turn {
     More,
     End,

@@ -44,6 +44,7 @@ module _ {A : Type 0} {P : A → Type 0} where
   pub all_among : (l : List A) → All P l → (a : A) → Among a l → P a
   all_among (x ∷ l) (more h w) a (inl e) = subst⁻¹ P e h
   all_among (x ∷ l) (more h w) a (inr k) = all_among l w a k
+  all_among [] _ a x3 = elim x3 [ ]
 
   pub among_all : (l : List A) → ((a : A) → Among a l → P a) → All P l
   among_all [] h = nil
@@ -60,6 +61,7 @@ module _ {A : Type 0} where
   pub among_left : (l m : List A) (a : A) → Among a l → Among a (l ++ m)
   among_left (x ∷ l) m a (inl e) = inl e
   among_left (x ∷ l) m a (inr k) = inr (among_left l m a k)
+  among_left [] m a x' = elim x' [ ]
 
   pub among_right : (l m : List A) (a : A) → Among a m → Among a (l ++ m)
   among_right [] m a k = k
@@ -134,7 +136,7 @@ module _ {A : Type 0} (rank : A → ℕ) (targets : A → Bool) where
   pub best_append : (b : Option A) (l m : List A)
       → best rank targets b (l ++ m) ≡ best rank targets (best rank targets b l) m
   best_append b [] m = refl
-  best_append b (x ∷ l) m = best_append _ l m
+  best_append b (x ∷ l) m = best_append (better rank targets b x (targets x)) l m
 
   -- ANOTHER ORDER chooses the same, if no two of equal rank target
   swap_none : (x y : A) → (rank x ≡ rank y → ⊥) → Less (rank x) (rank y) → Less (rank y) (rank x)
@@ -174,8 +176,8 @@ module _ {A : Type 0} (rank : A → ℕ) (targets : A → Bool) where
   pub best_perm : (b : Option A) {l m : List A} → Permᴰ l m → Pairs (RanksDiffer rank targets) l
       → best rank targets b l ≡ best rank targets b m
   best_perm b Permᴰ.nil h = refl
-  best_perm b (Permᴰ.cons {b = y} {l₂ = m} e d) h =
-      best_perm _ d h.1 ∙ ap (λ x. best rank targets (better rank targets b x (targets x)) m) e
+  best_perm b (Permᴰ.cons {a = a} {b = y} {l₂ = m} e d) h =
+      best_perm (better rank targets b a (targets a)) d h.1 ∙ ap (λ x. best rank targets (better rank targets b x (targets x)) m) e
   best_perm b (Permᴰ.swap {a = x} {b = y} {l = l} e₁ e₂) h =
       ap (λ z. best rank targets z l) (better_swap b x y (all_here h.0))
       ∙ ap₂ (λ u v. best rank targets (better rank targets (better rank targets b u (targets u)) v (targets v)) l) e₂ e₁

@@ -363,7 +363,9 @@ plain_matches ps us h = ((λ e. same_eq ps us (sym (plain_same ps us h) ∙ e)),
 -- A NAME WITH '#' IS MATCHED BY NO PATTERN
 pub sign_in_name : (ps us : List ℕ) → Among number_sign us → pairwise unit_matches ps us ≡ false
 unfolding pairwise
+sign_in_name [] [] h = elim h [ ]
 sign_in_name [] (u ∷ us) h = refl
+sign_in_name (p ∷ ps) [] h = elim h [ ]
 sign_in_name (p ∷ ps) (u ∷ us) (inl e) = rw (← e, unit_over_sign p) (and_off (pairwise unit_matches ps us))
 sign_in_name (p ∷ ps) (u ∷ us) (inr h) = rw (sign_in_name ps us h) (and_no (unit_matches p u))
 

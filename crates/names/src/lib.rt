@@ -1,4 +1,6 @@
 // Names of variables, entries and triggers: bytes of 16-bit little-endian units.
+#![tactic(auto)]
+
 ghost use Rattle.std.specs.Prelude.{◌≡◌, true, ◌+◌, ◌-◌, ◌%◌, ◌≤◌, ◌<◌, length, take, drop};
 ghost use Rattle.limits.specs.Limits.{namespace_bytes};
 ghost use Rattle.slices.specs.Test.{◌and◌};
@@ -293,7 +295,7 @@ fn mask_at(v: &[u8], i: usize) -> usize
 }
 
 // The last four units of a variable's name, for a walk over many entries: their masks, and the bits that count of these.
-#[derive(Drop)]
+#[derive(Clone, Copy)]
 pub struct Tail {
     pub mask: usize,
     pub shown: usize,

@@ -1,5 +1,7 @@
 // Many searches of two sound stores for one walk: a walk notes where records begin, by a key of their names, and a search looks there first. A record that the
 // notes do not lead to is searched for as ever, so that the key decides how long a search takes and never what it finds.
+#![tactic(auto)]
+
 ghost use Rattle.std.specs.Prelude.{◌≡◌, true, false, cond, ◌+◌, ◌≤◌, ◌<◌, eqb, length, get_or, set, replicate};
 ghost use Rattle.limits.specs.Limits.{max_store};
 ghost use Rattle.names.specs.Name.{variable};

@@ -1,4 +1,6 @@
 // Pairs of patterns, the names of entries: whether some name matches both, and the least that does; '#' in them and in a whole dump.
+#![tactic(auto)]
+
 ghost use Rattle.std.specs.Prelude.{◌≡◌, ◌||◌, ◌+◌, ◌/◌, ◌%◌, ◌≤◌, ◌<◌, length, drop};
 ghost use Rattle.slices.specs.Test.{◌and◌};
 ghost use Rattle.slices.specs.Bytes.{overwrite};

@@ -1,6 +1,8 @@
 // Phase flags, the write-once namespace and the older variable lock (RULES.md, 10.15), above the engine: each call writes bytes of its own, hands them to one call of
 // the engine, and hands on what that answers. Nothing here sees a byte of a store or of the policy record. Both namespaces are the caller's. Each promise is an equation with
 // `phase_step`, which is the rules' `step` of that call.
+#![tactic(auto)]
+
 ghost use Rattle.std.specs.Prelude.{◌≡◌, ◌++◌, cond, ◌≤◌, eqb, length};
 ghost use Rattle.limits.specs.Limits.{entry_version};
 ghost use Rattle.slices.specs.Bytes.{Bytes, le16_bytes, le32_bytes, overwrite};

@@ -1,4 +1,6 @@
 // The policy record, and the entry that is chosen for a variable.
+#![tactic(auto)]
+
 ghost use Rattle.std.specs.Prelude.{◌≡◌, [], ◌∷◌, ◌++◌, true, ◌||◌, cond, ◌+◌, ◌≤◌, ◌<◌, length, get_or, take};
 ghost use Rattle.limits.specs.Limits.{entry_header, no_rank, max_entries, policy_bytes};
 ghost use Rattle.slices.specs.Bytes.{part, overwrite};
@@ -23,14 +25,14 @@ pub const SLOTS: usize = 2048;
 pub const ENTRIES: usize = limits::MAX_ENTRIES;
 
 // What the check of a lent policy record finds: how many entries, and how many bytes they take; or that it is not valid.
-#[derive(Drop)]
+#[derive(Clone, Copy)]
 pub enum PolicyCheck {
     Valid { count: usize, used: usize },
     Invalid,
 }
 
 // The chosen entry: its place counted from 0, its first byte in the record and its rank; or none.
-#[derive(Drop)]
+#[derive(Clone, Copy)]
 pub enum Choice {
     Chosen {
         index: usize,
@@ -41,7 +43,7 @@ pub enum Choice {
 }
 
 // Where a walk over the entries stands: at which one, counted from 0, and at which byte.
-#[derive(Drop)]
+#[derive(Clone, Copy)]
 struct Position {
     index: usize,
     at: usize,
@@ -146,7 +148,7 @@ fn key(e: &[u8]) -> usize
 }
 
 // Where the filter notes an entry, and as what.
-#[derive(Drop)]
+#[derive(Clone, Copy)]
 pub struct Mark {
     pub slot: usize,
     pub fingerprint: u8,

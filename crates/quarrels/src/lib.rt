@@ -1,4 +1,6 @@
 // Entries of a dump that quarrel (RULES.md, 10.11): two of equal rank that target one variable.
+#![tactic(auto)]
+
 ghost use Rattle.std.specs.Prelude.{◌≡◌, true, ◌≤◌, ◌<◌, length, get_or, replicate, eqb, ltb, []};
 ghost use Rattle.std.specs.Int.Bits.{bit_and};
 ghost use Rattle.slices.specs.Test.{◌and◌};
@@ -30,7 +32,7 @@ const END: u32 = limits::MAX_ENTRIES as u32;
 const NONE: u8 = limits::MAX_ENTRIES as u8;
 
 // The first two entries that quarrel, by their places counted from 0; or none.
-#[derive(Drop)]
+#[derive(Clone, Copy)]
 pub enum Pair {
     Places { earlier: usize, later: usize },
     NoPair,
@@ -38,7 +40,7 @@ pub enum Pair {
 
 // What the check of a dump answers: that the bytes are no dump; that no two entries quarrel; or the first two that do, and the length of the
 // least name that both target.
-#[derive(Drop)]
+#[derive(Clone, Copy)]
 pub enum Verdict {
     NoDump,
     NoQuarrel,

@@ -1,5 +1,7 @@
 // The reader of a dump that arrives in pieces (RULES.md, 10.12). A reader is READER_BYTES that the caller lends: the bytes that arrived, the filter over
 // the entries that were found good, and three numbers. Any bytes of that length are a reader.
+#![tactic(auto)]
+
 ghost use Rattle.std.specs.Prelude.{◌≡◌, [], ◌∷◌, true, ◌||◌, cond, ◌+◌, ◌≤◌, ◌<◌, length, take, set, eqb, ltb};
 ghost use Rattle.limits.specs.Limits.{policy_bytes};
 ghost use Rattle.slices.specs.Test.{◌and◌};
@@ -33,7 +35,7 @@ const STOPPED: usize = 65535;
 
 // What a reader says of the bytes that arrived: whether they are good entries and nothing else; whether the reading has ended, so that no further bytes change
 // anything; how many entries are good, up to the first that is not, and how many bytes they take.
-#[derive(Drop)]
+#[derive(Clone, Copy)]
 pub struct Verdict {
     pub whole: bool,
     pub ended: bool,
@@ -42,7 +44,7 @@ pub struct Verdict {
 }
 
 // What it tells of a good entry: its Size, its lock type and its rank; or that none begins there.
-#[derive(Drop)]
+#[derive(Clone, Copy)]
 pub enum Listing {
     Entry { size: u32, lock: u32, rank: u32 },
     NoEntry,

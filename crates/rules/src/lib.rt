@@ -1,8 +1,10 @@
 // The rules (RULES.md) as definitions; the code has only the kinds of answer that the definitions name.
+#![tactic(auto)]
+
 use status::Status;
 
 // Which of step 4's grounds speaks against a set: its size, its attributes, a lock; or none.
-#[derive(Drop)]
+#[derive(Clone, Copy)]
 pub enum Ground {
     NoGround,
     SizeGround,
@@ -11,7 +13,7 @@ pub enum Ground {
 }
 
 // What is decided of a set: to refuse it with a status, or by a ground of step 4; or what is done: take the variable out, leave all as it is, or store it.
-#[derive(Drop)]
+#[derive(Clone, Copy)]
 pub enum Decision {
     Refuse(Status),
     Block(Ground),
@@ -22,7 +24,7 @@ pub enum Decision {
 
 // What a set tells of step 4, beside its status (RULES.md, 10.10): the ground that spoke, with the place of the chosen entry, counted from 0,
 // and its rank; for attributes also how many required bits are missing, how many prohibited ones are set, and the lowest of them all. All else is 0.
-#[derive(Drop)]
+#[derive(Clone, Copy)]
 pub struct Report {
     pub ground: Ground,
     pub place: u32,

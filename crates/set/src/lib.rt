@@ -1,4 +1,6 @@
 // A set: what is decided of a request (steps 1 to 9), and what is then written (step 10 and deletions).
+#![tactic(auto)]
+
 ghost use Rattle.std.specs.Prelude.{◌≡◌, ◌∷◌, [], Bool, true, false, ◌+◌, ◌≤◌, eqb, leb, length};
 ghost use Rattle.std.proofs.Math.Option.{Option};
 ghost use Rattle.std.specs.Int.Bits.{bit_and};
@@ -34,7 +36,7 @@ use stores::{Ends, Place};
 use switches::Switches;
 
 // What a set has found out of sound stores and a valid policy record: where the records end, how many entries there are, and where the request's variable stands.
-#[derive(Drop)]
+#[derive(Clone, Copy)]
 pub struct Known {
     pub ends: Ends,
     pub count: usize,
@@ -42,7 +44,7 @@ pub struct Known {
 }
 
 // What is decided of a set, and what step 4 said.
-#[derive(Drop)]
+#[derive(Clone, Copy)]
 pub struct Decided {
     pub decision: Decision,
     pub report: Report,

@@ -1,5 +1,7 @@
 // Whether a variable is settled (RULES.md, 10.14): two functions that call each other, while the links that may still be followed fall from 16. The stores were
 // found sound and the policy record valid before, once, and nothing is checked again at a link; where records begin is noted once for all links.
+#![tactic(auto)]
+
 ghost use Rattle.std.specs.Prelude.{◌≡◌, true, ◌+◌, ◌≤◌, length};
 ghost use Rattle.limits.specs.Limits.{namespace_bytes, max_links, trigger_namespace_at};
 ghost use Rattle.slices.specs.Bytes.{part};

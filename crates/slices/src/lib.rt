@@ -1,4 +1,6 @@
 // Byte primitives: numbers of two, four and eight bytes, parts, tests of bytes, a hash, and writes and moves in place.
+#![tactic(auto)]
+
 ghost use Rattle.std.specs.Prelude.{◌≡◌, ◌+◌, ◌≤◌, ◌<◌, length, get_or, take, drop, replicate};
 ghost use Rattle.slices.specs.Bytes.{le16, le32, le64, le16_bytes, part, all_are, same, overwrite};
 ghost use Rattle.slices.specs.Hash.{hash_from};

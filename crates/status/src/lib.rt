@@ -1,8 +1,10 @@
 // The statuses (RULES.md, 9.1), by the names of the UEFI specification: an EFI_STATUS without its error bit.
+#![tactic(auto)]
+
 ghost use Rattle.std.specs.Prelude.{◌≡◌};
 ghost use Rattle.status.specs.Status.{status_number, is_success};
 
-#[derive(Drop)]
+#[derive(Clone, Copy)]
 pub enum Status {
     Success,
     InvalidParameter,

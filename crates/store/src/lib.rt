@@ -1,4 +1,6 @@
 // The store of variables: one record, the search, where a payload stands, and the edits in place.
+#![tactic(auto)]
+
 ghost use Rattle.std.specs.Prelude.{◌≡◌, true, ◌++◌, ℕ, ◌+◌, ◌≤◌, ◌<◌, length, drop};
 ghost use Rattle.limits.specs.Limits.{namespace_bytes, max_name_bytes, max_payload, record_header};
 ghost use Rattle.slices.specs.Bytes.{Bytes, le32_bytes, all_are, overwrite};
@@ -7,7 +9,7 @@ ghost use Rattle.store.specs.Record.{has_nV, has_bS, has_rT, has_append, attribu
 ghost use Rattle.store.specs.Store.{records_of, end_of, store_ok, place_of, without_variable, has_room, with_record};
 ghost use Rattle.store.specs.Parts.{variable, HeaderFits, Storable, is_found, record_in, attributes_in, payload_in, bounds_in, Held, joined, resized};
 
-#[derive(Drop)]
+#[derive(Clone, Copy)]
 pub enum Found {
     // The variable's record begins at `at` and is `len` bytes long.
     At { at: usize, len: usize },
@@ -16,7 +18,7 @@ pub enum Found {
 }
 
 // A part of a store: from the byte `from` up to, and without, the byte `to`.
-#[derive(Drop)]
+#[derive(Clone, Copy)]
 pub struct Bounds {
     pub from: usize,
     pub to: usize,

@@ -1,5 +1,7 @@
 // The two lent stores together: the check that both are sound, in a time that grows with their bytes, and where a variable stands in them.
 // The check's filter has one byte for each slot of a hash; a record is searched for only where its slot does not rule out that its variable was seen.
+#![tactic(auto)]
+
 ghost use Rattle.std.specs.Prelude.{◌≡◌, ◌++◌, true, false, ◌<◌, length};
 ghost use Rattle.slices.specs.Filter.{joined};
 ghost use Rattle.slices.specs.Chunks.{contains, distinct};
@@ -16,21 +18,21 @@ use store::{Bounds, Found};
 const SLOTS: usize = 8192;
 
 // Where the records of two stores end.
-#[derive(Drop)]
+#[derive(Clone, Copy)]
 pub struct Ends {
     pub nv: usize,
     pub vol: usize,
 }
 
 // What the check of the two stores finds.
-#[derive(Drop)]
+#[derive(Clone, Copy)]
 pub enum PairCheck {
     Sound(Ends),
     Unsound,
 }
 
 // What a scan of one store finds.
-#[derive(Drop)]
+#[derive(Clone, Copy)]
 pub enum Scanned {
     // No variable stands twice; the records end here.
     End(usize),
@@ -177,7 +179,7 @@ pub fn check_alone(nv: &[u8]) -> bool
 }
 
 // Which store holds a variable's record, and where it stands there; of an absent variable the volatile store.
-#[derive(Drop)]
+#[derive(Clone, Copy)]
 pub struct Place {
     pub nonvolatile: bool,
     pub found: Found,

@@ -1,11 +1,13 @@
 // The engine's switches: enabled, locked, disabling allowed, exited; and the bytes in which a caller keeps them.
+#![tactic(auto)]
+
 ghost use Rattle.std.specs.Prelude.{◌≡◌};
 ghost use Rattle.switches.specs.Switches.{lock_answer, disable_answer, exit_answer};
 ghost use Rattle.switches.specs.SwitchBytes.{gives_leave, switches_of, byte_of, bytes_of, locked_bytes, disabled_bytes, exited_bytes, bytes_answer};
 
 use status::Status;
 
-#[derive(Drop)]
+#[derive(Clone, Copy)]
 pub struct Switches {
     pub enabled: bool,
     pub locked: bool,
@@ -14,7 +16,7 @@ pub struct Switches {
 }
 
 // What a call on the switches answers: its status, and the switches as it leaves or hands them back.
-#[derive(Drop)]
+#[derive(Clone, Copy)]
 pub struct SwitchAnswer {
     pub status: Status,
     pub switches: Switches,
@@ -115,7 +117,7 @@ pub fn exit(switches: Switches) -> SwitchAnswer
 
 // The switches as a caller keeps and lends them. Each of the 256 values of each byte has a meaning.
 #[repr(C)]
-#[derive(Drop)]
+#[derive(Clone, Copy)]
 pub struct SwitchBytes {
     pub enabled: u8,
     pub locked: u8,
@@ -124,7 +126,7 @@ pub struct SwitchBytes {
 }
 
 // What a call on lent bytes answers: whether it is granted, the number of its status, and the bytes to be written if it is.
-#[derive(Drop)]
+#[derive(Clone, Copy)]
 pub struct BytesAnswer {
     pub granted: bool,
     pub status: u32,

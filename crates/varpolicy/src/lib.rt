@@ -3,6 +3,8 @@
 // each, and every byte has a meaning: `switches_of`, `gives_leave`.
 // A function whose parameters or answer an edition changed has the edition behind its name, and the header calls it without: varpolicy_lock
 // is varpolicy_lock_e10. E10 gave the switches a fourth byte; under the old names an object file of then would link, and pass three.
+#![tactic(auto)]
+
 ghost use Rattle.std.specs.Prelude.{◌≡◌, cond, eqb, length};
 ghost use Rattle.slices.specs.Bytes.{Bytes};
 ghost use Rattle.names.specs.Name.{variable};
@@ -32,7 +34,7 @@ use switches::{
 
 // What a power-on or restart answers. Each byte of the switches is 0 or 1.
 #[repr(C)]
-#[derive(Drop)]
+#[derive(Clone, Copy)]
 pub struct Started {
     pub status: u32,
     pub switches: SwitchBytes,
@@ -40,7 +42,7 @@ pub struct Started {
 
 // What a dump answers: beside 0 the length written, beside 5 the length needed.
 #[repr(C)]
-#[derive(Drop)]
+#[derive(Clone, Copy)]
 pub struct Dumped {
     pub status: u32,
     pub length: usize,
@@ -48,7 +50,7 @@ pub struct Dumped {
 
 // What a query answers.
 #[repr(C)]
-#[derive(Drop)]
+#[derive(Clone, Copy)]
 pub struct Queried {
     pub status: u32,
     pub enabled: bool,
@@ -56,7 +58,7 @@ pub struct Queried {
 
 // What a read answers: the attributes, and where the payload stands in the store that non_volatile names.
 #[repr(C)]
-#[derive(Drop)]
+#[derive(Clone, Copy)]
 pub struct Read {
     pub status: u32,
     pub attributes: u32,
@@ -67,7 +69,7 @@ pub struct Read {
 
 // What step 4 said against a set (RULES.md, 10.10), in numbers: the ground is 0 for none, 1 for size, 2 for attributes, 3 for a lock.
 #[repr(C)]
-#[derive(Drop)]
+#[derive(Clone, Copy)]
 pub struct Reported {
     pub ground: u32,
     pub place: u32,
@@ -79,7 +81,7 @@ pub struct Reported {
 
 // What a set answers.
 #[repr(C)]
-#[derive(Drop)]
+#[derive(Clone, Copy)]
 pub struct Written {
     pub status: u32,
     pub report: Reported,
@@ -87,7 +89,7 @@ pub struct Written {
 
 // What settled answers (RULES.md, 10.14).
 #[repr(C)]
-#[derive(Drop)]
+#[derive(Clone, Copy)]
 pub struct Settled {
     pub status: u32,
     pub settled: bool,
@@ -95,7 +97,7 @@ pub struct Settled {
 
 // What the check of a dump answers (RULES.md, 10.11): whether two entries quarrel, their places counted from 0, and the bytes of the name.
 #[repr(C)]
-#[derive(Drop)]
+#[derive(Clone, Copy)]
 pub struct Quarrelled {
     pub status: u32,
     pub found: bool,
@@ -107,7 +109,7 @@ pub struct Quarrelled {
 // What a reader says of the bytes that it was fed (RULES.md, 10.12): whether they are good entries and nothing else, whether the reading has ended, so that no further
 // piece changes anything, and of the good entries, up to the first that is not, how many they are and how many bytes they take.
 #[repr(C)]
-#[derive(Drop)]
+#[derive(Clone, Copy)]
 pub struct ReaderVerdict {
     pub status: u32,
     pub whole: bool,
@@ -118,7 +120,7 @@ pub struct ReaderVerdict {
 
 // What it tells of a good entry: its Size, its lock type and its rank.
 #[repr(C)]
-#[derive(Drop)]
+#[derive(Clone, Copy)]
 pub struct ReaderEntry {
     pub status: u32,
     pub size: u32,

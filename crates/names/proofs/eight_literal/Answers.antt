@@ -1,0 +1,14 @@
+use mathlib.Core.Path.{◌≡◌, ap, ◌∙◌}
+use Prim.Native.Nat.{ℕ, ◌≤◌, ◌-◌, ◌+◌, ◌*◌, ◌/◌}
+use native.Mathlib.Omega.{arith}
+use native.Mathlib.Nat.{add-zero}
+use mathlib.Core.Bool.{true}
+use lib.ListN.{drop}
+use Rattle.names.specs.Name.{units, wildcards}
+use Rattle.names.specs.NameLaws.{wildcards_clear}
+use Rattle.names.proofs.eight_literal.Goals as goal
+
+pub loop-j-preserved : goal.loop-j-preserved
+loop-j-preserved c =
+    let a = c.args in
+    (omega arith, omega arith, wildcards_clear a.s.now a.i c.loop-j.j (omega arith) c.unit.ensures c.loop-j.ok c.loop-j.invariant.2)

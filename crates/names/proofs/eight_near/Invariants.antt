@@ -1,0 +1,14 @@
+use mathlib.Core.Path.{◌≡◌, refl}
+use Prim.Native.Nat.{◌≤◌, ◌-◌, ◌+◌, ◌*◌, ◌/◌}
+use native.Mathlib.Omega.{arith}
+use native.Mathlib.Nat.{add-zero}
+use borrow.Author.Rules.{rules}
+use mathlib.Core.Bool.{true}
+use Rattle.names.specs.NameLaws.{matches_from, matches_near}
+use Rattle.names.proofs.eight_near.Given as goal
+
+abbrev pub invariant-loop-j : goal.invariant-loop-j
+invariant-loop-j l = (l.j ≤ 16) × (2 * (l.j / 2) ≡ l.j) × (matches_from l.p l.v l.i ≡ true → (l.ok ≡ true) × (matches_from l.p l.v (l.i + l.j) ≡ true))
+
+abbrev pub decreases-loop-j : goal.decreases-loop-j
+decreases-loop-j l = 16 - l.j

@@ -1,0 +1,17 @@
+use mathlib.Core.Path.{◌≡◌, ap, ◌∙◌}
+use Prim.Native.Nat.{ℕ, ◌≤◌, ◌-◌, ◌+◌, ◌*◌, ◌/◌}
+use native.Mathlib.Omega.{arith}
+use native.Mathlib.Nat.{add-zero}
+use mathlib.Core.Bool.{not}
+use lib.ListN.{drop}
+use lib.Dec.{eqb}
+use Rattle.slices.specs.Test.{◌and◌}
+use Rattle.names.specs.Name.{units, no_zero}
+use Rattle.names.specs.NameLaws.{each_more}
+use Rattle.names.proofs.eight_not_zero.Given as goal
+
+abbrev pub invariant-loop-j : goal.invariant-loop-j
+invariant-loop-j l = (l.j ≤ 16) × (2 * (l.j / 2) ≡ l.j) × (no_zero (units (drop l.i l.s)) ≡ (l.ok and no_zero (units (drop (l.i + l.j) l.s))))
+
+abbrev pub decreases-loop-j : goal.decreases-loop-j
+decreases-loop-j l = 16 - l.j

@@ -1,0 +1,13 @@
+use mathlib.Core.Path.{◌≡◌, ap, ◌∙◌}
+use Prim.Native.Nat.{ℕ, ◌≤◌, ◌-◌, ◌+◌, ◌*◌, ◌/◌}
+use native.Mathlib.Omega.{arith}
+use native.Mathlib.Nat.{add-zero}
+use mathlib.Core.Bool.{true}
+use Rattle.names.specs.NameLaws.{matches_from, matches_plain}
+use Rattle.names.proofs.eight_plain.Given as goal
+
+abbrev pub invariant-loop-j : goal.invariant-loop-j
+invariant-loop-j l = (l.j ≤ 16) × (2 * (l.j / 2) ≡ l.j) × (l.ok ≡ true → matches_from l.p l.v l.i ≡ matches_from l.p l.v (l.i + l.j))
+
+abbrev pub decreases-loop-j : goal.decreases-loop-j
+decreases-loop-j l = 16 - l.j

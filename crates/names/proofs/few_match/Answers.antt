@@ -1,0 +1,30 @@
+use mathlib.Core.Path.{◌≡◌, refl, sym, ◌∙◌}
+use Prim.Native.Nat.{◌≤◌, ◌-◌}
+use native.Mathlib.Omega.{arith}
+use lib.ListN.{length}
+use borrow.Author.Tests.{not-true, not-false}
+use borrow.Author.Rules.{rules}
+use Rattle.slices.specs.Bytes.{pairwise}
+use Rattle.names.specs.Name.{units, unit_matches}
+use Rattle.names.specs.NameLaws.{matches_from, pairs_hit, pairs_miss, pairs_end}
+use Rattle.names.proofs.few_match.Goals as goal
+
+pub returns-then-not-unit_matches : goal.returns-then-not-unit_matches
+returns-then-not-unit_matches c =
+    sym (
+    c.loop-i.invariant.1
+    ∙ pairs_miss unit_matches c.args.p.now c.args.v.now c.loop-i.i (omega (arith, c.requires)) (omega arith) c.unit.ensures c.unit-in-loop-i.ensures
+    (sym c.unit_matches.ensures ∙ c.if-not-unit_matches.true)
+    )
+
+pub loop-i-preserved : goal.loop-i-preserved
+loop-i-preserved c = (
+  omega arith,
+  c.loop-i.invariant.1
+      ∙ pairs_hit unit_matches c.args.p.now c.args.v.now c.loop-i.i (omega (arith, c.requires)) (omega arith) c.unit.ensures c.unit-in-loop-i.ensures
+      (sym c.unit_matches.ensures ∙ c.if-not-unit_matches.false),
+)
+
+pub returns : goal.returns
+returns c =
+    sym (c.loop-i.invariant.1 ∙ pairs_end unit_matches c.args.p.now c.args.v.now c.loop-i.i (omega (arith, c.requires)) (omega arith))

@@ -1,0 +1,18 @@
+use mathlib.Core.Path.{◌≡◌, refl, sym, ◌∙◌}
+use Prim.Native.Nat.{◌≤◌, ◌-◌}
+use native.Mathlib.Omega.{arith}
+use lib.ListN.{length, drop}
+use Rattle.names.specs.Name.{units, each, plain_unit}
+use Rattle.names.specs.NameLaws.{each_hit, each_miss, each_end, plain_unless}
+use Rattle.names.proofs.few_plain.Goals as goal
+
+pub returns-then-own : goal.returns-then-own
+returns-then-own c =
+    sym (c.loop-i.invariant.1 ∙ each_hit _ c.loop-i.i (omega arith) _ (plain_unless _ c.get16-own.ensures.is c.if-own.true))
+
+pub loop-i-preserved : goal.loop-i-preserved
+loop-i-preserved c =
+    (omega arith, c.loop-i.invariant.1 ∙ each_miss _ c.loop-i.i (omega arith) _ (plain_unless _ c.get16-own.ensures.is c.if-own.false))
+
+pub returns : goal.returns
+returns c = sym (c.loop-i.invariant.1 ∙ each_end _ _ c.loop-i.i (omega arith))

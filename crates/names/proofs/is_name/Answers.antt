@@ -1,0 +1,7 @@
+use mathlib.Core.Path.{◌∙◌}
+use Rattle.slices.specs.TestLaws.{and_yes}
+use borrow.Author.Rules.{rules}
+use Rattle.names.proofs.is_name.Goals as goal
+
+pub returns : goal.returns
+returns c = c.check_name.ensures ∙ and_yes _

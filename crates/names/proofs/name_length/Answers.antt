@@ -1,0 +1,15 @@
+use Rattle.slices.specs.Test.{◌and◌}
+use borrow.Author.Tests.{eq-eqb, ne_eqb, le-leb, lt-leb}
+use Rattle.names.proofs.name_length.Goals as goal
+
+pub returns-then-n-ne0 : goal.returns-then-n-ne0
+unfolding ◌and◌
+returns-then-n-ne0 c = simp (ne_eqb _ _ c.if-n-ne0.true)
+
+pub returns-then-n-lt2 : goal.returns-then-n-lt2
+unfolding ◌and◌
+returns-then-n-lt2 c = simp (eq-eqb _ _ c.if-n-ne0.false, lt-leb _ _ c.if-n-lt2.true)
+
+pub returns : goal.returns
+unfolding ◌and◌
+returns c = simp (eq-eqb _ _ c.if-n-ne0.false, le-leb _ _ c.if-n-lt2.false)

@@ -1,0 +1,5 @@
+use Rattle.names.specs.NameLaws.{unit_nears}
+use Rattle.names.proofs.unit_near.Goals as goal
+
+pub returns : goal.returns
+returns c = unit_nears c.args.p c.args.u

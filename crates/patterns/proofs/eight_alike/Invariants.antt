@@ -1,0 +1,15 @@
+use mathlib.Core.Path.{◌≡◌, ap, ◌∙◌}
+use Prim.Native.Nat.{ℕ, ◌≤◌, ◌-◌, ◌+◌, ◌*◌, ◌/◌}
+use native.Mathlib.Omega.{arith}
+use native.Mathlib.Nat.{add-zero}
+use borrow.Author.Rules.{rules}
+use Rattle.slices.specs.Test.{◌and◌}
+use Rattle.patterns.specs.Common.{sign_alike}
+use Rattle.names.specs.NameLaws.{pairs_from, pairs_more}
+use Rattle.patterns.proofs.eight_alike.Given as goal
+
+abbrev pub invariant-loop-j : goal.invariant-loop-j
+invariant-loop-j l = (l.j ≤ 16) × (2 * (l.j / 2) ≡ l.j) × (pairs_from sign_alike l.p l.q l.i ≡ (l.ok and pairs_from sign_alike l.p l.q (l.i + l.j)))
+
+abbrev pub decreases-loop-j : goal.decreases-loop-j
+decreases-loop-j l = 16 - l.j

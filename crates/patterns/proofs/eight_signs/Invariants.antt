@@ -1,0 +1,14 @@
+use mathlib.Core.Path.{◌≡◌, subst}
+use mathlib.Core.Bool.{false≢true}
+use Prim.Native.Nat.{ℕ, ◌≤◌, ◌-◌, ◌*◌, ◌/◌}
+use native.Mathlib.Omega.{arith}
+use native.Mathlib.Nat.{add-zero}
+use Rattle.patterns.specs.Signs.{EitherSign}
+use Rattle.patterns.specs.SignLaws.{either_more}
+use Rattle.patterns.proofs.eight_signs.Given as goal
+
+abbrev pub invariant-loop-j : goal.invariant-loop-j
+invariant-loop-j l = (l.j ≤ 16) × (2 * (l.j / 2) ≡ l.j) × EitherSign l.s l.i l.k l.j l.found
+
+abbrev pub decreases-loop-j : goal.decreases-loop-j
+decreases-loop-j l = 16 - l.j

@@ -1,0 +1,14 @@
+use mathlib.Core.Path.{◌≡◌, ap, ◌∙◌}
+use mathlib.Core.Bool.{◌||◌}
+use Prim.Native.Nat.{ℕ, ◌≤◌, ◌-◌, ◌+◌, ◌*◌, ◌/◌}
+use native.Mathlib.Omega.{arith}
+use native.Mathlib.Nat.{add-zero}
+use lib.ListN.{drop}
+use Rattle.patterns.specs.Signs.{has_sign}
+use Rattle.patterns.specs.SignLaws.{sign_more}
+use Rattle.patterns.proofs.sixteen_signs.Goals as goal
+
+pub loop-j-preserved : goal.loop-j-preserved
+loop-j-preserved c =
+    let a = c.args in
+    (omega arith, omega arith, sign_more a.s.now a.i c.loop-j.j (omega arith) c.unit.ensures c.loop-j.found c.loop-j.invariant.2)

@@ -1,0 +1,15 @@
+use mathlib.Core.Path.{◌≡◌, refl, sym, ◌∙◌}
+use Prim.Native.Nat.{◌≤◌, ◌-◌}
+use native.Mathlib.Omega.{arith}
+use lib.ListN.{length, drop}
+use Rattle.slices.specs.Test.{◌and◌}
+use Rattle.slices.specs.TestLaws.{and_yes}
+use Rattle.slices.specs.Bytes.{all_are}
+use Rattle.slices.specs.BytesLaws.{all_are-end, all_are-more}
+use Rattle.slices.proofs.all_are.Given as goal
+
+abbrev pub invariant-loop-i : goal.invariant-loop-i
+invariant-loop-i l = (l.i ≤ length l.s) × (all_are l.v l.s ≡ (l.ok and all_are l.v (drop l.i l.s)))
+
+abbrev pub decreases-loop-i : goal.decreases-loop-i
+decreases-loop-i l = length l.s - l.i

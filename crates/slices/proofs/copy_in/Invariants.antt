@@ -1,0 +1,16 @@
+use mathlib.Core.Path.{◌≡◌, refl, ◌∙◌}
+use Prim.Native.Nat.{◌≤◌, ◌-◌, ◌+◌}
+use native.Mathlib.Omega.{arith}
+use lib.ListN.{length, take}
+use lib.Seq.{take-length}
+use Rattle.slices.specs.Bytes.{overwrite}
+use Rattle.slices.specs.PartLaws.{length_part}
+use Rattle.slices.specs.OverwriteLaws.{overwrite_none}
+use Rattle.slices.proofs.Writes.{copy_next}
+use Rattle.slices.proofs.copy_in.Given as goal
+
+abbrev pub invariant-loop-i : goal.invariant-loop-i
+invariant-loop-i l = (l.i ≤ length l.src) × (l.s ≡ overwrite l.initial.s l.at (take l.i l.src)) × (length l.s ≡ length l.initial.s)
+
+abbrev pub decreases-loop-i : goal.decreases-loop-i
+decreases-loop-i l = length l.src - l.i
