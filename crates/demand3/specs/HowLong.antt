@@ -75,7 +75,8 @@ answer_in_order : (d : Answer) (c : Call) (is : Items machine) (w : Order machin
     → (es : Entries machine) × (o : Order machine) × (last_of d (answers_in_order machine w s (is ++ (call c ∷ []))) ≡ answer_by machine c es o (step (end machine s (history machine is)) c).0)
 unfolding last_of
 answer_in_order d c [] w s = (_, w, refl)
-answer_in_order d c (call b ∷ is) w s = answer_in_order _ c is (order_after machine (kind_of b) (outcome_of machine s b) w) (step s b).1
+answer_in_order d c (call b ∷ is) w s =
+    answer_in_order (answer_by machine b (machine.entries s) w (step s b).0) c is (order_after machine (kind_of b) (outcome_of machine s b) w) (step s b).1
 answer_in_order d c (own_dump b ∷ is) w s = answer_in_order d c is w s
 answer_in_order d c (rebuild ds x ∷ is) w s = answer_in_order d c is (order_rebuilt machine w ds x) s
 

@@ -332,6 +332,7 @@ complete_here ds (e ∷ past) h =
       are_formed = all_formed_lem ds h.1;
       are_dumped = same_eq (flat ds) (take e.got.number e.got.bytes) (and_right _ _ h.2);
     })
+complete_here ds [] h = elim h [ ]
 
 complete_empty : Complete machine [] (past (own_dump [] ∷ []))
 unfolding rules_opened

@@ -103,7 +103,8 @@ unfolding judged good_from
 judged_has {r} {b} {es} h a [] nil x f = rw (append-nil es) h
 judged_has {r} {b} {es} h a (e ∷ l) (more w v) x f =
     rw (admits_follows h a e (omega (arith, grown_flat h e (flat l ++ x) s, h.tells.goods, grown_room h e (flat l ++ x) s)))
-    (go (may_follow es e) refl (λ k. judged_has k (all_append es (e ∷ []) a (more w nil)) l v x (rw (append_assoc es (e ∷ []) l) f)))
+    (go (may_follow es e) refl
+    (λ k. judged_has {r = accepted r e} {es = es ++ (e ∷ [])} k (all_append es (e ∷ []) a (more w nil)) l v x (rw (append_assoc es (e ∷ []) l) f)))
   where
     s : flat (es ++ (e ∷ [])) ++ (flat l ++ x) ≡ b
     s = first_stands es e l x b f

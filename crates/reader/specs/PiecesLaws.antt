@@ -27,7 +27,7 @@ after_read {r} {d} h p = go (is_piece p)
 pub all_read : {r d : Bytes} → HasRead r d → (ps : List Bytes) → HasRead (fed_all r ps) (d ++ arrived ps)
 unfolding fed_all arrived
 all_read {r} {d} h [] = rw (append-nil d) h
-all_read {r} {d} h (p ∷ ps) = rw append_assoc at (all_read (after_read h p) ps)
+all_read {r} {d} h (p ∷ ps) = rw append_assoc at (all_read {r = after_feed r p} {d = d ++ cond (is_piece p) p []} (after_read h p) ps)
 
 -- the entries ms behind the first ones, es
 handed : {r d : Bytes} → HasRead r d → (es ms : List Bytes) → All WellFormed ms → good_of d ≡ es ++ ms → HandsOut r (length (flat es)) (map listed ms)

@@ -12,7 +12,7 @@ use Rattle.rules.specs.declared.Decision.TheVariants.{Refuse, Block, Delete, Kee
 use Rattle.rules.specs.declared.Report.{Report}
 
 -- a ground, the place and the rank of the entry that gave it, and the three numbers of its attributes
-abbrev pub report_of : Ground → ℕ → ℕ → ℕ → ℕ → ℕ → Report
+abbrev pub report_of : (ground : Ground) → ℕ → ℕ → ℕ → ℕ → ℕ → Report
 report_of ground place rank missing prohibited lowest =
     record { ground = ground; place = place; rank = rank; missing = missing; prohibited = prohibited; lowest = lowest }
 

@@ -49,8 +49,9 @@ handed_back (some s) = some (bytes_of s)
 -- a report in numbers
 abbrev pub reported_of : Report → Reported
 reported_of p =
+    let ground : ℕ = ground_number p.ground in
     record {
-      ground = ground_number p.ground;
+      ground = ground;
       place = p.place;
       rank = p.rank;
       missing = p.missing;

@@ -1,0 +1,17 @@
+use Prim.Native.Nat.{◌-◌, ◌≤◌}
+use mathlib.Core.Path.{refl, sym, ◌∙◌}
+use native.Mathlib.Omega.{arith}
+use lib.ListN.{get_or}
+use Rattle.slices.specs.Bytes.{Bytes}
+use Rattle.slices.specs.TestLaws.{forced_off}
+use Rattle.names.specs.Name.{variable}
+use Rattle.policy.specs.Walk.{At, Passed}
+use Rattle.policy.proofs.Walk.{Hand, hand}
+use Rattle.policy.proofs.Best.{pass}
+use Rattle.policy.proofs.candidate.Given as goal
+
+abbrev pub invariant-loop-index : goal.invariant-loop-index
+invariant-loop-index l = (l.initial.index ≤ l.index) × At l.policy l.index l.at × Passed l.policy (variable l.namespace l.name) l.initial.index l.initial.at l.index l.at
+
+abbrev pub decreases-loop-index : goal.decreases-loop-index
+decreases-loop-index l = l.count - l.index

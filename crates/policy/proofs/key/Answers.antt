@@ -1,0 +1,12 @@
+use native.Mathlib.Omega.{arith}
+use Rattle.entry.specs.EntryLaws.{sized}
+use Rattle.policy.proofs.Marked.{key_is}
+use borrow.Author.Rules.{rules}
+use Rattle.policy.proofs.key.Goals as goal
+
+pub get32-requires : goal.get32-requires
+get32-requires c =
+    omega (arith, (sized c.args.e.now c.requires).least)
+
+pub returns : goal.returns
+returns c = key_is c.args.e.now c.get32.ensures.is c.name_bytes.ensures c.hash-h.ensures

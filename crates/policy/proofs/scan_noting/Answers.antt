@@ -1,0 +1,7 @@
+use borrow.Author.Rules.{rules}
+use Rattle.policy.specs.FilterLaws.{marks_none}
+use Rattle.policy.proofs.scan_noting.Goals as goal
+
+pub scan-requires : goal.scan-requires
+scan-requires c =
+    (c.requires.0, marks_none c.no_marks-marks.result c.no_marks-marks.ensures, c.requires.1)

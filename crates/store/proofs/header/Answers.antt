@@ -1,0 +1,7 @@
+use Rattle.store.proofs.Resize.{header_bytes_lem}
+use native.Mathlib.Omega.{arith}
+use borrow.Author.Rules.{rules}
+use Rattle.store.proofs.header.Goals as goal
+
+pub returns : goal.returns
+returns c = header_bytes_lem c.args.attributes c.args.n c.args.d (omega arith) c.requires.0 c.requires.1
