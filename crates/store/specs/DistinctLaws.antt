@@ -1,5 +1,5 @@
 -- Of records no two of which are of one variable, the one of a variable is what is found. Assumes nothing.
-use Rattle.std.specs.Prelude.{◌≡◌, refl, List, ◌∷◌, Bool, true, false, cond}
+use Rattle.std.specs.Prelude.{◌≡◌, refl, List, [], ◌∷◌, Bool, true, false, cond}
 use Rattle.std.proofs.Common.{sym, ap, ◌∙◌, true≢false, inl, inr}
 use Rattle.std.proofs.Math.Bool.{or-true}
 use Rattle.std.proofs.Math.Option.{some}
@@ -15,7 +15,7 @@ pub among_contains : (p : Bytes → Bool) (l : List Bytes) (a : Bytes) → Among
 unfolding contains
 among_contains p (x ∷ l) a (inl e) h = rw (sym (ap p e) ∙ h)
 among_contains p (x ∷ l) a (inr k) h = rw (among_contains p l a k h) (or-true (p x))
-among_contains p mathlib.Core.List.[] a x'' h = elim x'' [ ]
+among_contains p [] a k h = elim k [ ]
 
 -- of distinct records the one of a variable is what is found
 pub found_only : (l : List Bytes) → distinct same_variable l ≡ true → (v : Variable) (r : Bytes) → Among r l → is_of v r ≡ true → find (is_of v) l ≡ some r
@@ -28,4 +28,4 @@ found_only (c ∷ cs) d v r k o = go (is_of v c) refl k (found_only cs (distinct
         absurd (true≢false (sym (among_contains (same_variable c) cs r h (sym (is_of-like v c e r) ∙ o)) ∙ (distinct_apart same_variable c cs d).here))
     go false e (inl h) f = absurd (true≢false (sym o ∙ ap (is_of v) h ∙ e))
     go false e (inr h) f = f h o
-found_only mathlib.Core.List.[] d v r k o = elim k [ ]
+found_only [] d v r k o = elim k [ ]
