@@ -22,7 +22,7 @@ no-dump name-of hex-digits plain-unit whole-units sum-of-sizes power-on-done res
 register-locked register-malformed register-repeated dump-exited dump-short dump-done set-unsound set-hidden set-volatile
 set-done settled-unsound by-lock restart-refused stored-vol lock-trigger lock-step bad-name given-report refused-answer
 by-none dump-status read-status stored-attributes rule-locks attributes-allowed by-entry by-link by-links flag-bytes
-lock-bytes encode-lock name-ok name-size record-size records-with header-bytes
+lock-bytes has-bs has-rt encode-lock name-ok name-size record-size records-with header-bytes
 """.split()
 
 # the same of lemmas that port.py had put into snake case
@@ -32,8 +32,16 @@ DEFINED = re.compile(r"^\s*(?:(?:abbrev|unfoldable|pub|axiom) )*([^\s:(){}=.]+) 
 WORD = r"[A-Za-z0-9_'₀-₉-]"
 
 
+def capitals(m):
+    """An upper-case letter begins a word; of several, the last does where a small letter follows: `hasNV` is has_nv."""
+    run, behind = m.group(1), m.string[m.end() : m.end() + 1]
+    if len(run) > 1 and behind.islower():
+        return "_" + run[:-1].lower() + "_" + run[-1].lower()
+    return "_" + run.lower()
+
+
 def snake(word):
-    return re.sub(r"(?<=[a-z0-9₀-₉])([A-Z])", lambda m: "_" + m.group(1).lower(), word) if word[:1].islower() else word
+    return re.sub(r"(?<=[a-z0-9₀-₉])([A-Z]+)(?=[A-Z]|[^A-Z]|$)", capitals, word) if word[:1].islower() else word
 
 
 def own_files(root):

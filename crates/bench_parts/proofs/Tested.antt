@@ -7,7 +7,7 @@ use lib.ListN.{length, take, drop, replicate}
 use borrow.Author.Tests.{eq-eqb, ne_eqb, le-leb, lt-leb}
 use Rattle.limits.specs.Limits.{record_header}
 use Rattle.slices.specs.Test.{◌and◌}
-use Rattle.slices.specs.TestLaws.{and_no}
+use Rattle.slices.proofs.TestLaws.{and_no}
 use Rattle.slices.specs.Bytes.{Bytes, overwrite}
 use Rattle.names.specs.Name.{Variable}
 use Rattle.store.specs.Record.{name_size, data_size, variable_of}

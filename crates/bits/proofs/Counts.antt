@@ -7,7 +7,7 @@ use lib.Dec.{eqb}
 use lib.Count.{ones, ones_step, count_trailing_zeros, under}
 use lib.Bits.{bit_and, bit_or, and_lt}
 use Rattle.bits.specs.Bits.{is_set, how_many, least, is_missing, is_prohibited, missing_bits, prohibited_bits, lowest_bit}
-use Rattle.bits.specs.BitsLaws.{Digit, is0, is1, digit, half_lt, set_and, set_or, set_not, many_same, least_same}
+use Rattle.bits.proofs.BitsLaws.{Digit, is0, is1, digit, half_lt, set_and, set_or, set_not, many_same, least_same}
 
 digit_is : (d : ℕ) → Digit d → d ≡ cond {A = ℕ} (eqb d 1) 1 0
 digit_is d (is0 e) = simp e

@@ -1,14 +1,2 @@
 pub mod Machine
-pub mod OrderLaws
-pub mod MachineLaws
-pub mod UnambiguousLaws
-pub mod Demand3
-pub mod StoredSizes
 pub mod OldEntries
-pub mod OldEntriesLaws
-pub mod OldDumps
-pub mod AnyOrder
-pub mod AfterExit
-pub mod HowLong
-pub mod PhaseCalls
-pub mod FlagsLast

@@ -8,12 +8,12 @@ use native.Mathlib.Omega.{arith}
 use lib.ListN.{length}
 use Rattle.slices.specs.Bytes.{Bytes, part}
 use Rattle.names.specs.Name.{Variable, named}
-use Rattle.store.specs.Record.{has_nV}
+use Rattle.store.specs.Record.{has_nv}
 use Rattle.store.specs.Parts.{attributes_in, payload_in}
 use Rattle.stores.specs.Pair.{sound, lookup}
 use Rattle.stores.specs.declared.Place.{Place}
 use Rattle.stores.specs.Place.{place_in, record_at}
-use Rattle.stores.specs.PlaceLaws.{lookup_place, place_within_stores, place_nv, payload_bounds}
+use Rattle.stores.proofs.PlaceLaws.{lookup_place, place_within_stores, place_nv, payload_bounds}
 use Rattle.status.specs.declared.Status.{Status}
 use Rattle.status.specs.declared.Status.TheVariants.{Success, InvalidParameter, VolumeCorrupted, NotFound}
 use Rattle.switches.specs.declared.Switches.{Switches}
@@ -81,7 +81,7 @@ module _ (w : Switches) (nv vol : Bytes) (v : Variable) where
         record {
           answers = h ∙ ap₂ (λ (n : ℕ) (d : Bytes). (answer_of Success n d none, before))
               (ap attributes_in (lookup_place nv vol v)) (ap payload_in (lookup_place nv vol v) ∙ sym b.2);
-          store = place_nv nv vol v r.0 r.1 ∙ ap (λ o. has_nV (attributes_in o)) (sym r.1 ∙ lookup_place nv vol v);
+          store = place_nv nv vol v r.0 r.1 ∙ ap (λ o. has_nv (attributes_in o)) (sym r.1 ∙ lookup_place nv vol v);
           ordered = b.0;
           within = b.1;
         }

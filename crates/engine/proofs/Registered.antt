@@ -7,7 +7,7 @@ use lib.ListN.{length}
 use Rattle.slices.specs.Bytes.{Bytes, overwrite}
 use Rattle.slices.specs.Chunks.{flat}
 use Rattle.policy.specs.Policy.{entries_of, sizes_sum, pack_policy, policy_valid}
-use Rattle.policy.specs.PolicyLaws.{sizes_sum-flat}
+use Rattle.policy.proofs.PolicyLaws.{sizes_sum-flat}
 use Rattle.status.specs.declared.Status.{Status}
 use Rattle.status.specs.declared.Status.TheVariants.{Success, Unsupported, BufferTooSmall, VolumeCorrupted}
 use Rattle.status.specs.Status.{is_success}
@@ -16,7 +16,7 @@ use Rattle.switches.specs.declared.SwitchAnswer.{SwitchAnswer}
 use Rattle.switches.specs.Switches.{with_locked, with_disabled, with_exited, unless_exited, moved_by, lock_answer, disable_answer, exit_answer}
 use Rattle.rules.specs.Engine.{State, Call, state_of, Answer, only_status, register_status, dump_status, status, given, refusal, step, effect}
 use Rattle.rules.specs.Engine.Call.{register, dump, lock, disable, exit}
-use Rattle.rules.specs.EngineLaws.{answer_alone}
+use Rattle.rules.proofs.EngineLaws.{answer_alone}
 use Rattle.engine.specs.Answers.{dump_answer}
 use Rattle.engine.proofs.Steps.{step_is}
 use Rattle.engine.proofs.Checked.{lent_invalid, lent_valid, lent_exited, lent_before}

@@ -3,7 +3,7 @@ use mathlib.Core.Path.{◌≡◌, refl, sym, ap, ap₂, ◌∙◌}
 use mathlib.Core.Bool.{Bool, true, false, cond}
 use mathlib.Core.List.{List}
 use Rattle.slices.specs.Test.{◌and◌}
-use Rattle.slices.specs.TestLaws.{and_no}
+use Rattle.slices.proofs.TestLaws.{and_no}
 use Rattle.slices.specs.Bytes.{Bytes}
 use Rattle.policy.specs.Policy.{entries_of, policy_valid}
 use Rattle.policy.specs.Choice.{chosen}
@@ -18,7 +18,7 @@ use Rattle.rules.specs.Set.{Request, decision, decision_status, decision_store}
 use Rattle.rules.specs.Report.{no_report, decision_report}
 use Rattle.rules.specs.Engine.{State, state_of, speaking, decision_by, decision_in, set_decision, with_report, set_report, after, step}
 use Rattle.rules.specs.Engine.Call.{set}
-use Rattle.rules.specs.EngineLaws.{answer_reported}
+use Rattle.rules.proofs.EngineLaws.{answer_reported}
 use Rattle.set.specs.declared.Decided.{Decided}
 use Rattle.set.specs.Decided.{decided_by}
 use Rattle.engine.specs.declared.SetAnswer.{SetAnswer}

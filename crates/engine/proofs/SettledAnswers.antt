@@ -4,7 +4,7 @@ use mathlib.Core.List.{[]}
 use mathlib.Core.Bool.{Bool, true, false, cond}
 use mathlib.Core.Option.{none}
 use Rattle.slices.specs.Test.{◌and◌}
-use Rattle.slices.specs.TestLaws.{and_no}
+use Rattle.slices.proofs.TestLaws.{and_no}
 use Rattle.slices.specs.Bytes.{Bytes}
 use Rattle.names.specs.Name.{Variable, named}
 use Rattle.policy.specs.Policy.{policy_valid}

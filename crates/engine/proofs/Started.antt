@@ -9,7 +9,7 @@ use lib.Dec.{eqb, leb}
 use borrow.Author.Tests.{eq-eqb, ne_eqb, le-leb, lt-leb}
 use Rattle.limits.specs.Limits.{policy_bytes, max_store}
 use Rattle.slices.specs.Test.{◌and◌}
-use Rattle.slices.specs.TestLaws.{and_no}
+use Rattle.slices.proofs.TestLaws.{and_no}
 use Rattle.slices.specs.Bytes.{Bytes, overwrite}
 use Rattle.policy.specs.Policy.{empty_policy}
 use Rattle.stores.specs.Pair.{sound, sound_alone}

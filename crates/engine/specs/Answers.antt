@@ -4,7 +4,7 @@ use Rattle.std.specs.Prelude.{ℕ, ◌+◌, ◌≤◌, ◌≡◌, [], Bool, fals
 use Rattle.std.proofs.Math.Option.{none}
 use Rattle.slices.specs.Bytes.{Bytes, part}
 use Rattle.names.specs.Name.{Variable, named}
-use Rattle.store.specs.Record.{has_nV}
+use Rattle.store.specs.Record.{has_nv}
 use Rattle.stores.specs.Pair.{sound, lookup}
 use Rattle.stores.specs.declared.Place.{Place}
 use Rattle.stores.specs.Place.{place_in, attributes_at, bounds_at}
@@ -69,7 +69,7 @@ pub record ReadStep (s : State) (v : Variable) (r : Reading) : Type 0 where
   -- it is the answer of the rules, with the payload as the bytes named, and nothing is changed
   pub answers : step s (read v) ≡ (read_answer r s, s)
   -- the non-volatile store is named for a variable that has NV, and the payload lies within the store named
-  pub store : r.nonvolatile ≡ has_nV r.attributes
+  pub store : r.nonvolatile ≡ has_nv r.attributes
   pub ordered : r.from ≤ r.to
   pub within : r.to ≤ length (store_read r s)
 

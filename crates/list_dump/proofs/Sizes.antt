@@ -9,7 +9,7 @@ use lib.Seq.{length-take-le}
 use borrow.Author.Tests.{eqb-false}
 use Rattle.slices.specs.Bytes.{Bytes, part}
 use Rattle.policy.specs.Policy.{entry_length}
-use Rattle.policy.specs.PolicyLaws.{entry_length-within}
+use Rattle.policy.proofs.PolicyLaws.{entry_length-within}
 use Rattle.reader.specs.declared.Listing.{Listing}
 use Rattle.reader.specs.declared.Listing.TheVariants.{Entry, NoEntry}
 use Rattle.reader.specs.Reading.{listing, listed}

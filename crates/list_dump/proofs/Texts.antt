@@ -11,7 +11,7 @@ use lib.ListN.{length, take, drop, length-append, length-take}
 use lib.Seq.{take_at}
 use Rattle.limits.specs.Limits.{whole_namespace_rank}
 use Rattle.slices.specs.Bytes.{Bytes, overwrite}
-use Rattle.slices.specs.OverwriteLaws.{length_overwrite}
+use Rattle.slices.proofs.OverwriteLaws.{length_overwrite}
 use Rattle.io.specs.Counts.{IsPrefixLen}
 use Rattle.io.specs.Digits.{hex_digit_ascii, last_digits, IsDigitCount}
 use Rattle.reader.specs.declared.Verdict.{Verdict}

@@ -11,26 +11,26 @@ use lib.ListN.{length, get_or, set, take, drop, replicate, length-set, length-re
 use lib.Seq.{get_or-set_same, get_or-set_other, drop-drop, drop-length, take-length, length-take-le}
 use borrow.Author.Tests.{eqb-true, eqb-false}
 use Rattle.lists.specs.Lists.{Among}
-use Rattle.lists.specs.ListsLaws.{among_left, among_right}
+use Rattle.lists.proofs.ListsLaws.{among_left, among_right}
 use Rattle.slices.specs.Bytes.{Bytes, part}
 use Rattle.slices.specs.Chunks.{contains, distinct, find}
-use Rattle.slices.specs.PartLaws.{part_of}
-use Rattle.slices.specs.ChunksLaws.{chunks_step, chunks_stop, used_step, used_stop}
+use Rattle.slices.proofs.PartLaws.{part_of}
+use Rattle.slices.proofs.ChunksLaws.{chunks_step, chunks_stop, used_step, used_stop}
 use Rattle.names.specs.Name.{Variable}
 use Rattle.store.specs.Record.{name_size, data_size, record_size, record_length, is_of, same_variable}
-use Rattle.store.specs.RecordLaws.{record_length-within, record_length-local}
+use Rattle.store.proofs.RecordLaws.{record_length-within, record_length-local}
 use Rattle.store.specs.Store.{records_of, end_of, place_of}
 use Rattle.store.specs.Parts.{is_found, record_in, Held, HeaderFits}
-use Rattle.store.specs.PlaceLaws.{contains_place}
-use Rattle.store.specs.DistinctLaws.{found_only}
+use Rattle.store.proofs.PlaceLaws.{contains_place}
+use Rattle.store.proofs.DistinctLaws.{found_only}
 use Rattle.store.specs.declared.Found.{Found}
 use Rattle.store.specs.declared.Found.TheVariants.{At, Absent}
 use Rattle.store.proofs.Walk.{Here, here, rest_at}
 use Rattle.stores.specs.Pair.{all_records, sound, lookup}
-use Rattle.stores.specs.PairLaws.{sound_distinct}
+use Rattle.stores.proofs.PairLaws.{sound_distinct}
 use Rattle.stores.specs.declared.Place.{Place}
 use Rattle.stores.specs.Place.{place_in, record_at, Within}
-use Rattle.stores.specs.PlaceLaws.{lookup_place, place_within_stores}
+use Rattle.stores.proofs.PlaceLaws.{lookup_place, place_within_stores}
 use Rattle.noted.specs.Noted.{keys, notes, Begins, NoteOf, Noted, Leads, Tried}
 
 -- ---- notes

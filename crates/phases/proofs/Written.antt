@@ -9,12 +9,12 @@ use borrow.Author.Tests.{not-true, not-false}
 use lib.ListN.{length, take, length-append, drop_of_length-le}
 use Rattle.limits.specs.Limits.{entry_version}
 use Rattle.slices.specs.Test.{◌and◌}
-use Rattle.slices.specs.TestLaws.{and_left}
+use Rattle.slices.proofs.TestLaws.{and_left}
 use Rattle.slices.specs.Chunks.{flat}
 use Rattle.slices.specs.Bytes.{Bytes, le16_bytes, le32_bytes, overwrite}
-use Rattle.slices.specs.OverwriteLaws.{overwrite_next, take_front, length_overwrite}
+use Rattle.slices.proofs.OverwriteLaws.{overwrite_next, take_front, length_overwrite}
 use Rattle.names.specs.Name.{Variable, is_name, named, units, wildcards}
-use Rattle.names.specs.NameLaws.{is_name-length}
+use Rattle.names.proofs.NameLaws.{is_name-length}
 use Rattle.entry.specs.Encoding.{encode_entry, encode_numbers, encode_lock, offset_for, size_for, terminated}
 use Rattle.policy.specs.Policy.{policy_valid, entries_of}
 use Rattle.status.specs.declared.Status.{Status}
@@ -23,7 +23,7 @@ use Rattle.switches.specs.declared.Switches.{Switches}
 use Rattle.status.specs.Status.{status_number}
 use Rattle.rules.specs.Engine.{State, Answer, state_of, only_status, dump_status, status, step}
 use Rattle.rules.specs.Engine.Call.{register, dump}
-use Rattle.rules.specs.EngineLaws.{step_status}
+use Rattle.rules.proofs.EngineLaws.{step_status}
 use Rattle.rules.specs.Grounds.{Not}
 use Rattle.engine.specs.declared.DumpAnswer.{DumpAnswer}
 use Rattle.engine.specs.Answers.{dump_answer}

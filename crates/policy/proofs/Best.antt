@@ -13,11 +13,11 @@ use Rattle.slices.specs.Test.{◌and◌}
 use Rattle.slices.specs.Bytes.{Bytes, part}
 use Rattle.names.specs.Name.{Variable}
 use Rattle.entry.specs.Entry.{targets, rank}
-use Rattle.entry.specs.EntryLaws.{rank_most}
+use Rattle.entry.proofs.EntryLaws.{rank_most}
 use Rattle.policy.specs.declared.Choice.{Choice}
 use Rattle.policy.specs.declared.Choice.TheVariants.{Chosen, Nothing}
 use Rattle.policy.specs.Policy.{entry_length, entries_of}
-use Rattle.policy.specs.PolicyLaws.{WellFormed}
+use Rattle.policy.proofs.PolicyLaws.{WellFormed}
 use Rattle.policy.specs.Choice.{beats, better, choice_from, choice_of}
 use Rattle.policy.specs.Best.{as_choice}
 use Rattle.policy.specs.Walk.{At, Passed}

@@ -3,3 +3,9 @@ pub mod Writes
 pub mod Named
 pub mod Best
 pub mod Marked
+pub mod PolicyLaws
+pub mod DumpLaws
+pub mod ChoiceLaws
+pub mod PlaceLaws
+pub mod FilterLaws
+pub mod StatedLaws

@@ -10,20 +10,20 @@ use lib.Dec.{eqb, leb}
 use borrow.Author.Tests.{eq-eqb, ne_eqb, le-leb, lt-leb, eqb-true, eqb-false}
 use Rattle.limits.specs.Limits.{namespace_at, max_entries, policy_bytes}
 use Rattle.slices.specs.Test.{◌and◌}
-use Rattle.slices.specs.TestLaws.{and_no, and_yes, forced_off}
+use Rattle.slices.proofs.TestLaws.{and_no, and_yes, forced_off}
 use Rattle.slices.specs.Bytes.{Bytes, le32, part, all_are}
-use Rattle.slices.specs.PartLaws.{part_of}
+use Rattle.slices.proofs.PartLaws.{part_of}
 use Rattle.slices.specs.Hash.{hash_from}
 use Rattle.slices.specs.Chunks.{flat, contains, distinct}
-use Rattle.slices.specs.ItemsLaws.{or_off, or_right_off, contains_append, contains_one, distinct_apart, distinct_left, distinct_append}
+use Rattle.slices.proofs.ItemsLaws.{or_off, or_right_off, contains_append, contains_one, distinct_apart, distinct_left, distinct_append}
 use Rattle.entry.specs.Entry.{name_of, well_formed, same_target}
-use Rattle.entry.specs.EntryLaws.{namespace_start, same_target-sym, same_target-alike}
+use Rattle.entry.proofs.EntryLaws.{namespace_start, same_target-sym, same_target-alike}
 use Rattle.policy.specs.declared.PolicyCheck.{PolicyCheck}
 use Rattle.policy.specs.declared.PolicyCheck.TheVariants.{Valid, Invalid}
 use Rattle.policy.specs.Policy.{entry_length, entries_of, sizes_sum, valid_within, check_within, policy_check}
-use Rattle.policy.specs.PolicyLaws.{within_invalid}
+use Rattle.policy.proofs.PolicyLaws.{within_invalid}
 use Rattle.policy.specs.Filter.{key_at, key_of, slot_of, fingerprint_of, Marks, marks_with}
-use Rattle.policy.specs.FilterLaws.{unmet, unmet_test, marks_more}
+use Rattle.policy.proofs.FilterLaws.{unmet, unmet_test, marks_more}
 use Rattle.policy.specs.Walk.{At, EntryEnds}
 use Rattle.policy.proofs.Walk.{at_start, at_next, all_met, sum_met, count_met, more_left, whole, grown}
 

@@ -10,15 +10,15 @@ use lib.Bits.{bit_and}
 use borrow.Author.Tests.{ne_eqb, eqb-true}
 use Rattle.limits.specs.Limits.{offset_to_name_at, entry_header}
 use Rattle.slices.specs.Bytes.{Bytes, le16, le64, part}
-use Rattle.slices.specs.BytesLaws.{pairwise_length}
-use Rattle.slices.specs.PartLaws.{part_of, part_take, length_part, get_d-middle}
-use Rattle.slices.specs.NumberLaws.{le16_take, le16_drop, le64_take, le64_drop}
+use Rattle.slices.proofs.BytesLaws.{pairwise_length}
+use Rattle.slices.proofs.PartLaws.{part_of, part_take, length_part, get_d-middle}
+use Rattle.slices.proofs.NumberLaws.{le16_take, le16_drop, le64_take, le64_drop}
 use Rattle.names.specs.Name.{units, unit_matches, matches}
-use Rattle.names.specs.NameLaws.{units_length, units_whole}
+use Rattle.names.proofs.NameLaws.{units_length, units_whole}
 use Rattle.names.specs.Tail.{whole_units, TailOf}
-use Rattle.names.specs.TailLaws.{InBytes, tail_shows}
+use Rattle.names.proofs.TailLaws.{InBytes, tail_shows}
 use Rattle.entry.specs.Entry.{well_formed, offset_to_name, name_is_empty, name_of}
-use Rattle.entry.specs.EntryLaws.{sized, name_least, name_of-closed, name_of-even}
+use Rattle.entry.proofs.EntryLaws.{sized, name_least, name_of-closed, name_of-even}
 
 -- the entry is well formed, and its name begins behind `offset` bytes
 module _ (p name : Bytes) (at end : ℕ) (within : end ≤ length p) (w : well_formed (part at end p) ≡ true) where

@@ -9,14 +9,14 @@ use lib.ListN.{length, get_or, take, drop, length-append, length-drop, take-appe
 use lib.Seq.{length-take-le, take-add, drop-drop, take_all, get_or-drop}
 use Rattle.limits.specs.Limits.{size_at, entry_header}
 use Rattle.slices.specs.Bytes.{Bytes, le16, part}
-use Rattle.slices.specs.PartLaws.{part_of}
-use Rattle.slices.specs.NumberLaws.{le16_drop}
+use Rattle.slices.proofs.PartLaws.{part_of}
+use Rattle.slices.proofs.NumberLaws.{le16_drop}
 use Rattle.slices.specs.Chunks.{flat, contains}
-use Rattle.slices.specs.ChunksLaws.{flat_append, flat_one}
+use Rattle.slices.proofs.ChunksLaws.{flat_append, flat_one}
 use Rattle.entry.specs.Entry.{well_formed}
 use Rattle.policy.specs.Policy.{entry_length, entries_of, sizes_sum}
 use Rattle.policy.specs.Walk.{At, EntryEnds}
-use Rattle.policy.specs.PolicyLaws.{Begins, entry_length-begins, entries_of-stop, entries_of-step, sizes_sum-flat}
+use Rattle.policy.proofs.PolicyLaws.{Begins, entry_length-begins, entries_of-stop, entries_of-step, sizes_sum-flat}
 
 pub at_start : (p : Bytes) → At p 0 0
 unfolding flat

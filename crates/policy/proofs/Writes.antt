@@ -8,12 +8,12 @@ use native.Mathlib.Nat.{sub-zero}
 use lib.ListN.{length, take, replicate, length-append, length-replicate, drop_of_length-le}
 use Rattle.limits.specs.Limits.{policy_bytes}
 use Rattle.slices.specs.Bytes.{Bytes, overwrite, padded}
-use Rattle.slices.specs.PartLaws.{drop_replicate}
-use Rattle.slices.specs.OverwriteLaws.{overwrite_seam}
+use Rattle.slices.proofs.PartLaws.{drop_replicate}
+use Rattle.slices.proofs.OverwriteLaws.{overwrite_seam}
 use Rattle.slices.specs.Chunks.{flat, packed}
-use Rattle.slices.specs.ChunksLaws.{flat_append, flat_one, flat_chunks}
+use Rattle.slices.proofs.ChunksLaws.{flat_append, flat_one, flat_chunks}
 use Rattle.policy.specs.Policy.{entry_length, entries_of, sizes_sum, pack_policy, policy_valid}
-use Rattle.policy.specs.PolicyLaws.{entry_length-within, sizes_sum-flat, pack-entries_of}
+use Rattle.policy.proofs.PolicyLaws.{entry_length-within, sizes_sum-flat, pack-entries_of}
 
 packed_append : (n v : ℕ) (es : List Bytes) (e : Bytes) → overwrite (packed n v es) (length (flat es)) e ≡ packed n v (es ++ (e ∷ []))
 unfolding packed padded

@@ -1,13 +1,7 @@
 pub mod Policy
-pub mod PolicyLaws
 pub mod Dump
-pub mod DumpLaws
 pub mod Choice
-pub mod ChoiceLaws
-pub mod PlaceLaws
 pub mod Walk
 pub mod Best
 pub mod Filter
-pub mod FilterLaws
 pub mod Stated
-pub mod StatedLaws

@@ -8,16 +8,16 @@ use lib.ListN.{length}
 use Rattle.limits.specs.Limits.{max_name_bytes}
 use Rattle.slices.specs.Bytes.{Bytes, overwrite}
 use Rattle.patterns.specs.Common.{least_name}
-use Rattle.patterns.specs.CommonLaws.{least_length}
+use Rattle.patterns.proofs.CommonLaws.{least_length}
 use Rattle.entry.specs.Entry.{name_of}
-use Rattle.entry.specs.EntryLaws.{name_of-even, name_of-most}
+use Rattle.entry.proofs.EntryLaws.{name_of-even, name_of-most}
 use Rattle.policy.specs.Policy.{entries_of}
 use Rattle.policy.specs.Dump.{dump_valid}
-use Rattle.policy.specs.DumpLaws.{dump_entries}
+use Rattle.policy.proofs.DumpLaws.{dump_entries}
 use Rattle.quarrels.specs.declared.Pair.TheVariants.{Places, NoPair}
 use Rattle.quarrels.specs.declared.Verdict.TheVariants.{NoDump, NoQuarrel, Found}
 use Rattle.quarrels.specs.Quarrel.{pair_of, least_at, answer_for, quarrels_of, buffer_for, buffer_after}
-use Rattle.quarrels.specs.QuarrelLaws.{at, FirstQuarrel, pair_found, formed_at}
+use Rattle.quarrels.proofs.QuarrelLaws.{at, FirstQuarrel, pair_found, formed_at}
 use Rattle.quarrels.proofs.Tests.{lengths_agree}
 
 module _ (d : Bytes) where

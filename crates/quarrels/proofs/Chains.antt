@@ -11,7 +11,7 @@ use lib.Seq.{get_or-set_same, get_or-set_other}
 use lib.Dec.{eqb}
 use borrow.Author.Tests.{eqb-true, eqb-false}
 use Rattle.limits.specs.Limits.{max_entries}
-use Rattle.lists.specs.ListsLaws.{Less, less}
+use Rattle.lists.proofs.ListsLaws.{Less, less}
 use Rattle.quarrels.specs.Group.{groups, Rises, Next, Chains, Skipped, stay, on}
 
 -- a walk along a chain never goes back

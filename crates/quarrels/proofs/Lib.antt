@@ -4,3 +4,6 @@ pub mod Chains
 pub mod Linked
 pub mod Places
 pub mod Answers
+pub mod PairsLaws
+pub mod QuarrelLaws
+pub mod PlainLaws

@@ -10,12 +10,12 @@ use lib.Dec.{eqb, ltb}
 use borrow.Author.Tests.{eqb-true, eqb-false, ltb-true}
 use mathlib.Core.Logic.{inl, inr}
 use Rattle.limits.specs.Limits.{max_entries}
-use Rattle.lists.specs.ListsLaws.{Less, less}
+use Rattle.lists.proofs.ListsLaws.{Less, less}
 use Rattle.slices.specs.Test.{◌and◌}
-use Rattle.slices.specs.TestLaws.{and_left, and_right}
+use Rattle.slices.proofs.TestLaws.{and_left, and_right}
 use Rattle.slices.specs.Bytes.{Bytes}
 use Rattle.patterns.specs.Common.{same_signs}
-use Rattle.patterns.specs.CommonLaws.{same_signs_trans}
+use Rattle.patterns.proofs.CommonLaws.{same_signs_trans}
 use Rattle.patterns.specs.Literals.{literal_mask_of, literals_of}
 use Rattle.entry.specs.Entry.{name_of}
 use Rattle.quarrels.specs.Group.{groups, group_at, front, notes, tails_at, noted_for, Next, Chains, Others, Noted}

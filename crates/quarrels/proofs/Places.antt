@@ -12,24 +12,24 @@ use lib.Dec.{eqb}
 use borrow.Author.Tests.{eq-eqb, eqb-false}
 use Rattle.limits.specs.Limits.{max_entries}
 use Rattle.lists.specs.Lists.{All, nil, more}
-use Rattle.lists.specs.ListsLaws.{Less, less, all_left, all_right}
-use Rattle.slices.specs.TestLaws.{forced_off}
+use Rattle.lists.proofs.ListsLaws.{Less, less, all_left, all_right}
+use Rattle.slices.proofs.TestLaws.{forced_off}
 use Rattle.slices.specs.Bytes.{Bytes, AreBytes}
-use Rattle.slices.specs.PartLaws.{bytes_part}
+use Rattle.slices.proofs.PartLaws.{bytes_part}
 use Rattle.slices.specs.Chunks.{flat}
-use Rattle.names.specs.TailLaws.{InBytes}
+use Rattle.names.proofs.TailLaws.{InBytes}
 use Rattle.patterns.specs.Signs.{has_sign}
 use Rattle.patterns.specs.Common.{same_signs}
 use Rattle.patterns.specs.Literals.{literal_mask_of, literals_of}
 use Rattle.entry.specs.Entry.{offset_to_name, name_of}
 use Rattle.policy.specs.Policy.{entries_of}
 use Rattle.policy.specs.Dump.{dump_valid}
-use Rattle.policy.specs.DumpLaws.{dump_flat, dump_entries}
+use Rattle.policy.proofs.DumpLaws.{dump_flat, dump_entries}
 use Rattle.quarrels.specs.declared.Pair.TheVariants.{Places, NoPair}
-use Rattle.quarrels.specs.PairsLaws.{Before, no_pair_exactly, first_found}
+use Rattle.quarrels.proofs.PairsLaws.{Before, no_pair_exactly, first_found}
 use Rattle.quarrels.specs.Quarrel.{quarrel_at, pair_of}
-use Rattle.quarrels.specs.QuarrelLaws.{at, all_at, formed_at, apart_at}
-use Rattle.quarrels.specs.PlainLaws.{dump_plain}
+use Rattle.quarrels.proofs.QuarrelLaws.{at, all_at, formed_at, apart_at}
+use Rattle.quarrels.proofs.PlainLaws.{dump_plain}
 use Rattle.quarrels.specs.Group.{groups, group_of, group_at, InGroup, Next, Chains, Others, front, tails_at, Noted, differing, Skipped, stay, on}
 use Rattle.quarrels.proofs.Tests.{Distinct, grouped, one_group, tails_agree, fronts_agree, literals_none, signs_differ}
 

@@ -3,7 +3,7 @@ use Prim.Native.Nat.{ℕ, zero, suc, ◌+◌, ◌-◌, ◌*◌, ◌%◌, ◌≤�
 use mathlib.Core.Path.{◌≡◌, refl, sym, ap, ap₂, subst⁻¹, ◌∙◌}
 use mathlib.Core.List.{[], ◌∷◌}
 use mathlib.Core.Logic.{inl, inr}
-use Rattle.lists.specs.ListsLaws.{Less, less}
+use Rattle.lists.proofs.ListsLaws.{Less, less}
 use mathlib.Core.Bool.{Bool, true, false, not, false≢true}
 use native.Mathlib.Omega.{arith}
 use lib.ListN.{length, get_or, take, length-take}
@@ -11,23 +11,23 @@ use lib.Seq.{take-nil, take_all, length-take-le, get_or-take}
 use lib.Bits.{bit_and, bit_xor}
 use borrow.Author.Tests.{eq-eqb, ne_eqb}
 use Rattle.limits.specs.Limits.{max_name_bytes, namespace_bytes, namespace_at, min_size_at}
-use Rattle.slices.specs.TestLaws.{and_left, and_right, and_intro, forced_off}
+use Rattle.slices.proofs.TestLaws.{and_left, and_right, and_intro, forced_off}
 use Rattle.slices.specs.Bytes.{Bytes, le32, le64, pairwise, same}
-use Rattle.slices.specs.BytesLaws.{pairwise_length, same_eq, same_of}
-use Rattle.slices.specs.PartLaws.{length_part}
+use Rattle.slices.proofs.BytesLaws.{pairwise_length, same_eq, same_of}
+use Rattle.slices.proofs.PartLaws.{length_part}
 use Rattle.names.specs.Name.{units, named, unit_matches, wildcards}
-use Rattle.names.specs.NameLaws.{named_name, is_name-length, units_length}
-use Rattle.names.specs.TailLaws.{InBytes}
+use Rattle.names.proofs.NameLaws.{named_name, is_name-length, units_length}
+use Rattle.names.proofs.TailLaws.{InBytes}
 use Rattle.patterns.specs.Signs.{has_sign}
-use Rattle.patterns.specs.SignLaws.{sign_none}
+use Rattle.patterns.proofs.SignLaws.{sign_none}
 use Rattle.patterns.specs.Common.{overlap, units_overlap, same_signs}
-use Rattle.patterns.specs.CommonLaws.{overlap_pairs, overlap_matches, least_length, least_name_lem, overlap_sign, same_signs_apart}
+use Rattle.patterns.proofs.CommonLaws.{overlap_pairs, overlap_matches, least_length, least_name_lem, overlap_sign, same_signs_apart}
 use Rattle.patterns.specs.Literals.{literal_mask_of, literals_of}
-use Rattle.patterns.specs.LiteralsLaws.{literals_agree}
+use Rattle.patterns.proofs.LiteralsLaws.{literals_agree}
 use Rattle.entry.specs.Entry.{well_formed, namespace_of, name_is_empty, name_of, rank, same_target}
-use Rattle.entry.specs.EntryLaws.{sized, name_of-empty, name_of-none, name_of-even, name_of-most, namespace_start, target_namespace, target_name, rank_of_name, rank_of_namespace, same_target-of}
+use Rattle.entry.proofs.EntryLaws.{sized, name_of-empty, name_of-none, name_of-even, name_of-most, namespace_start, target_namespace, target_name, rank_of_name, rank_of_namespace, same_target-of}
 use Rattle.quarrels.specs.Quarrel.{least_common, least_variable, quarrel}
-use Rattle.quarrels.specs.QuarrelLaws.{TargetLeast, target_least, name_targets, name_of_lem}
+use Rattle.quarrels.proofs.QuarrelLaws.{TargetLeast, target_least, name_targets, name_of_lem}
 use Rattle.quarrels.specs.Group.{groups, group_by, group_of, front}
 use Rattle.quarrels.proofs.Words.{none_differs}
 

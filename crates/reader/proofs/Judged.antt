@@ -11,17 +11,17 @@ use borrow.Author.Tests.{lt-ltb, le-ltb}
 use Rattle.limits.specs.Limits.{max_entries, policy_bytes}
 use Rattle.slices.specs.Test.{◌and◌}
 use Rattle.slices.specs.Bytes.{Bytes, part}
-use Rattle.slices.specs.PartLaws.{part_of, length_part, drop_take}
+use Rattle.slices.proofs.PartLaws.{part_of, length_part, drop_take}
 use Rattle.slices.specs.Chunks.{contains}
 use Rattle.slices.specs.Filter.{joined}
 use Rattle.entry.specs.Entry.{well_formed}
 use Rattle.policy.specs.Policy.{entry_length, entries_of}
-use Rattle.policy.specs.PolicyLaws.{entry_length-begins, entries_of-stop, entries_of-step}
+use Rattle.policy.proofs.PolicyLaws.{entry_length-begins, entries_of-stop, entries_of-step}
 use Rattle.policy.specs.Stated.{stated_of, repeats}
 use Rattle.policy.specs.Filter.{slot_of, fingerprint_of}
 use Rattle.reader.specs.Reader.{filter_at, good_at, count_at, reader_bytes, held, good, count, put, stop, rest, seen, admits, accepted, judged, stopped_if_decided, all_judged}
 use Rattle.reader.specs.Reading.{decided}
-use Rattle.reader.specs.AcceptedLaws.{accepted_size, accepted_held, accepted_good, accepted_part}
+use Rattle.reader.proofs.AcceptedLaws.{accepted_size, accepted_held, accepted_good, accepted_part}
 
 -- the entry e, and how many good ones there are before it
 module _ (r e : Bytes) {n : ℕ} (c : n ≡ count r) where

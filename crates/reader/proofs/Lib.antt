@@ -2,3 +2,13 @@ pub mod Parts
 pub mod Judged
 pub mod Taken
 pub mod Said
+pub mod ReadingLaws
+pub mod BadLaws
+pub mod ListingLaws
+pub mod ReaderLaws
+pub mod AcceptedLaws
+pub mod JudgedLaws
+pub mod HasReadLaws
+pub mod PiecesLaws
+pub mod Claim
+pub mod Readings

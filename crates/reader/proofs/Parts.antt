@@ -9,8 +9,8 @@ use borrow.Author.Tests.{le-leb, lt-leb, leb-true, leb-false}
 use Rattle.limits.specs.Limits.{size_at, entry_header, max_entry_bytes}
 use Rattle.slices.specs.Test.{◌and◌}
 use Rattle.slices.specs.Bytes.{Bytes, le16, part}
-use Rattle.slices.specs.PartLaws.{length_part}
-use Rattle.slices.specs.NumberLaws.{le16_take, le16_drop}
+use Rattle.slices.proofs.PartLaws.{length_part}
+use Rattle.slices.proofs.NumberLaws.{le16_take, le16_drop}
 use Rattle.entry.specs.Entry.{size_field}
 use Rattle.reader.specs.Reading.{decided}
 

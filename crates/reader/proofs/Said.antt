@@ -8,11 +8,11 @@ use lib.Seq.{length-take-le}
 use lib.Dec.{eqb, leb, ltb}
 use borrow.Author.Tests.{ne_eqb, leb-true, leb-false, lt-ltb, le-ltb}
 use Rattle.limits.specs.Limits.{policy_bytes, lock_type_at}
-use Rattle.slices.specs.TestLaws.{and_eager}
+use Rattle.slices.proofs.TestLaws.{and_eager}
 use Rattle.slices.specs.Bytes.{Bytes, part}
 use Rattle.entry.specs.Entry.{rank}
 use Rattle.policy.specs.Policy.{entry_length}
-use Rattle.policy.specs.PolicyLaws.{entry_length-within}
+use Rattle.policy.proofs.PolicyLaws.{entry_length-within}
 use Rattle.reader.specs.declared.Verdict.{Verdict}
 use Rattle.reader.specs.declared.Listing.TheVariants.{Entry, NoEntry}
 use Rattle.reader.specs.Reading.{listing}

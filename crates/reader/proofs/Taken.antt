@@ -8,15 +8,15 @@ use native.Mathlib.Omega.{arith}
 use lib.ListN.{length, get_or, take}
 use borrow.Author.Tests.{le-leb, lt-leb}
 use Rattle.limits.specs.Limits.{policy_bytes, max_piece}
-use Rattle.slices.specs.TestLaws.{and_intro}
+use Rattle.slices.proofs.TestLaws.{and_intro}
 use Rattle.slices.specs.Bytes.{Bytes, le16, part, overwrite}
 use Rattle.status.specs.declared.Status.TheVariants.{Success, InvalidParameter}
 use Rattle.reader.specs.Reading.{decided}
-use Rattle.reader.specs.ReadingLaws.{undecided_entries}
+use Rattle.reader.proofs.ReadingLaws.{undecided_entries}
 use Rattle.reader.specs.Reader.{held_at, good_at, reader_bytes, held, good, put, stop, rest, judged, stopped_if_decided, all_judged, taken, fed, is_piece, feed_status, after_feed}
-use Rattle.reader.specs.ReaderLaws.{length_put, put_same, put_behind, part_put}
-use Rattle.reader.specs.PiecesLaws.{stopped_stays}
-use Rattle.reader.specs.Claim.{piece_refused}
+use Rattle.reader.proofs.ReaderLaws.{length_put, put_same, put_behind, part_put}
+use Rattle.reader.proofs.PiecesLaws.{stopped_stays}
+use Rattle.reader.proofs.Claim.{piece_refused}
 use Rattle.reader.proofs.Parts.{part_order}
 
 -- what stands behind the good entries once the bytes up to byte to are held, whose number the code writes first

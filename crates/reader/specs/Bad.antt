@@ -5,7 +5,7 @@ use Rattle.limits.specs.Limits.{entry_header, max_entry_bytes, max_entries, poli
 use Rattle.slices.specs.Bytes.{Bytes}
 use Rattle.slices.specs.Chunks.{flat, contains}
 use Rattle.entry.specs.Entry.{size_field, same_target}
-use Rattle.policy.specs.PolicyLaws.{WellFormed, Entries}
+use Rattle.policy.proofs.PolicyLaws.{WellFormed, Entries}
 
 -- the bytes d are the entries es, which a valid record could hold, and then the rest
 pub record Stands (es : List Bytes) (d rest : Bytes) : Type 0 where

@@ -1,15 +1,5 @@
 pub mod Reading
-pub mod ReadingLaws
 pub mod Bad
-pub mod BadLaws
-pub mod ListingLaws
 pub mod Reader
-pub mod ReaderLaws
-pub mod AcceptedLaws
 pub mod HasRead
-pub mod JudgedLaws
-pub mod HasReadLaws
 pub mod Pieces
-pub mod PiecesLaws
-pub mod Claim
-pub mod Readings

@@ -15,7 +15,7 @@ use Rattle.status.specs.Status.{is_success, status_number}
 use Rattle.rules.specs.declared.Decision.{Decision}
 use Rattle.rules.specs.declared.Decision.TheVariants.{Refuse, Delete, Keep}
 use Rattle.rules.specs.declared.Report.{Report}
-use Rattle.rules.specs.Set.{Request, exists, bad_request, unsupported_bit, needs_bS, ground_by, is_deletion, other_attributes, is_empty_append, store_decision, refuse_or, block_or, decision_status, decision_store}
+use Rattle.rules.specs.Set.{Request, exists, bad_request, unsupported_bit, needs_bs, ground_by, is_deletion, other_attributes, is_empty_append, store_decision, refuse_or, block_or, decision_status, decision_store}
 use Rattle.rules.specs.Report.{decision_report}
 use Rattle.rules.specs.Engine.{State, Call, Answer, uses, power_on_status, restart_status, register_status, dump_status, speaking, with_report, entries_length, status, given, effect}
 use Rattle.rules.specs.Engine.Call.{power_on, restart, register, dump, lock, disable, exit, query, read, set, settled}
@@ -26,7 +26,7 @@ abbrev earlier_request_status : Request → Status
 earlier_request_status r =
     cond (bad_request r.variable r.payload) InvalidParameter
     (cond (unsupported_bit r.attributes) Unsupported
-    (cond (needs_bS r.attributes) InvalidParameter Success))
+    (cond (needs_bs r.attributes) InvalidParameter Success))
 
 abbrev earlier_write_decision : Bytes → Bytes → Option Bytes → Request → Decision
 earlier_write_decision nv vol found r =

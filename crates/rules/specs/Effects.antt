@@ -128,7 +128,7 @@ pub data SetLeaves (s : State) (r : Request) (t : State) : Type 0 where
   -- 7: an empty append
   unchanged : EmptyAppend r → t ≡ s → SetLeaves s r t
   -- 10: stored in the store that NV names, in place or behind the last
-  stored_nV : (rs qs : List Bytes) → Not (Deletion r) → Not (EmptyAppend r) → NV r.attributes → PairRecords s.nv s.vol rs qs
+  stored_nv : (rs qs : List Bytes) → Not (Deletion r) → Not (EmptyAppend r) → NV r.attributes → PairRecords s.nv s.vol rs qs
       → (w : Storing s r rs) → PairRecords t.nv t.vol w.records qs → t.vol ≡ s.vol → OnlyStores s t → SetLeaves s r t
   stored_vol : (rs qs : List Bytes) → Not (Deletion r) → Not (EmptyAppend r) → Not (NV r.attributes) → PairRecords s.nv s.vol rs qs
       → (w : Storing s r qs) → PairRecords t.nv t.vol rs w.records → t.nv ≡ s.nv → OnlyStores s t → SetLeaves s r t

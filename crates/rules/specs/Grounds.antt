@@ -137,22 +137,22 @@ pub record PairRecords (nv vol : Bytes) (rs qs : List Bytes) : Type 0 where
   pub apart : Apart (rs ++ qs)
 
 pub record SoundStores (nv vol : Bytes) : Type 0 where
-  pub in_nV : List Bytes
+  pub in_nv : List Bytes
   pub in_vol : List Bytes
-  pub records : PairRecords nv vol in_nV in_vol
+  pub records : PairRecords nv vol in_nv in_vol
 
 -- the non-volatile store by itself
 pub record SoundAlone (nv : Bytes) : Type 0 where
-  pub in_nV : List Bytes
-  pub records : StoreRecords true nv in_nV
-  pub apart : Apart in_nV
+  pub in_nv : List Bytes
+  pub records : StoreRecords true nv in_nv
+  pub apart : Apart in_nv
 
 -- the variable exists: r is its record, in whichever store
 pub record RecordOf (s : State) (v : Variable) (r : Bytes) : Type 0 where
-  pub in_nV : List Bytes
+  pub in_nv : List Bytes
   pub in_vol : List Bytes
-  pub records : PairRecords s.nv s.vol in_nV in_vol
-  pub stands : Among r (in_nV ++ in_vol)
+  pub records : PairRecords s.nv s.vol in_nv in_vol
+  pub stands : Among r (in_nv ++ in_vol)
   pub own : variable_of r ≡ v
 
 -- it does not exist; in unsound stores nothing does
@@ -300,8 +300,8 @@ pub data Applies (s : State) : Call → ℕ → Status → Type 0 where
   -- 2
   set_unknown_bit : {r : Request} (i : ℕ) → Bit i r.attributes → Not (Among i known_bits) → Applies s (set r) 20 Unsupported
   -- 3
-  set_runtime_without_bS : {r : Request} → RT r.attributes → Not (BS r.attributes) → Applies s (set r) 30 InvalidParameter
-  set_append_without_bS : {r : Request} → Append r.attributes → Not (BS r.attributes) → Applies s (set r) 30 InvalidParameter
+  set_runtime_without_bs : {r : Request} → RT r.attributes → Not (BS r.attributes) → Applies s (set r) 30 InvalidParameter
+  set_append_without_bs : {r : Request} → Append r.attributes → Not (BS r.attributes) → Applies s (set r) 30 InvalidParameter
   set_not_runtime : {r : Request} → Exited s → Not (Deletion r) → Not (NV r.attributes × BS r.attributes × RT r.attributes)
       → Applies s (set r) 31 InvalidParameter
   -- 4
@@ -328,7 +328,7 @@ pub data Applies (s : State) : Call → ℕ → Status → Type 0 where
   set_append_too_long : {r : Request} (q : Bytes) → Append r.attributes → RecordOf s r.variable q
       → max_payload < length (payload_of q) + length r.payload → Applies s (set r) 80 OutOfResources
   -- 9
-  set_no_room_nV : {r : Request} (rs qs : List Bytes) → NV r.attributes → PairRecords s.nv s.vol rs qs → (t : Storing s r rs)
+  set_no_room_nv : {r : Request} (rs qs : List Bytes) → NV r.attributes → PairRecords s.nv s.vol rs qs → (t : Storing s r rs)
       → length s.nv < length (flat t.records) → Applies s (set r) 90 OutOfResources
   set_no_room_vol : {r : Request} (rs qs : List Bytes) → Not (NV r.attributes) → PairRecords s.nv s.vol rs qs → (t : Storing s r qs)
       → length s.vol < length (flat t.records) → Applies s (set r) 90 OutOfResources

@@ -10,7 +10,7 @@ use Rattle.names.specs.Name.{Variable, named}
 use Rattle.entry.specs.Entry.{min_size, max_size, attributes_must_have, attributes_cant_have, lock_of, trigger_of, trigger_value}
 use Rattle.entry.specs.declared.LockRule.{LockRule}
 use Rattle.entry.specs.declared.LockRule.TheVariants.{NoLock, LockNow, LockOnCreate, LockOnVarState}
-use Rattle.store.specs.Record.{has_nV, has_bS, has_rT, has_append, attributes_of, payload_of, encode_record}
+use Rattle.store.specs.Record.{has_nv, has_bs, has_rt, has_append, attributes_of, payload_of, encode_record}
 use Rattle.store.specs.Store.{without_variable, has_room, with_record}
 use Rattle.stores.specs.Pair.{lookup}
 use Rattle.status.specs.declared.Status.{Status}
@@ -45,7 +45,7 @@ is_empty (b ∷ l) = false
 
 -- a deletion (RULES.md, 10.9): without append, and with no payload or with neither of BS and RT
 unfoldable pub is_deletion : ℕ → Bytes → Bool
-is_deletion a payload = not (has_append a) and (is_empty payload || not (has_bS a || has_rT a))
+is_deletion a payload = not (has_append a) and (is_empty payload || not (has_bs a || has_rt a))
 
 -- ---- steps 1 to 3
 
@@ -58,18 +58,18 @@ unfoldable pub unsupported_bit : ℕ → Bool
 unsupported_bit a = not (eqb (bit_and a known_attributes) a)
 
 -- step 3: RT or append, and no BS
-unfoldable pub needs_bS : ℕ → Bool
-needs_bS a = (has_rT a || has_append a) and not (has_bS a)
+unfoldable pub needs_bs : ℕ → Bool
+needs_bs a = (has_rt a || has_append a) and not (has_bs a)
 
 -- and, after exit, a set that is no deletion without one of NV, BS and RT
 unfoldable pub needs_runtime : Bool → ℕ → Bytes → Bool
-needs_runtime exited a payload = exited and not (is_deletion a payload) and not (has_nV a and has_bS a and has_rT a)
+needs_runtime exited a payload = exited and not (is_deletion a payload) and not (has_nv a and has_bs a and has_rt a)
 
 unfoldable pub request_status : Bool → Request → Status
 request_status exited r =
     cond (bad_request r.variable r.payload) InvalidParameter
     (cond (unsupported_bit r.attributes) Unsupported
-    (cond (needs_bS r.attributes) InvalidParameter
+    (cond (needs_bs r.attributes) InvalidParameter
     (cond (needs_runtime exited r.attributes r.payload) InvalidParameter Success)))
 
 -- ---- the locks
@@ -145,12 +145,12 @@ ground_status LockGround = WriteProtected
 -- what a read tells and a deletion takes, of what is found of a variable: after exit, no record without RT
 unfoldable pub shown : Bool → Option Bytes → Option Bytes
 shown exited none = none
-shown exited (some q) = cond (exited and not (has_rT (attributes_of q))) none (some q)
+shown exited (some q) = cond (exited and not (has_rt (attributes_of q))) none (some q)
 
 -- a record of the volatile store, which after exit no deletion takes
 unfoldable pub exit_protects : Bool → Option Bytes → Bool
 exit_protects exited none = false
-exit_protects exited (some q) = exited and not (has_nV (attributes_of q))
+exit_protects exited (some q) = exited and not (has_nv (attributes_of q))
 
 -- step 5, by what is found of the request's variable
 abbrev pub delete_decision : Bool → Option Bytes → Decision
@@ -175,7 +175,7 @@ record_after found r = encode_record (stored_attributes r.attributes) r.variable
 
 -- the store that a variable with these attributes stands in
 abbrev pub store_of : ℕ → Bytes → Bytes → Bytes
-store_of a nv vol = cond (has_nV a) nv vol
+store_of a nv vol = cond (has_nv a) nv vol
 
 -- steps 8 and 9, by what is found of the request's variable
 abbrev pub store_decision : Bytes → Bytes → Option Bytes → Request → Decision
@@ -183,7 +183,7 @@ store_decision nv vol found r =
     -- 8
     cond (ltb max_payload (length_after found r)) (Refuse OutOfResources)
     -- 9
-    (cond (has_room (has_nV r.attributes) (store_of r.attributes nv vol) r.variable (record_after found r)) Store (Refuse OutOfResources))
+    (cond (has_room (has_nv r.attributes) (store_of r.attributes nv vol) r.variable (record_after found r)) Store (Refuse OutOfResources))
 
 -- steps 5 to 9
 unfoldable pub write_decision : Bool → Bytes → Bytes → Option Bytes → Request → Decision
@@ -225,8 +225,8 @@ decision_status Store = Success
 
 -- the store is the one that the attributes name
 abbrev pub is_store_of : Bool → ℕ → Bool
-is_store_of true a = has_nV a
-is_store_of false a = not (has_nV a)
+is_store_of true a = has_nv a
+is_store_of false a = not (has_nv a)
 
 -- what a decision leaves in a store: step 10 and deletions; `found` is what was found of the request's variable
 unfoldable pub decision_store : Decision → Bool → Bytes → Option Bytes → Request → Bytes

@@ -12,9 +12,9 @@ use Rattle.rules.specs.declared.Decision.{Decision}
 use Rattle.rules.specs.declared.Decision.TheVariants.{Block}
 use Rattle.rules.specs.declared.Report.{Report}
 use Rattle.rules.specs.Set.{Request, ground_by, decision}
-use Rattle.rules.specs.DecisionLaws.{blocked_by}
+use Rattle.rules.proofs.DecisionLaws.{blocked_by}
 use Rattle.rules.specs.Report.{no_report, report_by, decision_report}
-use Rattle.rules.specs.ReportLaws.{unblocked_report}
+use Rattle.rules.proofs.ReportLaws.{unblocked_report}
 use Rattle.rules.specs.Engine.{speaking, decision_by}
 use Rattle.set.specs.declared.Decided.{Decided}
 use Rattle.set.specs.Decided.{decided_by}

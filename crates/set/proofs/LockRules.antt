@@ -19,7 +19,7 @@ use Rattle.store.specs.declared.Found.TheVariants.{At, Absent}
 use Rattle.stores.specs.Pair.{lookup}
 use Rattle.stores.specs.declared.Place.{Place}
 use Rattle.stores.specs.Place.{Within, place_in, is_somewhere, record_at, payload_at}
-use Rattle.stores.specs.PlaceLaws.{lookup_place, place_within_stores}
+use Rattle.stores.proofs.PlaceLaws.{lookup_place, place_within_stores}
 use Rattle.rules.specs.Set.{Lookup, exists, holds_value, rule_locks, locks}
 use Rattle.set.specs.declared.Known.{Known}
 use Rattle.set.specs.Known.{Located}

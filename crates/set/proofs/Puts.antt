@@ -9,26 +9,26 @@ use borrow.Author.Tests.{eqb-true}
 use Rattle.limits.specs.Limits.{max_payload, namespace_bytes, max_name_bytes}
 use Rattle.slices.specs.Bytes.{Bytes}
 use Rattle.slices.specs.Chunks.{find}
-use Rattle.slices.specs.ItemsLaws.{or_else, find_none}
+use Rattle.slices.proofs.ItemsLaws.{or_else, find_none}
 use Rattle.names.specs.Name.{Variable, variable, named}
-use Rattle.names.specs.NameLaws.{is_name-length, named_namespace, named_name}
-use Rattle.store.specs.Record.{has_nV, attributes_ok, is_of, encode_record}
-use Rattle.store.specs.AttributeLaws.{attributes_ok-stored}
+use Rattle.names.proofs.NameLaws.{is_name-length, named_namespace, named_name}
+use Rattle.store.specs.Record.{has_nv, attributes_ok, is_of, encode_record}
+use Rattle.store.proofs.AttributeLaws.{attributes_ok-stored}
 use Rattle.store.specs.Store.{records_of, store_ok, end_of, place_of, has_room, without_variable, with_record}
 use Rattle.store.specs.Parts.{Storable, payload_in, joined}
 use Rattle.stores.specs.Pair.{sound, lookup}
-use Rattle.stores.specs.PairLaws.{sound_nv, sound_vol, lookup_either}
-use Rattle.store.specs.StoreLaws.{without_absent}
-use Rattle.store.specs.PlaceLaws.{place_absent}
+use Rattle.stores.proofs.PairLaws.{sound_nv, sound_vol, lookup_either}
+use Rattle.store.proofs.StoreLaws.{without_absent}
+use Rattle.store.proofs.PlaceLaws.{place_absent}
 use Rattle.stores.specs.Place.{place_in}
-use Rattle.stores.specs.PlaceLaws.{place_of_store, place_without_nv, place_without_vol, place_of_kind_absent, place_of_kind}
+use Rattle.stores.proofs.PlaceLaws.{place_of_store, place_without_nv, place_without_vol, place_of_kind_absent, place_of_kind}
 use Rattle.status.specs.declared.Status.{Status}
 use Rattle.rules.specs.declared.Ground.{Ground}
 use Rattle.rules.specs.declared.Decision.{Decision}
 use Rattle.rules.specs.declared.Decision.TheVariants.{Refuse, Block, Delete, Keep, Store}
 use Rattle.rules.specs.Set.{Request, other_attributes, stored_attributes, payload_after, record_after, store_of, decision_store}
-use Rattle.rules.specs.SetLaws.{not_first, not_second}
-use Rattle.rules.specs.DecisionLaws.{Stored}
+use Rattle.rules.proofs.SetLaws.{not_first, not_second}
+use Rattle.rules.specs.Stored.{Stored}
 use Rattle.set.specs.declared.Known.{Known}
 use Rattle.set.specs.Known.{Located}
 use Rattle.set.specs.Writable.{found_in, Writable}
@@ -72,7 +72,7 @@ module _ (k : Bool) (s : Bytes) (r : Request) (w : Writable k s r) where
 
 module _ (nv vol : Bytes) (r : Request) (ok : sound nv vol ≡ true) where
   -- what is found in the pair is what the store that the attributes name holds
-  found_in_lem : (b : Bool) → has_nV r.attributes ≡ b → other_attributes (lookup nv vol r.variable) r.attributes ≡ false
+  found_in_lem : (b : Bool) → has_nv r.attributes ≡ b → other_attributes (lookup nv vol r.variable) r.attributes ≡ false
       → lookup nv vol r.variable ≡ found_in b (cond b nv vol) r.variable
   found_in_lem true h k =
       lookup_either nv vol r.variable
@@ -90,7 +90,7 @@ module _ (nv vol : Bytes) (r : Request) (ok : sound nv vol ≡ true) where
   store_ok_lem true = sound_nv nv vol ok
   store_ok_lem false = sound_vol nv vol ok
 
-  module _ (f : Stored nv vol (lookup nv vol r.variable) r) (b : Bool) (h : has_nV r.attributes ≡ b) where
+  module _ (f : Stored nv vol (lookup nv vol r.variable) r) (b : Bool) (h : has_nv r.attributes ≡ b) where
     pub writable : Writable b (cond b nv vol) r
     writable =
         let e = found_in_lem b h f.alike in
@@ -107,12 +107,12 @@ module _ (nv vol : Bytes) (r : Request) (ok : sound nv vol ≡ true) where
 
   -- the stores afterwards, where t is the one that was written
   module _ (f : Stored nv vol (lookup nv vol r.variable) r) where
-    pub stored_nv : {t : Bytes} → has_nV r.attributes ≡ true → t ≡ with_record true nv r.variable (record_after (found_in true nv r.variable) r)
+    pub stored_nv : {t : Bytes} → has_nv r.attributes ≡ true → t ≡ with_record true nv r.variable (record_after (found_in true nv r.variable) r)
         → (t ≡ decision_store Store true nv (lookup nv vol r.variable) r) × (vol ≡ decision_store Store false vol (lookup nv vol r.variable) r)
     unfolding decision_store
     stored_nv h e = (rw h (e ∙ ap (λ o. with_record true nv r.variable (record_after o r)) (sym (found_in_lem true h f.alike))), rw h)
 
-    pub stored_vol_lem : {t : Bytes} → has_nV r.attributes ≡ false → t ≡ with_record false vol r.variable (record_after (found_in false vol r.variable) r)
+    pub stored_vol_lem : {t : Bytes} → has_nv r.attributes ≡ false → t ≡ with_record false vol r.variable (record_after (found_in false vol r.variable) r)
         → (nv ≡ decision_store Store true nv (lookup nv vol r.variable) r) × (t ≡ decision_store Store false vol (lookup nv vol r.variable) r)
     unfolding decision_store
     stored_vol_lem h e = (rw h, rw h (e ∙ ap (λ o. with_record false vol r.variable (record_after o r)) (sym (found_in_lem false h f.alike))))
@@ -134,11 +134,11 @@ module _ (k : Known) (nv vol : Bytes) (v : Variable) (w : Located k nv vol v) wh
   found_there b h = ap (λ p. p.found) w.place ∙ place_of_store nv vol v b (in_store h)
 
   -- in the store that attributes name, if it has no other attributes
-  pub found_alike : (a : ℕ) (b : Bool) → has_nV a ≡ b → other_attributes (lookup nv vol v) a ≡ false → k.place.found ≡ place_of b (cond b nv vol) v
+  pub found_alike : (a : ℕ) (b : Bool) → has_nv a ≡ b → other_attributes (lookup nv vol v) a ≡ false → k.place.found ≡ place_of b (cond b nv vol) v
   unfolding other_attributes
   found_alike a b h o = ap (λ p. p.found) w.place ∙ go (lookup nv vol v) refl o ∙ ap (λ x. place_of x (cond x nv vol) v) h
     where
-      go : (x : Option Bytes) → lookup nv vol v ≡ x → other_attributes x a ≡ false → (place_in nv vol v).found ≡ place_of (has_nV a) (cond (has_nV a) nv vol) v
+      go : (x : Option Bytes) → lookup nv vol v ≡ x → other_attributes x a ≡ false → (place_in nv vol v).found ≡ place_of (has_nv a) (cond (has_nv a) nv vol) v
       go none e k = place_of_kind_absent nv vol v a e
       go (some r) e k = place_of_kind nv vol v a r e (eqb-true _ _ (not_off _ k))
         where
@@ -155,8 +155,8 @@ module _ (k : Known) (nv vol : Bytes) (v : Variable) (w : Located k nv vol v) wh
     deleted_vol h e = (sym (without_absent true nv v (sound_nv nv vol ok) (place_absent (is_of v) (records_of true nv) 0 (place_without_nv nv vol v (in_store h)))), e)
 
 -- room in the store that attributes name
-pub room_alike : {x : Bool} (nv vol : Bytes) (v : Variable) (a : ℕ) (q : Bytes) (b : Bool) → has_nV a ≡ b → x ≡ has_room b (cond b nv vol) v q
-    → x ≡ has_room (has_nV a) (store_of a nv vol) v q
+pub room_alike : {x : Bool} (nv vol : Bytes) (v : Variable) (a : ℕ) (q : Bytes) (b : Bool) → has_nv a ≡ b → x ≡ has_room b (cond b nv vol) v q
+    → x ≡ has_room (has_nv a) (store_of a nv vol) v q
 room_alike nv vol v a q b h e = e ∙ sym (ap (λ y. has_room y (cond y nv vol) v q) h)
 
 -- ---- what is carried out, once the decision is known to be d

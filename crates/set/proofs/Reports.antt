@@ -14,7 +14,7 @@ use Rattle.rules.specs.declared.Decision.TheVariants.{Block}
 use Rattle.rules.specs.declared.Report.{Report}
 use Rattle.rules.specs.Set.{Request, Lookup, ground_of, ground_by}
 use Rattle.rules.specs.Report.{report_of, no_report, report_for, report_by}
-use Rattle.rules.specs.ReportLaws.{unblocked_report, ground_for}
+use Rattle.rules.proofs.ReportLaws.{unblocked_report, ground_for}
 use Rattle.rules.specs.Engine.{speaking}
 
 -- ---- of an entry at a place

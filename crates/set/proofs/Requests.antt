@@ -8,14 +8,14 @@ use lib.ListN.{length, get_or}
 use lib.Dec.{eqb, eqb-suc-zero}
 use borrow.Author.Tests.{eq-eqb, lt-ltb, le-ltb, not-true, not-false}
 use Rattle.slices.specs.Test.{◌and◌}
-use Rattle.slices.specs.TestLaws.{and_no, and_eager}
+use Rattle.slices.proofs.TestLaws.{and_no, and_eager}
 use Rattle.slices.specs.Bytes.{Bytes, pairwise, same}
-use Rattle.slices.specs.BytesLaws.{pairwise_lengths}
+use Rattle.slices.proofs.BytesLaws.{pairwise_lengths}
 use Rattle.limits.specs.Limits.{namespace_bytes, max_payload}
 use Rattle.names.specs.Name.{named, is_name}
-use Rattle.store.specs.Record.{has_nV, has_bS, has_rT, has_append}
+use Rattle.store.specs.Record.{has_nv, has_bs, has_rt, has_append}
 use Rattle.status.specs.declared.Status.TheVariants.{Success, InvalidParameter, Unsupported}
-use Rattle.rules.specs.Set.{is_empty, request_of, is_deletion, bad_request, unsupported_bit, needs_bS, needs_runtime, request_status}
+use Rattle.rules.specs.Set.{is_empty, request_of, is_deletion, bad_request, unsupported_bit, needs_bs, needs_runtime, request_status}
 
 pub empty_length : (l : Bytes) → length l ≡ 0 → is_empty l ≡ true
 unfolding is_empty
@@ -50,18 +50,18 @@ empty_is (b ∷ l) = eqb-suc-zero (length l)
 
 -- ---- steps 1 to 3, by the tests that the code makes
 
-module _ {b : Bool} (a : ℕ) (e : b ≡ has_bS a) where
-  pub no_need : b ≡ true → false ≡ needs_bS a
-  unfolding needs_bS
+module _ {b : Bool} (a : ℕ) (e : b ≡ has_bs a) where
+  pub no_need : b ≡ true → false ≡ needs_bs a
+  unfolding needs_bs
   no_need h = simp (← e, h, and_no)
 
-  module _ {t : Bool} (h : b ≡ false) (f : t ≡ has_rT a) where
-    pub runtime_needs : t ≡ true → true ≡ needs_bS a
-    unfolding needs_bS ◌and◌
+  module _ {t : Bool} (h : b ≡ false) (f : t ≡ has_rt a) where
+    pub runtime_needs : t ≡ true → true ≡ needs_bs a
+    unfolding needs_bs ◌and◌
     runtime_needs k = simp (← e, h, ← f, k)
 
-    pub append_needs : {p : Bool} → t ≡ false → p ≡ has_append a → p ≡ needs_bS a
-    unfolding needs_bS
+    pub append_needs : {p : Bool} → t ≡ false → p ≡ has_append a → p ≡ needs_bs a
+    unfolding needs_bs
     append_needs k g = simp (← e, h, ← f, k) (g ∙ sym (and_true (has_append a)))
 
 -- after exit: no deletion, and NV, BS or RT missing
@@ -75,7 +75,7 @@ module _ (x : Bool) (a : ℕ) (payload : Bytes) where
     unfolding needs_runtime ◌and◌
     deletion_passes k = simp (not-false x h, ← e, k)
 
-    pub runtime_asked : {n b t : Bool} → d ≡ false → n ≡ has_nV a → b ≡ has_bS a → t ≡ has_rT a → not ((n && b) && t) ≡ needs_runtime x a payload
+    pub runtime_asked : {n b t : Bool} → d ≡ false → n ≡ has_nv a → b ≡ has_bs a → t ≡ has_rt a → not ((n && b) && t) ≡ needs_runtime x a payload
     unfolding needs_runtime ◌and◌
     runtime_asked {n} {b} {t} k p q r = simp (not-false x h, ← e, k, ← p, ← q, ← r) (ap not (joined n b t))
       where
@@ -99,11 +99,11 @@ module _ (x : Bool) (namespace name : Bytes) (a : ℕ) (payload : Bytes) (g : le
       unknown_bit l = simp (eq-eqb _ _ g, h, le-ltb _ _ k, l)
 
       module _ (l : unsupported_bit a ≡ false) where
-        pub lacks_bs : needs_bS a ≡ true → InvalidParameter ≡ request_status x (request_of namespace name a payload)
+        pub lacks_bs : needs_bs a ≡ true → InvalidParameter ≡ request_status x (request_of namespace name a payload)
         unfolding ◌and◌ request_status bad_request named
         lacks_bs m = simp (eq-eqb _ _ g, h, le-ltb _ _ k, l, m)
 
-        module _ (m : needs_bS a ≡ false) where
+        module _ (m : needs_bs a ≡ false) where
           pub lacks_runtime : needs_runtime x a payload ≡ true → InvalidParameter ≡ request_status x (request_of namespace name a payload)
           unfolding ◌and◌ request_status bad_request named
           lacks_runtime n = simp (eq-eqb _ _ g, h, le-ltb _ _ k, l, m, n)

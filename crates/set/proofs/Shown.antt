@@ -6,7 +6,7 @@ use mathlib.Core.Option.{Option, none, some}
 use borrow.Author.Tests.{not-true, not-false}
 use Rattle.slices.specs.Test.{◌and◌}
 use Rattle.slices.specs.Bytes.{Bytes}
-use Rattle.store.specs.Record.{has_nV, has_rT}
+use Rattle.store.specs.Record.{has_nv, has_rt}
 use Rattle.store.specs.Parts.{attributes_in}
 use Rattle.status.specs.declared.Status.TheVariants.{WriteProtected, NotFound}
 use Rattle.stores.specs.declared.Place.{Place}
@@ -16,10 +16,10 @@ use Rattle.rules.specs.Set.{exists, shown, exit_protects, delete_decision}
 use Rattle.set.proofs.LockRules.{exists_at}
 
 -- of what is found, with its attributes
-found_shown : (x : Bool) (o : Option Bytes) → exists o ≡ true → exists (shown x o) ≡ cond x (has_rT (attributes_in o)) true
+found_shown : (x : Bool) (o : Option Bytes) → exists o ≡ true → exists (shown x o) ≡ cond x (has_rt (attributes_in o)) true
 unfolding exists shown ◌and◌
 found_shown x none h = absurd (true≢false (sym h))
-found_shown true (some q) h = go (has_rT (attributes_in (some q)))
+found_shown true (some q) h = go (has_rt (attributes_in (some q)))
   where
     go : (t : Bool) → exists (cond (not t) none (some q)) ≡ t
     go true = refl
@@ -31,7 +31,7 @@ unfolding exists shown
 absent_shown x none h = refl
 absent_shown x (some q) h = absurd (true≢false h)
 
-found_protected : (o : Option Bytes) → exists o ≡ true → exit_protects true o ≡ not (has_nV (attributes_in o))
+found_protected : (o : Option Bytes) → exists o ≡ true → exit_protects true o ≡ not (has_nv (attributes_in o))
 unfolding exists exit_protects ◌and◌
 found_protected none h = absurd (true≢false (sym h))
 found_protected (some q) h = refl
@@ -62,19 +62,19 @@ module _ (x : Bool) (nv vol : Bytes) (p : Place) where
     protects_absent h = sym (absent_protected x _ (stands nv vol p e (not-true f h)))
 
     module _ (h : not f ≡ false) where
-      shown_is : exists (shown x (record_at nv vol p)) ≡ cond x (has_rT (attributes_at nv vol p)) true
+      shown_is : exists (shown x (record_at nv vol p)) ≡ cond x (has_rt (attributes_at nv vol p)) true
       shown_is = found_shown x _ (stands nv vol p e (not-false f h))
 
       pub shown_before : not x ≡ true → true ≡ exists (shown x (record_at nv vol p))
-      shown_before k = sym (shown_is ∙ ap (λ b. cond b (has_rT (attributes_at nv vol p)) true) (not-true x k))
+      shown_before k = sym (shown_is ∙ ap (λ b. cond b (has_rt (attributes_at nv vol p)) true) (not-true x k))
 
       module _ {n : ℕ} {t : Bool} (k : not x ≡ false) (a : n ≡ attributes_at nv vol p) where
-        pub shown_after : t ≡ has_rT n → t ≡ exists (shown x (record_at nv vol p))
-        shown_after r = r ∙ ap has_rT a ∙ sym (shown_is ∙ ap (λ b. cond b (has_rT (attributes_at nv vol p)) true) (not-false x k))
+        pub shown_after : t ≡ has_rt n → t ≡ exists (shown x (record_at nv vol p))
+        shown_after r = r ∙ ap has_rt a ∙ sym (shown_is ∙ ap (λ b. cond b (has_rt (attributes_at nv vol p)) true) (not-false x k))
 
-        pub protects_after : t ≡ has_nV n → not t ≡ exit_protects x (record_at nv vol p)
+        pub protects_after : t ≡ has_nv n → not t ≡ exit_protects x (record_at nv vol p)
         protects_after r =
-            ap not (r ∙ ap has_nV a) ∙ sym (ap (λ b. exit_protects b (record_at nv vol p)) (not-false x k) ∙ found_protected _ (stands nv vol p e (not-false f h)))
+            ap not (r ∙ ap has_nv a) ∙ sym (ap (λ b. exit_protects b (record_at nv vol p)) (not-false x k) ∙ found_protected _ (stands nv vol p e (not-false f h)))
 
 -- ---- the decision: s whether what is found is shown, p whether it is protected
 module _ {s : Bool} (x : Bool) (o : Option Bytes) (e : s ≡ exists (shown x o)) where

@@ -10,11 +10,11 @@ use Rattle.limits.specs.Limits.{max_entries, whole_namespace_rank}
 use Rattle.slices.specs.Bytes.{Bytes, le16, part}
 use Rattle.names.specs.Name.{Variable}
 use Rattle.entry.specs.Entry.{well_formed, rank}
-use Rattle.entry.specs.EntryLaws.{sized, rank_most}
+use Rattle.entry.proofs.EntryLaws.{sized, rank_most}
 use Rattle.policy.specs.Policy.{entries_of}
 use Rattle.policy.specs.Choice.{chosen, place_of, choice_of}
-use Rattle.policy.specs.ChoiceLaws.{Speaks, choice_some, place_within, chosen_formed, chosen_within, chosen_size, chosen_entry_lem}
-use Rattle.policy.specs.PlaceLaws.{choice_place}
+use Rattle.policy.proofs.ChoiceLaws.{Speaks, choice_some, place_within, chosen_formed, chosen_within, chosen_size, chosen_entry_lem}
+use Rattle.policy.proofs.PlaceLaws.{choice_place}
 use Rattle.policy.specs.declared.Choice.TheVariants.{Chosen}
 
 module _ (p : Bytes) (v : Variable) (i at r : ℕ) (k : choice_of (entries_of p) v ≡ Chosen i at r) where

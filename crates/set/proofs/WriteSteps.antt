@@ -10,7 +10,7 @@ use borrow.Author.Tests.{lt-ltb, le-ltb}
 use Rattle.limits.specs.Limits.{max_payload}
 use Rattle.slices.specs.Bytes.{Bytes}
 use Rattle.names.specs.Name.{Variable, variable}
-use Rattle.store.specs.Record.{has_nV, has_append}
+use Rattle.store.specs.Record.{has_nv, has_append}
 use Rattle.store.specs.Store.{has_room}
 use Rattle.store.specs.Parts.{payload_in}
 use Rattle.store.specs.declared.Found.{Found}
@@ -19,7 +19,7 @@ use Rattle.status.specs.declared.Status.TheVariants.{InvalidParameter, OutOfReso
 use Rattle.stores.specs.Pair.{lookup}
 use Rattle.stores.specs.declared.Place.{Place}
 use Rattle.stores.specs.Place.{place_in, is_somewhere, record_at, attributes_at}
-use Rattle.stores.specs.PlaceLaws.{lookup_place}
+use Rattle.stores.proofs.PlaceLaws.{lookup_place}
 use Rattle.rules.specs.declared.Decision.{Decision}
 use Rattle.rules.specs.declared.Decision.TheVariants.{Refuse, Keep, Store}
 use Rattle.rules.specs.Set.{Request, is_deletion, is_empty_append, delete_decision, other_attributes, payload_after, store_of, record_after, store_decision, write_decision}
@@ -98,7 +98,7 @@ module _ (nv vol : Bytes) (o : Option Bytes) (r : Request) {n : ℕ} (e : n ≡ 
   pub too_long_lem : max_payload < n → Refuse OutOfResources ≡ store_decision nv vol o r
   too_long_lem h = rw (← e, lt-ltb max_payload n h)
 
-  module _ {x : Bool} (h : n ≤ max_payload) (k : x ≡ has_room (has_nV r.attributes) (store_of r.attributes nv vol) r.variable (record_after o r)) where
+  module _ {x : Bool} (h : n ≤ max_payload) (k : x ≡ has_room (has_nv r.attributes) (store_of r.attributes nv vol) r.variable (record_after o r)) where
     by_room : cond x Store (Refuse OutOfResources) ≡ store_decision nv vol o r
     by_room = rw (← e, le-ltb max_payload n h) (ap (λ b. cond b Store (Refuse OutOfResources)) k)
 

@@ -5,7 +5,7 @@ use Rattle.limits.specs.Limits.{max_payload}
 use Rattle.slices.specs.Bytes.{Bytes}
 use Rattle.slices.specs.Chunks.{find}
 use Rattle.names.specs.Name.{Variable, named}
-use Rattle.store.specs.Record.{has_nV, has_bS, is_of}
+use Rattle.store.specs.Record.{has_nv, has_bs, is_of}
 use Rattle.store.specs.Store.{records_of, store_ok, has_room}
 use Rattle.rules.specs.Set.{Request, payload_after, record_after}
 
@@ -16,8 +16,8 @@ found_in non_volatile s v = find (is_of v) (records_of non_volatile s)
 -- a sound store of the attributes' kind, BS, a variable with a name, a payload that is then of 1 to 1,024 bytes, and room for it
 pub record Writable (non_volatile : Bool) (s : Bytes) (r : Request) : Type 0 where
   pub ok : store_ok non_volatile s ≡ true
-  pub kind : non_volatile ≡ has_nV r.attributes
-  pub bs : has_bS r.attributes ≡ true
+  pub kind : non_volatile ≡ has_nv r.attributes
+  pub bs : has_bs r.attributes ≡ true
   pub called : named r.variable ≡ true
   pub some : 1 ≤ length r.payload
   pub most : length (payload_after (found_in non_volatile s r.variable) r.attributes r.payload) ≤ max_payload

@@ -13,14 +13,14 @@ ghost use Rattle.entry.specs.Entry.{rank as rank_of};
 ghost use Rattle.policy.specs.Policy.{entries_of};
 ghost use Rattle.policy.specs.Walk.{EntryEnds};
 ghost use Rattle.policy.specs.Choice.{chosen};
-ghost use Rattle.store.specs.Record.{has_nV, encode_record};
+ghost use Rattle.store.specs.Record.{has_nv, encode_record};
 ghost use Rattle.store.specs.Store.{end_of, place_of, has_room, without_variable, with_record};
 ghost use Rattle.stores.specs.Pair.{sound, lookup, ends_of};
 ghost use Rattle.stores.specs.Place.{record_at, Within};
-ghost use Rattle.rules.specs.Set.{request_of, exists, is_deletion, needs_bS, needs_runtime, request_status, is_empty_append, holds_value, locks, request_ground, ground_of, ground_by, shown, exit_protects, delete_decision, other_attributes, payload_after, stored_attributes, store_of, record_after, store_decision, write_decision, decision, decision_status, decision_store};
+ghost use Rattle.rules.specs.Set.{request_of, exists, is_deletion, needs_bs, needs_runtime, request_status, is_empty_append, holds_value, locks, request_ground, ground_of, ground_by, shown, exit_protects, delete_decision, other_attributes, payload_after, stored_attributes, store_of, record_after, store_decision, write_decision, decision, decision_status, decision_store};
 ghost use Rattle.rules.specs.Report.{report_of, no_report, report_for, report_by};
 ghost use Rattle.rules.specs.Engine.{speaking};
-ghost use Rattle.rules.specs.DecisionLaws.{Stored};
+ghost use Rattle.rules.specs.Stored.{Stored};
 ghost use Rattle.rules.specs.declared.Ground.TheVariants.{AttributeGround};
 ghost use Rattle.rules.specs.declared.Decision.TheVariants.{Store};
 ghost use Rattle.set.specs.Known.{Located, Knows};
@@ -54,7 +54,7 @@ pub struct Decided {
 
 // Whether RT or append stands without BS.
 fn needs_bs(attributes: u32) -> bool
-    ensures { result ≡ needs_bS attributes }
+    ensures { result ≡ needs_bs attributes }
 {
     if store::has_bs(attributes) {
         return false;
@@ -408,7 +408,7 @@ fn has_room(
         × (named (variable namespace.now name.now) ≡ true)
         × (other_attributes (lookup nv.now vol.now (variable namespace.now name.now)) attributes ≡ false) × (n ≤ max_payload) }
     ensures { (p : Bytes) → length p ≡ n
-        → result ≡ has_room (has_nV attributes) (store_of attributes nv.now vol.now) (variable namespace.now name.now)
+        → result ≡ has_room (has_nv attributes) (store_of attributes nv.now vol.now) (variable namespace.now name.now)
         (encode_record (stored_attributes attributes) (variable namespace.now name.now) p) }
 {
     let place = known.place;

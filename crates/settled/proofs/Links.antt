@@ -10,11 +10,11 @@ use lib.Dec.{eqb, leb}
 use borrow.Author.Tests.{eqb-false, lt-leb}
 use Rattle.limits.specs.Limits.{namespace_bytes}
 use Rattle.slices.specs.Test.{◌and◌}
-use Rattle.slices.specs.TestLaws.{and_no, and_yes}
+use Rattle.slices.proofs.TestLaws.{and_no, and_yes}
 use Rattle.slices.specs.Bytes.{Bytes, part, same}
 use Rattle.names.specs.Name.{Variable, variable}
 use Rattle.entry.specs.Entry.{lock_of, lock_policy_type, trigger_of, well_formed}
-use Rattle.entry.specs.EntryLaws.{sized, trigger_least}
+use Rattle.entry.proofs.EntryLaws.{sized, trigger_least}
 use Rattle.entry.specs.declared.Trigger.{Trigger}
 use Rattle.entry.specs.declared.LockRule.{LockRule}
 use Rattle.entry.specs.declared.LockRule.TheVariants.{NoLock, LockNow, LockOnCreate, LockOnVarState}
@@ -24,7 +24,7 @@ use Rattle.stores.specs.declared.Place.{Place}
 use Rattle.stores.specs.Place.{record_at, payload_at}
 use Rattle.rules.specs.Set.{Lookup, exists, holds_value, rule_locks}
 use Rattle.rules.specs.Settled.{Choice, rests_on, lock_holds_by, lock_holds_in, settled_in, settled_asks}
-use Rattle.rules.specs.SettledLaws.{settled_below, lock_is}
+use Rattle.rules.proofs.SettledLaws.{settled_below, lock_is}
 use Rattle.set.proofs.LockRules.{holds_found, trigger_in, rule_trigger, rule_locks_lem, trigger_locks}
 
 -- ---- the chosen entry

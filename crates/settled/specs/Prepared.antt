@@ -13,10 +13,10 @@ pub record Prepared (policy : Bytes) (count : ℕ) (entryEnds : List ℕ) : Type
   pub ends : EntryEnds entryEnds policy
 
 -- the stores are sound, with where their records end, and notes of where these begin
-pub record Searched (nv vol : Bytes) (ends : Ends) (in_nV in_vol : List ℕ) : Type 0 where
+pub record Searched (nv vol : Bytes) (ends : Ends) (in_nv in_vol : List ℕ) : Type 0 where
   pub stores : sound nv vol ≡ true
   pub ended : ends ≡ ends_of nv vol
-  pub long_nV : length in_nV ≡ notes
+  pub long_nv : length in_nv ≡ notes
   pub long_vol : length in_vol ≡ notes
-  pub noted_nV : Noted true nv in_nV
+  pub noted_nv : Noted true nv in_nv
   pub noted_vol : Noted false vol in_vol

@@ -6,8 +6,8 @@ use native.Mathlib.Omega.{arith}
 use native.Mathlib.Nat.{add-zero}
 use lib.ListN.{length, drop, length-drop}
 use Rattle.slices.specs.Bytes.{Bytes, le16, le32}
-use Rattle.slices.specs.PartLaws.{drop_step}
-use Rattle.slices.specs.NumberLaws.{le16_drop}
+use Rattle.slices.proofs.PartLaws.{drop_step}
+use Rattle.slices.proofs.NumberLaws.{le16_drop}
 use Rattle.slices.specs.Hash.{mixed, hash_from}
 
 pub hash_step : (h : ℕ) (l : Bytes) (i : ℕ) → i + 4 ≤ length l → hash_from h (drop i l) ≡ hash_from (mixed h (le32 l i)) (drop (i + 4) l)

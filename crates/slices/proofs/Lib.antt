@@ -1,2 +1,10 @@
 pub mod Hashed
 pub mod Writes
+pub mod TestLaws
+pub mod BytesLaws
+pub mod PartLaws
+pub mod NumberLaws
+pub mod OverwriteLaws
+pub mod ChunksLaws
+pub mod ItemsLaws
+pub mod FilterLaws

@@ -6,8 +6,8 @@ use native.Mathlib.Omega.{arith}
 use lib.ListN.{length, get_or, set, take, drop}
 use lib.Seq.{length-take-le, take-length, take-add, drop-drop, paste, paste-zero, paste-suc}
 use Rattle.slices.specs.Bytes.{Bytes, part, overwrite}
-use Rattle.slices.specs.PartLaws.{part_of, length_middle}
-use Rattle.slices.specs.OverwriteLaws.{take_front, middle_overwrite, drop_overwrite, overwrite_front, overwrite_next}
+use Rattle.slices.proofs.PartLaws.{part_of, length_middle}
+use Rattle.slices.proofs.OverwriteLaws.{take_front, middle_overwrite, drop_overwrite, overwrite_front, overwrite_next}
 
 -- d with the first i elements of w in place from index at on
 unfoldable pub upto : Bytes → ℕ → Bytes → ℕ → Bytes

@@ -1,13 +1,5 @@
 pub mod Test
-pub mod TestLaws
 pub mod Bytes
-pub mod BytesLaws
-pub mod PartLaws
-pub mod NumberLaws
 pub mod Hash
-pub mod OverwriteLaws
 pub mod Chunks
-pub mod ChunksLaws
-pub mod ItemsLaws
 pub mod Filter
-pub mod FilterLaws

@@ -10,16 +10,16 @@ use lib.Seq.{length-take-le, take-append_seam, take-append-add, drop-append_seam
 use lib.Dec.{leb}
 use borrow.Author.Tests.{le-leb, lt-leb, leb-true, leb-false}
 use Rattle.slices.specs.Bytes.{Bytes, all_are, overwrite, padded}
-use Rattle.slices.specs.PartLaws.{drop_replicate}
-use Rattle.slices.specs.OverwriteLaws.{overwrite_seam}
+use Rattle.slices.proofs.PartLaws.{drop_replicate}
+use Rattle.slices.proofs.OverwriteLaws.{overwrite_seam}
 use Rattle.slices.specs.Chunks.{flat, packed, contains, replace_or_append}
-use Rattle.slices.specs.ChunksLaws.{flat_append, flat_one}
+use Rattle.slices.proofs.ChunksLaws.{flat_append, flat_one}
 use Rattle.names.specs.Name.{Variable}
 use Rattle.store.specs.Record.{is_of, encode_record}
 use Rattle.store.specs.Parts.{resized}
 use Rattle.store.specs.Store.{records_of, end_of, store_ok, place_of, records_with, without_variable, has_room, with_record}
-use Rattle.store.specs.StoreLaws.{store_ok-free, length_records, end_of-within, pack_records, with_fits}
-use Rattle.store.specs.PlaceLaws.{Split, place_absent, split_at, parts_at, end_at}
+use Rattle.store.proofs.StoreLaws.{store_ok-free, length_records, end_of-within, pack_records, with_fits}
+use Rattle.store.proofs.PlaceLaws.{Split, place_absent, split_at, parts_at, end_at}
 use Rattle.store.specs.declared.Found.TheVariants.{At, Absent}
 
 leb_same : (a b c d : ℕ) → (a ≤ b → c ≤ d) → (c ≤ d → a ≤ b) → leb a b ≡ leb c d

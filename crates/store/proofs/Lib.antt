@@ -2,3 +2,10 @@ pub mod Tests
 pub mod Walk
 pub mod Resize
 pub mod Edits
+pub mod RecordLaws
+pub mod EncodeLaws
+pub mod VariableLaws
+pub mod DistinctLaws
+pub mod AttributeLaws
+pub mod StoreLaws
+pub mod PlaceLaws

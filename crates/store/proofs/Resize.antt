@@ -8,9 +8,9 @@ use lib.ListN.{length, take, drop, replicate, length-append, length-drop, length
 use lib.Seq.{length-take-le, drop-drop, take-add}
 use Rattle.limits.specs.Limits.{namespace_bytes}
 use Rattle.slices.specs.Bytes.{Bytes, le32_bytes, all_are, overwrite, padded}
-use Rattle.slices.specs.BytesLaws.{all_are-is}
-use Rattle.slices.specs.PartLaws.{length_middle, drop_replicate}
-use Rattle.slices.specs.OverwriteLaws.{overwrite_seam, overwrite_next}
+use Rattle.slices.proofs.BytesLaws.{all_are-is}
+use Rattle.slices.proofs.PartLaws.{length_middle, drop_replicate}
+use Rattle.slices.proofs.OverwriteLaws.{overwrite_seam, overwrite_next}
 use Rattle.names.specs.Name.{Variable}
 use Rattle.store.specs.Record.{record_size, record_mark, encode_record}
 use Rattle.store.specs.Parts.{resized}

@@ -9,15 +9,15 @@ use lib.Seq.{length-take-le}
 use lib.Dec.{eqb, leb}
 use Rattle.limits.specs.Limits.{max_payload}
 use Rattle.slices.specs.Test.{◌and◌}
-use Rattle.slices.specs.TestLaws.{and_no, and_yes, and_assoc, and_eager}
+use Rattle.slices.proofs.TestLaws.{and_no, and_yes, and_assoc, and_eager}
 use Rattle.slices.specs.Bytes.{Bytes, part, same, all_are}
-use Rattle.slices.specs.PartLaws.{part_rest}
+use Rattle.slices.proofs.PartLaws.{part_rest}
 use Rattle.names.specs.Name.{is_terminated}
-use Rattle.store.specs.Record.{attributes_of, name_size, data_size, namespace_of, name_of, is_of, record_size, has_bS, has_nV, attributes_ok, header_ok, body_ok, record_ok, record_length}
+use Rattle.store.specs.Record.{attributes_of, name_size, data_size, namespace_of, name_of, is_of, record_size, has_bs, has_nv, attributes_ok, header_ok, body_ok, record_ok, record_length}
 use Rattle.store.specs.Parts.{variable, bounds_in}
 use Rattle.store.specs.declared.Found.{Found}
 use Rattle.store.specs.declared.Found.TheVariants.{At}
-use Rattle.store.specs.RecordLaws.{mark_is, length_short, length_header, length_ok, length_not, ok_parts, name_size-take, data_size-take}
+use Rattle.store.proofs.RecordLaws.{mark_is, length_short, length_header, length_ok, length_not, ok_parts, name_size-take, data_size-take}
 
 -- ---- the header
 clear_bit : (n : ℕ) → n < 2 → not (eqb n 1) ≡ eqb n 0
@@ -25,7 +25,7 @@ clear_bit zero h = refl
 clear_bit (suc zero) h = refl
 clear_bit (suc (suc n)) h = absurd (omega arith)
 
-module _ {b x y : Bool} (a : ℕ) (p : x ≡ has_bS a) (q : y ≡ has_nV a) where
+module _ {b x y : Bool} (a : ℕ) (p : x ≡ has_bs a) (q : y ≡ has_nv a) where
   pub attributes_nv : b ≡ true → ((leb a 7 && x) && y) ≡ attributes_ok b a
   unfolding attributes_ok
   attributes_nv e = simp (e, p, q, and_eager, and_assoc)

@@ -8,16 +8,16 @@ use native.Mathlib.Nat.{le_refl}
 use lib.ListN.{length, take, drop, length-take, length-drop}
 use lib.Seq.{length-take-le, take-take, drop-drop}
 use Rattle.limits.specs.Limits.{max_payload}
-use Rattle.slices.specs.TestLaws.{and_left, forced_off}
+use Rattle.slices.proofs.TestLaws.{and_left, forced_off}
 use Rattle.slices.specs.Bytes.{Bytes, le16, le32, part}
-use Rattle.slices.specs.NumberLaws.{le32_take, le32_drop}
-use Rattle.slices.specs.PartLaws.{part_rest, length_part}
-use Rattle.slices.specs.ChunksLaws.{chunks_stop, chunks_step, used_stop, used_step, used_again, at_within}
+use Rattle.slices.proofs.NumberLaws.{le32_take, le32_drop}
+use Rattle.slices.proofs.PartLaws.{part_rest, length_part}
+use Rattle.slices.proofs.ChunksLaws.{chunks_stop, chunks_step, used_stop, used_step, used_again, at_within}
 use Rattle.names.specs.Name.{Variable, is_terminated}
-use Rattle.names.specs.NameLaws.{is_name-length, is_terminated-name, is_terminated-zeros}
+use Rattle.names.proofs.NameLaws.{is_name-length, is_terminated-name, is_terminated-zeros}
 use Rattle.store.specs.Record.{name_size, data_size, record_size, body_ok, record_length, name_of, is_of}
-use Rattle.store.specs.RecordLaws.{record_length-within, begins, begins_fits, header_sizes}
-use Rattle.store.specs.VariableLaws.{is_of-name}
+use Rattle.store.proofs.RecordLaws.{record_length-within, begins, begins_fits, header_sizes}
+use Rattle.store.proofs.VariableLaws.{is_of-name}
 use Rattle.store.specs.Parts.{HeaderFits}
 use Rattle.store.specs.Store.{records_of, end_of, place_from}
 use Rattle.store.specs.declared.Found.{Found}

@@ -7,14 +7,14 @@ use Rattle.slices.specs.Bytes.{Bytes, le32, le32_bytes, part, same, all_are}
 use Rattle.names.specs.Name.{Variable, is_terminated}
 
 -- the bits of an attribute word (RULES.md, 2.3)
-abbrev pub has_nV : ℕ → Bool
-has_nV a = eqb (a % 2) 1
+abbrev pub has_nv : ℕ → Bool
+has_nv a = eqb (a % 2) 1
 
-abbrev pub has_bS : ℕ → Bool
-has_bS a = eqb (a / 2 % 2) 1
+abbrev pub has_bs : ℕ → Bool
+has_bs a = eqb (a / 2 % 2) 1
 
-abbrev pub has_rT : ℕ → Bool
-has_rT a = eqb (a / 4 % 2) 1
+abbrev pub has_rt : ℕ → Bool
+has_rt a = eqb (a / 4 % 2) 1
 
 abbrev pub has_append : ℕ → Bool
 has_append a = eqb (a / 64 % 2) 1
@@ -45,8 +45,8 @@ record_size n d = (record_header + 3 + n + d) / 4 * 4
 
 -- stored attributes (RULES.md, 6.1): NV, BS and RT at most, always BS, and NV exactly in the non-volatile store
 unfoldable pub attributes_ok : Bool → ℕ → Bool
-attributes_ok true a = leb a 7 and has_bS a and has_nV a
-attributes_ok false a = leb a 7 and has_bS a and eqb (a % 2) 0
+attributes_ok true a = leb a 7 and has_bs a and has_nv a
+attributes_ok false a = leb a 7 and has_bs a and eqb (a % 2) 0
 
 -- 0x55AA, the state and a zero byte
 abbrev pub record_mark : Bytes

@@ -5,7 +5,7 @@ ghost use Rattle.std.specs.Prelude.{◌≡◌, true, ◌++◌, ℕ, ◌+◌, ◌
 ghost use Rattle.limits.specs.Limits.{namespace_bytes, max_name_bytes, max_payload, record_header};
 ghost use Rattle.slices.specs.Bytes.{Bytes, le32_bytes, all_are, overwrite};
 ghost use Rattle.slices.specs.Chunks.{find};
-ghost use Rattle.store.specs.Record.{has_nV, has_bS, has_rT, has_append, attributes_of, name_size, data_size, namespace_of, name_of, record_size, attributes_ok, record_mark, header_ok, body_ok, record_length, is_of, encode_record};
+ghost use Rattle.store.specs.Record.{has_nv, has_bs, has_rt, has_append, attributes_of, name_size, data_size, namespace_of, name_of, record_size, attributes_ok, record_mark, header_ok, body_ok, record_length, is_of, encode_record};
 ghost use Rattle.store.specs.Store.{records_of, end_of, store_ok, place_of, without_variable, has_room, with_record};
 ghost use Rattle.store.specs.Parts.{variable, HeaderFits, Storable, is_found, record_in, attributes_in, payload_in, bounds_in, Held, joined, resized};
 
@@ -26,19 +26,19 @@ pub struct Bounds {
 
 // The bits of an attribute word.
 pub fn has_nv(attributes: u32) -> bool
-    ensures { result ≡ has_nV attributes }
+    ensures { result ≡ has_nv attributes }
 {
     attributes % 2 == 1
 }
 
 pub fn has_bs(attributes: u32) -> bool
-    ensures { result ≡ has_bS attributes }
+    ensures { result ≡ has_bs attributes }
 {
     attributes / 2 % 2 == 1
 }
 
 pub fn has_rt(attributes: u32) -> bool
-    ensures { result ≡ has_rT attributes }
+    ensures { result ≡ has_rt attributes }
 {
     attributes / 4 % 2 == 1
 }

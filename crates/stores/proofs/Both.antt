@@ -9,14 +9,14 @@ use lib.ListN.{length, drop}
 use borrow.Author.Tests.{lt-leb, le-leb}
 use Rattle.limits.specs.Limits.{max_store}
 use Rattle.slices.specs.Test.{◌and◌}
-use Rattle.slices.specs.TestLaws.{and_no, and_off, and_yes, and_eager}
+use Rattle.slices.proofs.TestLaws.{and_no, and_off, and_yes, and_eager}
 use Rattle.slices.specs.Bytes.{Bytes, part, all_are}
-use Rattle.slices.specs.PartLaws.{part_rest}
+use Rattle.slices.proofs.PartLaws.{part_rest}
 use Rattle.slices.specs.Chunks.{distinct}
-use Rattle.slices.specs.ItemsLaws.{distinct_left}
+use Rattle.slices.proofs.ItemsLaws.{distinct_left}
 use Rattle.store.specs.Record.{same_variable}
 use Rattle.store.specs.Store.{records_of, end_of, store_ok}
-use Rattle.store.specs.StoreLaws.{end_of-within}
+use Rattle.store.proofs.StoreLaws.{end_of-within}
 use Rattle.stores.specs.Pair.{all_records, sound, sound_alone, pair_check}
 use Rattle.stores.specs.Filter.{scanned}
 use Rattle.stores.specs.declared.Scanned.TheVariants.{End, Repeated}

@@ -9,15 +9,15 @@ use lib.Seq.{length-take-le, take-add, drop-drop}
 use lib.Dec.{eqb}
 use borrow.Author.Tests.{eqb-false}
 use Rattle.slices.specs.Bytes.{Bytes, part}
-use Rattle.slices.specs.PartLaws.{part_of}
+use Rattle.slices.proofs.PartLaws.{part_of}
 use Rattle.slices.specs.Filter.{joined}
-use Rattle.slices.specs.FilterLaws.{filter_met, filter_unmet}
+use Rattle.slices.proofs.FilterLaws.{filter_met, filter_unmet}
 use Rattle.slices.specs.Chunks.{flat, chunks, chunks_from, used, contains, distinct}
-use Rattle.slices.specs.ChunksLaws.{nil, more, flat_append, flat_one, chunks_stop, chunks_step, chunks_flat, chunks_items, item_first, at_within, used_here, used_again}
-use Rattle.slices.specs.ItemsLaws.{contains_append, all_append, or_left_off, or_right_off, distinct_append, distinct_repeated}
+use Rattle.slices.proofs.ChunksLaws.{nil, more, flat_append, flat_one, chunks_stop, chunks_step, chunks_flat, chunks_items, item_first, at_within, used_here, used_again}
+use Rattle.slices.proofs.ItemsLaws.{contains_append, all_append, or_left_off, or_right_off, distinct_append, distinct_repeated}
 use Rattle.store.specs.Record.{namespace_of, name_of, record_length, variable_of, is_of, same_variable}
-use Rattle.store.specs.RecordLaws.{record_length-within, record_length-local, record_length-free}
-use Rattle.store.specs.VariableLaws.{is_of-variable, same_variable-sym, same_variable-like}
+use Rattle.store.proofs.RecordLaws.{record_length-within, record_length-local, record_length-free}
+use Rattle.store.proofs.VariableLaws.{is_of-variable, same_variable-sym, same_variable-like}
 use Rattle.store.specs.Parts.{variable}
 use Rattle.store.specs.Store.{records_of, end_of}
 use Rattle.stores.specs.Filter.{slots, hash_of, slot_of, fingerprint_of, key_of, Filter, scanned}

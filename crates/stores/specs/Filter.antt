@@ -5,7 +5,7 @@ use Rattle.slices.specs.Bytes.{Bytes}
 use Rattle.slices.specs.Hash.{hash_from}
 use Rattle.slices.specs.Filter.{Marked}
 use Rattle.slices.specs.Chunks.{distinct}
-use Rattle.slices.specs.ChunksLaws.{All}
+use Rattle.slices.proofs.ChunksLaws.{All}
 use Rattle.names.specs.Name.{Variable}
 use Rattle.store.specs.Record.{variable_of, same_variable}
 use Rattle.store.specs.Store.{records_of, end_of}

@@ -6,11 +6,11 @@ use Rattle.slices.specs.Bytes.{Bytes}
 use Rattle.status.specs.declared.Status.{Status}
 use Rattle.status.specs.declared.Status.TheVariants.{Success}
 use Rattle.status.specs.Status.{status_number, is_success}
-use Rattle.status.specs.StatusLaws.{zero_success}
+use Rattle.status.proofs.StatusLaws.{zero_success}
 use Rattle.switches.specs.declared.Switches.{Switches}
 use Rattle.switches.specs.declared.SwitchAnswer.{SwitchAnswer}
 use Rattle.switches.specs.SwitchBytes.{bytes_of}
-use Rattle.switches.specs.SwitchBytesLaws.{bytes_read_back}
+use Rattle.switches.proofs.SwitchBytesLaws.{bytes_read_back}
 use Rattle.quarrels.specs.declared.Verdict.{Verdict}
 use Rattle.quarrels.specs.Quarrel.{quarrels_of, buffer_after}
 use Rattle.rules.specs.Engine.{State, Answer, Call, state_of, only_status, hand_back, with_report, step}

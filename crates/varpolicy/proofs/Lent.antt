@@ -14,7 +14,7 @@ use Rattle.switches.specs.declared.SwitchAnswer.{SwitchAnswer}
 use Rattle.switches.specs.declared.SwitchBytes.{SwitchBytes}
 use Rattle.switches.specs.declared.BytesAnswer.{BytesAnswer}
 use Rattle.switches.specs.SwitchBytes.{switches_of, bytes_answer, left_by}
-use Rattle.switches.specs.SwitchBytesLaws.{left_at_zero}
+use Rattle.switches.proofs.SwitchBytesLaws.{left_at_zero}
 use Rattle.rules.specs.Engine.{Call, state_of, only_status, step}
 use Rattle.varpolicy.specs.Exports.{numbered, status_alone}
 

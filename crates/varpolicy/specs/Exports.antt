@@ -7,7 +7,7 @@ use Rattle.names.specs.Name.{Variable}
 use Rattle.quarrels.specs.declared.Verdict.{Verdict}
 use Rattle.quarrels.specs.declared.Verdict.TheVariants.{NoDump, NoQuarrel, Found}
 use Rattle.quarrels.specs.Quarrel.{quarrels_of, buffer_after}
-use Rattle.store.specs.Record.{has_nV}
+use Rattle.store.specs.Record.{has_nv}
 use Rattle.status.specs.declared.Status.{Status}
 use Rattle.status.specs.declared.Status.TheVariants.{Success, InvalidParameter, NotFound}
 use Rattle.status.specs.Status.{status_number}
@@ -128,7 +128,7 @@ pub record NumberedRead (s : State) (v : Variable) (r : Read) : Type 0 where
   -- it is that of the rules, with the payload as the bytes named, and nothing is changed
   pub answers : numbered (step s (read v)) ≡ (read_answer r s, s)
   -- the non-volatile store is named for a variable that has NV, and all of the payload lies within the store named
-  pub store : r.non_volatile ≡ has_nV r.attributes
+  pub store : r.non_volatile ≡ has_nv r.attributes
   pub within : r.offset + r.length ≤ length (store_named r s)
 
 -- the check of a dump: 2 for what is none, and else 0; without a pair every number is 0

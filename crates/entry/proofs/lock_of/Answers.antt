@@ -1,7 +1,7 @@
 use native.Mathlib.Omega.{arith}
 use borrow.Author.Tests.{eq-eqb, ne_eqb}
 use Rattle.entry.specs.Entry.{lock_of}
-use Rattle.entry.specs.EntryLaws.{sized}
+use Rattle.entry.proofs.EntryLaws.{sized}
 use borrow.Author.Rules.{rules}
 use Rattle.entry.proofs.lock_of.Goals as goal
 

@@ -4,9 +4,9 @@ use native.Mathlib.Omega.{arith}
 use lib.ListN.{length}
 use borrow.Author.Tests.{ne_eqb}
 use Rattle.slices.specs.Bytes.{part}
-use Rattle.slices.specs.PartLaws.{part_none}
+use Rattle.slices.proofs.PartLaws.{part_none}
 use Rattle.entry.specs.Entry.{offset_to_name, name_of}
-use Rattle.entry.specs.EntryLaws.{sized, name_least}
+use Rattle.entry.proofs.EntryLaws.{sized, name_least}
 use borrow.Author.Rules.{rules}
 use Rattle.entry.proofs.name_bytes.Goals as goal
 

@@ -9,7 +9,7 @@ use Rattle.limits.specs.Limits.{whole_namespace_rank}
 use Rattle.slices.specs.Bytes.{Bytes}
 use Rattle.names.specs.Name.{units, wildcards}
 use Rattle.entry.specs.Entry.{well_formed, name_is_empty, name_of, rank}
-use Rattle.entry.specs.EntryLaws.{name_of-none}
+use Rattle.entry.proofs.EntryLaws.{name_of-none}
 use Rattle.entry.proofs.rank.Goals as goal
 
 -- m is the entry's name

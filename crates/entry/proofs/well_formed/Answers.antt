@@ -2,9 +2,9 @@ use mathlib.Core.Path.{refl, sym, ◌∙◌}
 use native.Mathlib.Omega.{arith}
 use borrow.Author.Tests.{not-false}
 use borrow.Author.Rules.{rules}
-use Rattle.slices.specs.TestLaws.{first_fails, first_holds}
+use Rattle.slices.proofs.TestLaws.{first_fails, first_holds}
 use Rattle.entry.specs.Entry.{well_formed}
-use Rattle.entry.specs.EntryLaws.{header_least}
+use Rattle.entry.proofs.EntryLaws.{header_least}
 use mathlib.Core.Bool.{not}
 use mathlib.Core.Path.{ap}
 use Rattle.entry.proofs.well_formed.Goals as goal

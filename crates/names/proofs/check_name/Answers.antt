@@ -1,9 +1,9 @@
 use mathlib.Core.Path.{sym, ap, ◌∙◌}
 use mathlib.Core.Bool.{Bool, cond}
 use borrow.Author.Rules.{rules}
-use Rattle.slices.specs.TestLaws.{first_fails, first_holds}
+use Rattle.slices.proofs.TestLaws.{first_fails, first_holds}
 use Rattle.names.specs.Name.{units, each, no_zero, plain_unit}
-use Rattle.names.specs.NameLaws.{name_tests}
+use Rattle.names.proofs.NameLaws.{name_tests}
 use mathlib.Core.Bool.{not}
 use Rattle.names.proofs.check_name.Goals as goal
 

@@ -3,8 +3,8 @@ use lib.ListN.{length-take}
 use native.Mathlib.Omega.{arith}
 use borrow.Author.Tests.{not-false}
 use borrow.Author.Rules.{rules}
-use Rattle.slices.specs.TestLaws.{first_fails, first_holds}
-use Rattle.names.specs.NameLaws.{terminated_tests, closed_least}
+use Rattle.slices.proofs.TestLaws.{first_fails, first_holds}
+use Rattle.names.proofs.NameLaws.{terminated_tests, closed_least}
 use mathlib.Core.Bool.{not}
 use mathlib.Core.Path.{ap}
 use Rattle.names.proofs.check_terminated.Goals as goal

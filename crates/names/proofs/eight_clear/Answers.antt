@@ -5,7 +5,7 @@ use native.Mathlib.Nat.{add-zero}
 use mathlib.Core.Bool.{true}
 use lib.ListN.{drop}
 use Rattle.names.specs.Name.{units, each, plain_unit}
-use Rattle.names.specs.NameLaws.{plain_clear}
+use Rattle.names.proofs.NameLaws.{plain_clear}
 use Rattle.names.proofs.eight_clear.Goals as goal
 
 pub loop-j-preserved : goal.loop-j-preserved

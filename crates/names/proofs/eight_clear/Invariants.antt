@@ -5,7 +5,7 @@ use native.Mathlib.Nat.{add-zero}
 use mathlib.Core.Bool.{true}
 use lib.ListN.{drop}
 use Rattle.names.specs.Name.{units, each, plain_unit}
-use Rattle.names.specs.NameLaws.{plain_clear}
+use Rattle.names.proofs.NameLaws.{plain_clear}
 use Rattle.names.proofs.eight_clear.Given as goal
 
 abbrev pub invariant-loop-j : goal.invariant-loop-j

@@ -5,7 +5,7 @@ use native.Mathlib.Nat.{add-zero}
 use mathlib.Core.Bool.{true}
 use lib.ListN.{drop}
 use Rattle.names.specs.Name.{units, wildcards}
-use Rattle.names.specs.NameLaws.{wildcards_clear}
+use Rattle.names.proofs.NameLaws.{wildcards_clear}
 use Rattle.names.proofs.eight_literal.Goals as goal
 
 pub loop-j-preserved : goal.loop-j-preserved

@@ -5,7 +5,7 @@ use native.Mathlib.Nat.{add-zero}
 use mathlib.Core.Bool.{true}
 use lib.ListN.{drop}
 use Rattle.names.specs.Name.{units, wildcards}
-use Rattle.names.specs.NameLaws.{wildcards_clear}
+use Rattle.names.proofs.NameLaws.{wildcards_clear}
 use Rattle.names.proofs.eight_literal.Given as goal
 
 abbrev pub invariant-loop-j : goal.invariant-loop-j

@@ -7,7 +7,7 @@ use lib.ListN.{drop}
 use lib.Dec.{eqb}
 use Rattle.slices.specs.Test.{◌and◌}
 use Rattle.names.specs.Name.{units, no_zero}
-use Rattle.names.specs.NameLaws.{each_more}
+use Rattle.names.proofs.NameLaws.{each_more}
 use Rattle.names.proofs.eight_not_zero.Goals as goal
 
 pub loop-j-init : goal.loop-j-init

@@ -3,7 +3,7 @@ use Prim.Native.Nat.{ℕ, ◌≤◌, ◌-◌, ◌+◌, ◌*◌, ◌/◌}
 use native.Mathlib.Omega.{arith}
 use native.Mathlib.Nat.{add-zero}
 use mathlib.Core.Bool.{true}
-use Rattle.names.specs.NameLaws.{matches_from, matches_plain}
+use Rattle.names.proofs.NameLaws.{matches_from, matches_plain}
 use Rattle.names.proofs.eight_plain.Goals as goal
 
 pub loop-j-preserved : goal.loop-j-preserved

@@ -3,7 +3,7 @@ use Prim.Native.Nat.{ℕ, ◌≤◌, ◌-◌, ◌+◌, ◌*◌, ◌/◌}
 use native.Mathlib.Omega.{arith}
 use native.Mathlib.Nat.{add-zero}
 use mathlib.Core.Bool.{true}
-use Rattle.names.specs.NameLaws.{matches_from, matches_plain}
+use Rattle.names.proofs.NameLaws.{matches_from, matches_plain}
 use Rattle.names.proofs.eight_plain.Given as goal
 
 abbrev pub invariant-loop-j : goal.invariant-loop-j

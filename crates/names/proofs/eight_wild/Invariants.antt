@@ -5,7 +5,7 @@ use native.Mathlib.Nat.{add-zero}
 use borrow.Author.Rules.{rules}
 use Rattle.slices.specs.Test.{◌and◌}
 use Rattle.names.specs.Name.{unit_matches}
-use Rattle.names.specs.NameLaws.{matches_from, pairs_more}
+use Rattle.names.proofs.NameLaws.{matches_from, pairs_more}
 use Rattle.names.proofs.eight_wild.Given as goal
 
 abbrev pub invariant-loop-j : goal.invariant-loop-j

@@ -5,7 +5,7 @@ use lib.ListN.{length}
 use borrow.Author.Tests.{not-true}
 use borrow.Author.Rules.{rules}
 use Rattle.names.specs.Name.{unit_matches}
-use Rattle.names.specs.NameLaws.{pairs_first, pairs_last}
+use Rattle.names.proofs.NameLaws.{pairs_first, pairs_last}
 use Rattle.names.proofs.ends_near.Goals as goal
 
 pub returns : goal.returns

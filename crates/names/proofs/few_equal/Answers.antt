@@ -6,7 +6,7 @@ use lib.ListN.{length, drop}
 use borrow.Author.Tests.{eq-eqb, ne_eqb}
 use Rattle.slices.specs.Test.{◌and◌}
 use Rattle.slices.specs.Bytes.{same}
-use Rattle.slices.specs.BytesLaws.{pairwise_step, pairwise_end}
+use Rattle.slices.proofs.BytesLaws.{pairwise_step, pairwise_end}
 use Rattle.names.proofs.few_equal.Goals as goal
 
 pub returns-then-a-i : goal.returns-then-a-i

@@ -6,7 +6,7 @@ use borrow.Author.Tests.{not-true, not-false}
 use borrow.Author.Rules.{rules}
 use Rattle.slices.specs.Bytes.{pairwise}
 use Rattle.names.specs.Name.{units, unit_matches}
-use Rattle.names.specs.NameLaws.{matches_from, pairs_hit, pairs_miss, pairs_end}
+use Rattle.names.proofs.NameLaws.{matches_from, pairs_hit, pairs_miss, pairs_end}
 use Rattle.names.proofs.few_match.Goals as goal
 
 pub returns-then-not-unit_matches : goal.returns-then-not-unit_matches

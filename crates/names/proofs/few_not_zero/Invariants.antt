@@ -5,7 +5,7 @@ use Prim.Native.Nat.{◌≤◌, ◌-◌}
 use native.Mathlib.Omega.{arith}
 use lib.ListN.{length, drop}
 use Rattle.names.specs.Name.{units, no_zero}
-use Rattle.names.specs.NameLaws.{each_hit, each_miss, each_end}
+use Rattle.names.proofs.NameLaws.{each_hit, each_miss, each_end}
 use Rattle.names.proofs.few_not_zero.Given as goal
 
 abbrev pub invariant-loop-i : goal.invariant-loop-i

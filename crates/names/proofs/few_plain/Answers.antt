@@ -3,7 +3,7 @@ use Prim.Native.Nat.{◌≤◌, ◌-◌}
 use native.Mathlib.Omega.{arith}
 use lib.ListN.{length, drop}
 use Rattle.names.specs.Name.{units, each, plain_unit}
-use Rattle.names.specs.NameLaws.{each_hit, each_miss, each_end, plain_unless}
+use Rattle.names.proofs.NameLaws.{each_hit, each_miss, each_end, plain_unless}
 use Rattle.names.proofs.few_plain.Goals as goal
 
 pub returns-then-own : goal.returns-then-own

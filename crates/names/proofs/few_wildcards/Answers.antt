@@ -4,7 +4,7 @@ use Prim.Native.Nat.{◌≤◌, ◌-◌, ◌+◌}
 use native.Mathlib.Omega.{arith}
 use lib.ListN.{length, drop}
 use Rattle.names.specs.Name.{units, wildcards}
-use Rattle.names.specs.NameLaws.{wildcards_hit, wildcards_miss, wildcards_end}
+use Rattle.names.proofs.NameLaws.{wildcards_hit, wildcards_miss, wildcards_end}
 use Rattle.names.proofs.few_wildcards.Goals as goal
 use Rattle.names.proofs.few_wildcards.Goals.{else-unit-eq35, then-unit-eq35}
 

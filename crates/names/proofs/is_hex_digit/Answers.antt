@@ -1,4 +1,4 @@
-use Rattle.slices.specs.TestLaws.{and_eager}
+use Rattle.slices.proofs.TestLaws.{and_eager}
 use Rattle.names.specs.Name.{is_hex_digit}
 use Rattle.names.proofs.is_hex_digit.Goals as goal
 

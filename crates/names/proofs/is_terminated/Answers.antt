@@ -1,5 +1,5 @@
 use mathlib.Core.Path.{◌∙◌}
-use Rattle.slices.specs.TestLaws.{and_yes}
+use Rattle.slices.proofs.TestLaws.{and_yes}
 use borrow.Author.Rules.{rules}
 use Rattle.names.proofs.is_terminated.Goals as goal
 

@@ -6,10 +6,10 @@ use lib.ListN.{length, take, length-take}
 use borrow.Author.Tests.{not-true}
 use borrow.Author.Rules.{rules}
 use Rattle.slices.specs.Bytes.{Bytes, pairwise}
-use Rattle.slices.specs.BytesLaws.{pairwise_lengths}
-use Rattle.slices.specs.TestLaws.{forced_off}
+use Rattle.slices.proofs.BytesLaws.{pairwise_lengths}
+use Rattle.slices.proofs.TestLaws.{forced_off}
 use Rattle.names.specs.Name.{units, unit_matches}
-use Rattle.names.specs.NameLaws.{units_length, units_whole, pairs_end}
+use Rattle.names.proofs.NameLaws.{units_length, units_whole, pairs_end}
 use Rattle.names.proofs.matches.Goals as goal
 
 -- k is the number of units of both

@@ -7,7 +7,7 @@ use borrow.Author.Tests.{not-true, not-false}
 use borrow.Author.Rules.{rules}
 use Rattle.slices.specs.Test.{◌and◌}
 use Rattle.slices.specs.Bytes.{Bytes}
-use Rattle.slices.specs.PartLaws.{part_rest}
+use Rattle.slices.proofs.PartLaws.{part_rest}
 use Rattle.names.specs.Name.{units, no_zero}
 use Rattle.names.proofs.no_zero.Given as goal
 

@@ -5,7 +5,7 @@ use lib.ListN.{length}
 use borrow.Author.Tests.{not-false}
 use Rattle.slices.specs.Bytes.{pairwise}
 use Rattle.names.specs.Name.{units, unit_matches}
-use Rattle.names.specs.NameLaws.{matches_from}
+use Rattle.names.proofs.NameLaws.{matches_from}
 use Rattle.names.proofs.plain_length.Given as goal
 
 abbrev pub invariant-loop-i : goal.invariant-loop-i

@@ -6,7 +6,7 @@ use borrow.Author.Tests.{not-true, not-false}
 use borrow.Author.Rules.{rules}
 use Rattle.slices.specs.Test.{◌and◌}
 use Rattle.slices.specs.Bytes.{same}
-use Rattle.slices.specs.BytesLaws.{pairwise_lengths, same_eight, same_not, same_last}
+use Rattle.slices.proofs.BytesLaws.{pairwise_lengths, same_eight, same_not, same_last}
 use Rattle.names.proofs.same_name.Goals as goal
 
 pub returns-then-a-b : goal.returns-then-a-b

@@ -5,9 +5,9 @@ use native.Mathlib.Omega.{arith}
 use lib.ListN.{length, get_or, drop}
 use lib.Dec.{eqb}
 use Rattle.slices.specs.Test.{◌and◌}
-use Rattle.slices.specs.TestLaws.{and_assoc, and_eager, and_yes}
+use Rattle.slices.proofs.TestLaws.{and_assoc, and_eager, and_yes}
 use Rattle.slices.specs.Bytes.{Bytes, same}
-use Rattle.slices.specs.BytesLaws.{pairwise_step, pairwise_end}
+use Rattle.slices.proofs.BytesLaws.{pairwise_step, pairwise_end}
 use Rattle.names.proofs.same_namespace.Goals as goal
 
 -- one turn

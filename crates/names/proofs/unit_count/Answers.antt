@@ -1,4 +1,4 @@
-use Rattle.names.specs.NameLaws.{units_length}
+use Rattle.names.proofs.NameLaws.{units_length}
 use native.Mathlib.Omega.{arith}
 use Rattle.names.proofs.unit_count.Goals as goal
 

@@ -1,5 +1,5 @@
 use borrow.Author.Rules.{rules}
-use Rattle.names.specs.NameLaws.{unit_tests}
+use Rattle.names.proofs.NameLaws.{unit_tests}
 use Rattle.names.proofs.unit_matches.Goals as goal
 
 pub returns : goal.returns

@@ -1,4 +1,4 @@
-use Rattle.names.specs.NameLaws.{unit_nears}
+use Rattle.names.proofs.NameLaws.{unit_nears}
 use Rattle.names.proofs.unit_near.Goals as goal
 
 pub returns : goal.returns

@@ -6,9 +6,9 @@ use lib.ListN.{length, length-take, length-drop}
 use borrow.Author.Tests.{not-true, not-false}
 use Rattle.slices.specs.Test.{◌and◌}
 use Rattle.slices.specs.Bytes.{Bytes, pairwise}
-use Rattle.slices.specs.PartLaws.{part_rest}
+use Rattle.slices.proofs.PartLaws.{part_rest}
 use Rattle.names.specs.Name.{units, unit_matches}
-use Rattle.names.specs.NameLaws.{matches_from}
+use Rattle.names.proofs.NameLaws.{matches_from}
 use Rattle.names.proofs.wild_match.Given as goal
 
 abbrev pub invariant-loop-i : goal.invariant-loop-i

@@ -7,9 +7,9 @@ use lib.ListN.{length, take, drop}
 use borrow.Author.Tests.{not-false}
 use borrow.Author.Rules.{rules}
 use Rattle.slices.specs.Bytes.{Bytes}
-use Rattle.slices.specs.PartLaws.{part_rest}
+use Rattle.slices.proofs.PartLaws.{part_rest}
 use Rattle.names.specs.Name.{units, wildcards}
-use Rattle.names.specs.NameLaws.{wildcards_within}
+use Rattle.names.proofs.NameLaws.{wildcards_within}
 use Rattle.names.proofs.wildcards.Given as goal
 
 abbrev pub invariant-loop-i : goal.invariant-loop-i

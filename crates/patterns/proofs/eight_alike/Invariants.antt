@@ -5,7 +5,7 @@ use native.Mathlib.Nat.{add-zero}
 use borrow.Author.Rules.{rules}
 use Rattle.slices.specs.Test.{◌and◌}
 use Rattle.patterns.specs.Common.{sign_alike}
-use Rattle.names.specs.NameLaws.{pairs_from, pairs_more}
+use Rattle.names.proofs.NameLaws.{pairs_from, pairs_more}
 use Rattle.patterns.proofs.eight_alike.Given as goal
 
 abbrev pub invariant-loop-j : goal.invariant-loop-j

@@ -4,7 +4,7 @@ use Prim.Native.Nat.{ℕ, ◌≤◌, ◌-◌, ◌*◌, ◌/◌}
 use native.Mathlib.Omega.{arith}
 use native.Mathlib.Nat.{add-zero}
 use Rattle.patterns.specs.Signs.{EitherSign}
-use Rattle.patterns.specs.SignLaws.{either_more}
+use Rattle.patterns.proofs.SignLaws.{either_more}
 use Rattle.patterns.proofs.eight_signs.Goals as goal
 
 pub loop-j-preserved : goal.loop-j-preserved

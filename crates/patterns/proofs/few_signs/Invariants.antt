@@ -3,7 +3,7 @@ use Prim.Native.Nat.{◌≤◌, ◌-◌}
 use native.Mathlib.Omega.{arith}
 use lib.ListN.{length, drop}
 use Rattle.patterns.specs.Signs.{has_sign}
-use Rattle.patterns.specs.SignLaws.{sign_hit, sign_miss, sign_end}
+use Rattle.patterns.proofs.SignLaws.{sign_hit, sign_miss, sign_end}
 use Rattle.patterns.proofs.few_signs.Given as goal
 
 abbrev pub invariant-loop-i : goal.invariant-loop-i

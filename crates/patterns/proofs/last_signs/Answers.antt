@@ -2,8 +2,8 @@ use mathlib.Core.Logic.{⊎_elim, inl, inr}
 use Prim.Native.Nat.{◌-◌, ◌*◌}
 use native.Mathlib.Omega.{arith}
 use borrow.Author.Rules.{rules}
-use Rattle.names.specs.NameLaws.{units_length}
-use Rattle.patterns.specs.SignLaws.{either_last}
+use Rattle.names.proofs.NameLaws.{units_length}
+use Rattle.patterns.proofs.SignLaws.{either_last}
 use Rattle.patterns.proofs.last_signs.Goals as goal
 use Rattle.patterns.proofs.last_signs.Goals.{else-i-last, then-i-last}
 

@@ -4,9 +4,9 @@ use native.Mathlib.Omega.{arith}
 use lib.ListN.{length}
 use borrow.Author.Tests.{not-true, not-false}
 use borrow.Author.Rules.{rules}
-use Rattle.names.specs.NameLaws.{pairs_from, pairs_hit, pairs_miss, pairs_end}
+use Rattle.names.proofs.NameLaws.{pairs_from, pairs_hit, pairs_miss, pairs_end}
 use Rattle.patterns.specs.Common.{overlap, units_overlap}
-use Rattle.patterns.specs.CommonLaws.{overlap_pairs}
+use Rattle.patterns.proofs.CommonLaws.{overlap_pairs}
 use Rattle.patterns.proofs.overlap.Goals as goal
 
 pub loop-i-init : goal.loop-i-init

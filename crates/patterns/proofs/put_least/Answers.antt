@@ -5,7 +5,7 @@ use lib.ListN.{length, drop, length-set}
 use borrow.Author.Rules.{rules}
 use Rattle.slices.specs.Bytes.{overwrite}
 use Rattle.patterns.specs.Common.{least_name, least_of}
-use Rattle.patterns.specs.CommonLaws.{put_step, put_end}
+use Rattle.patterns.proofs.CommonLaws.{put_step, put_end}
 use Rattle.patterns.proofs.put_least.Goals as goal
 
 pub loop-i-preserved : goal.loop-i-preserved

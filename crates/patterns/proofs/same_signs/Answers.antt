@@ -6,10 +6,10 @@ use lib.ListN.{length, length-take, length-drop}
 use borrow.Author.Tests.{not-true, not-false}
 use borrow.Author.Rules.{rules}
 use Rattle.slices.specs.Test.{◌and◌}
-use Rattle.slices.specs.BytesLaws.{pairwise_lengths}
-use Rattle.slices.specs.PartLaws.{part_rest}
+use Rattle.slices.proofs.BytesLaws.{pairwise_lengths}
+use Rattle.slices.proofs.PartLaws.{part_rest}
 use Rattle.names.specs.Name.{units}
-use Rattle.names.specs.NameLaws.{units_length, pairs_from}
+use Rattle.names.proofs.NameLaws.{units_length, pairs_from}
 use Rattle.patterns.specs.Common.{sign_alike, same_signs}
 use Rattle.patterns.proofs.same_signs.Goals as goal
 

@@ -1,4 +1,4 @@
-use Rattle.patterns.specs.CommonLaws.{alike_tests}
+use Rattle.patterns.proofs.CommonLaws.{alike_tests}
 use Rattle.patterns.proofs.sign_alike.Goals as goal
 
 pub returns : goal.returns

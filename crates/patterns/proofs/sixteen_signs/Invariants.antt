@@ -5,7 +5,7 @@ use native.Mathlib.Omega.{arith}
 use native.Mathlib.Nat.{add-zero}
 use lib.ListN.{drop}
 use Rattle.patterns.specs.Signs.{has_sign}
-use Rattle.patterns.specs.SignLaws.{sign_more}
+use Rattle.patterns.proofs.SignLaws.{sign_more}
 use Rattle.patterns.proofs.sixteen_signs.Given as goal
 
 abbrev pub invariant-loop-j : goal.invariant-loop-j

@@ -1,5 +1,5 @@
 use borrow.Author.Rules.{rules}
-use Rattle.patterns.specs.CommonLaws.{overlap_tests}
+use Rattle.patterns.proofs.CommonLaws.{overlap_tests}
 use Rattle.patterns.proofs.units_overlap.Goals as goal
 
 pub returns : goal.returns

@@ -2,7 +2,7 @@ use mathlib.Core.Path.{ap, ◌∙◌}
 use Prim.Native.Nat.{ℕ}
 use native.Mathlib.Omega.{arith}
 use Rattle.slices.specs.Bytes.{overwrite}
-use Rattle.policy.specs.PolicyLaws.{policy_valid-length}
+use Rattle.policy.proofs.PolicyLaws.{policy_valid-length}
 use Rattle.policy.proofs.Writes.{appended}
 use borrow.Author.Rules.{rules}
 use Rattle.policy.proofs.append.Goals as goal

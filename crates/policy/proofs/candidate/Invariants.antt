@@ -3,7 +3,7 @@ use mathlib.Core.Path.{refl, sym, ◌∙◌}
 use native.Mathlib.Omega.{arith}
 use lib.ListN.{get_or}
 use Rattle.slices.specs.Bytes.{Bytes}
-use Rattle.slices.specs.TestLaws.{forced_off}
+use Rattle.slices.proofs.TestLaws.{forced_off}
 use Rattle.names.specs.Name.{variable}
 use Rattle.policy.specs.Walk.{At, Passed}
 use Rattle.policy.proofs.Walk.{Hand, hand}

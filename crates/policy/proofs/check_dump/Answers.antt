@@ -5,8 +5,8 @@ use borrow.Author.Rules.{rules}
 use lib.ListN.{length}
 use Rattle.limits.specs.Limits.{policy_bytes}
 use Rattle.slices.specs.Bytes.{Bytes}
-use Rattle.policy.specs.PolicyLaws.{CheckedWithin, within_valid, within_invalid}
-use Rattle.policy.specs.DumpLaws.{dump_long, dump_behind, dump_invalid, dump_good, dump_refused_lem, dump_granted_lem}
+use Rattle.policy.proofs.PolicyLaws.{CheckedWithin, within_valid, within_invalid}
+use Rattle.policy.proofs.DumpLaws.{dump_long, dump_behind, dump_invalid, dump_good, dump_refused_lem, dump_granted_lem}
 use Rattle.policy.proofs.check_dump.Goals as goal
 
 pub returns-then-dump-gt-POLICY_BYTES : goal.returns-then-dump-gt-POLICY_BYTES

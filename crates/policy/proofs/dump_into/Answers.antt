@@ -3,7 +3,7 @@ use Prim.Native.Nat.{ℕ}
 use native.Mathlib.Omega.{arith}
 use lib.ListN.{length-take, take}
 use Rattle.slices.specs.Bytes.{Bytes, overwrite}
-use Rattle.policy.specs.PolicyLaws.{sizes_sum-within}
+use Rattle.policy.proofs.PolicyLaws.{sizes_sum-within}
 use Rattle.policy.proofs.Writes.{dumped}
 use borrow.Author.Rules.{rules}
 use Rattle.policy.proofs.dump_into.Goals as goal

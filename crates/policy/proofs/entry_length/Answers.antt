@@ -4,7 +4,7 @@ use lib.ListN.{length-take}
 use borrow.Author.Tests.{le-leb, lt-leb}
 use Rattle.slices.specs.Test.{◌and◌}
 use Rattle.policy.specs.Policy.{length_by}
-use Rattle.policy.specs.PolicyLaws.{entry_length-short}
+use Rattle.policy.proofs.PolicyLaws.{entry_length-short}
 use borrow.Author.Rules.{rules}
 use Rattle.policy.proofs.entry_length.Goals as goal
 

@@ -5,11 +5,11 @@ use native.Mathlib.Omega.{arith}
 use lib.ListN.{length, take, drop, length-drop}
 use lib.Seq.{length-take-le, drop-drop}
 use Rattle.slices.specs.Bytes.{Bytes}
-use Rattle.slices.specs.PartLaws.{part_of, part_rest}
+use Rattle.slices.proofs.PartLaws.{part_of, part_rest}
 use Rattle.slices.specs.Chunks.{contains}
 use Rattle.policy.specs.Stated.{stated_length, stated_of, repeats}
-use Rattle.slices.specs.ChunksLaws.{chunks_stop, chunks_step}
-use Rattle.policy.specs.StatedLaws.{States, stated_states, stated_within}
+use Rattle.slices.proofs.ChunksLaws.{chunks_stop, chunks_step}
+use Rattle.policy.proofs.StatedLaws.{States, stated_states, stated_within}
 use borrow.Author.Rules.{rules}
 use Rattle.policy.proofs.has_target.Goals as goal
 

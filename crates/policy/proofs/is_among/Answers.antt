@@ -5,7 +5,7 @@ use native.Mathlib.Nat.{sub-zero}
 use lib.ListN.{length, take, drop}
 use Rattle.limits.specs.Limits.{size_at, entry_header}
 use Rattle.slices.specs.Bytes.{Bytes, le16}
-use Rattle.slices.specs.PartLaws.{part_of}
+use Rattle.slices.proofs.PartLaws.{part_of}
 use Rattle.slices.specs.Chunks.{contains}
 use Rattle.entry.specs.Entry.{same_target}
 use Rattle.policy.specs.Policy.{entry_length, entries_of}

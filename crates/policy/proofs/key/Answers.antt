@@ -1,5 +1,5 @@
 use native.Mathlib.Omega.{arith}
-use Rattle.entry.specs.EntryLaws.{sized}
+use Rattle.entry.proofs.EntryLaws.{sized}
 use Rattle.policy.proofs.Marked.{key_is}
 use borrow.Author.Rules.{rules}
 use Rattle.policy.proofs.key.Goals as goal

@@ -11,7 +11,7 @@ use Rattle.slices.specs.Test.{◌and◌}
 use Rattle.slices.specs.Bytes.{Bytes, same}
 use Rattle.names.specs.Name.{Variable, units, matches, wildcards}
 use Rattle.entry.specs.Entry.{well_formed, namespace_of, name_is_empty, name_of, targets, rank}
-use Rattle.entry.specs.EntryLaws.{sized, name_of-none}
+use Rattle.entry.proofs.EntryLaws.{sized, name_of-none}
 use Rattle.policy.proofs.rank_for.Goals as goal
 
 -- s says whether the entry's namespace is the variable's

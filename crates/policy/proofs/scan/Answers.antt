@@ -7,7 +7,7 @@ use borrow.Author.Rules.{rules}
 use lib.ListN.{length, drop}
 use Rattle.limits.specs.Limits.{max_entries}
 use Rattle.slices.specs.Bytes.{Bytes, all_are}
-use Rattle.slices.specs.PartLaws.{part_of, part_rest}
+use Rattle.slices.proofs.PartLaws.{part_of, part_rest}
 use Rattle.policy.specs.declared.PolicyCheck.TheVariants.{Valid, Invalid}
 use Rattle.policy.specs.Policy.{entry_length, check_within}
 use Rattle.policy.proofs.Walk.{fits, formed, at_next}

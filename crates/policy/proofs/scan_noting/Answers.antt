@@ -1,5 +1,5 @@
 use borrow.Author.Rules.{rules}
-use Rattle.policy.specs.FilterLaws.{marks_none}
+use Rattle.policy.proofs.FilterLaws.{marks_none}
 use Rattle.policy.proofs.scan_noting.Goals as goal
 
 pub scan-requires : goal.scan-requires

@@ -4,8 +4,8 @@ use native.Mathlib.Omega.{arith}
 use lib.ListN.{length, take}
 use lib.Seq.{take-length}
 use Rattle.slices.specs.Bytes.{overwrite}
-use Rattle.slices.specs.PartLaws.{length_part}
-use Rattle.slices.specs.OverwriteLaws.{overwrite_none}
+use Rattle.slices.proofs.PartLaws.{length_part}
+use Rattle.slices.proofs.OverwriteLaws.{overwrite_none}
 use Rattle.slices.proofs.Writes.{copy_next}
 use Rattle.slices.proofs.copy_in.Given as goal
 

@@ -4,7 +4,7 @@ use native.Mathlib.Omega.{arith}
 use lib.ListN.{take, drop}
 use Rattle.slices.specs.Test.{◌and◌}
 use Rattle.slices.specs.Bytes.{same}
-use Rattle.slices.specs.BytesLaws.{same_more, same_done}
+use Rattle.slices.proofs.BytesLaws.{same_more, same_done}
 use Rattle.slices.proofs.eight.Given as goal
 
 abbrev pub invariant-loop-j : goal.invariant-loop-j

@@ -5,7 +5,7 @@ use lib.ListN.{length, drop}
 use borrow.Author.Tests.{eq-eqb, ne_eqb}
 use Rattle.slices.specs.Test.{◌and◌}
 use Rattle.slices.specs.Bytes.{all_are}
-use Rattle.slices.specs.BytesLaws.{all_are-step, all_are-end}
+use Rattle.slices.proofs.BytesLaws.{all_are-step, all_are-end}
 use Rattle.slices.proofs.few_are.Goals as goal
 
 pub returns-then-s-i : goal.returns-then-s-i

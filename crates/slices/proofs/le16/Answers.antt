@@ -1,5 +1,5 @@
 use Rattle.slices.specs.Bytes.{le16}
-use Rattle.slices.specs.NumberLaws.{le16_past}
+use Rattle.slices.proofs.NumberLaws.{le16_past}
 use native.Mathlib.Omega.{arith}
 use mathlib.Core.Path.{sym}
 use borrow.Author.Rules.{rules}

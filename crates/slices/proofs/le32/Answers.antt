@@ -1,5 +1,5 @@
 use Rattle.slices.specs.Bytes.{le32}
-use Rattle.slices.specs.NumberLaws.{le32_past}
+use Rattle.slices.proofs.NumberLaws.{le32_past}
 use native.Mathlib.Omega.{arith}
 use mathlib.Core.Path.{sym}
 use borrow.Author.Rules.{rules}

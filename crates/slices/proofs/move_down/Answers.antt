@@ -3,7 +3,7 @@ use Prim.Native.Nat.{◌≤◌, ◌-◌}
 use native.Mathlib.Omega.{arith}
 use lib.ListN.{length, take, drop}
 use Rattle.slices.specs.Bytes.{overwrite}
-use Rattle.slices.specs.OverwriteLaws.{overwrite_none}
+use Rattle.slices.proofs.OverwriteLaws.{overwrite_none}
 use Rattle.slices.proofs.Writes.{move_down_next}
 use Rattle.slices.proofs.move_down.Goals as goal
 

@@ -4,7 +4,7 @@ use mathlib.Core.List.{[], ◌∷◌}
 use native.Mathlib.Omega.{arith}
 use lib.ListN.{set, length-set}
 use Rattle.slices.specs.Bytes.{le16_bytes}
-use Rattle.slices.specs.OverwriteLaws.{set_overwrites, overwrite_set}
+use Rattle.slices.proofs.OverwriteLaws.{set_overwrites, overwrite_set}
 use borrow.Author.Rules.{rules}
 use Rattle.slices.proofs.put16.Goals as goal
 

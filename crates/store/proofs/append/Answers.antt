@@ -3,7 +3,7 @@ use Rattle.store.specs.Store.{records_of, has_room}
 use Rattle.store.specs.Parts.{variable, payload_in, Storable}
 use Rattle.store.specs.Record.{is_of, encode_record}
 use Rattle.names.specs.Name.{Variable}
-use Rattle.slices.specs.OverwriteLaws.{joined}
+use Rattle.slices.proofs.OverwriteLaws.{joined}
 use Rattle.slices.specs.Chunks.{find}
 use Rattle.slices.specs.Bytes.{Bytes}
 use Rattle.limits.specs.Limits.{max_payload}

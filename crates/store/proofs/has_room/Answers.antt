@@ -1,9 +1,9 @@
 use Rattle.store.proofs.Edits.{end_within, room_at, room_none}
 use Rattle.store.specs.declared.Found.TheVariants.{At}
-use Rattle.store.specs.PlaceLaws.{place_within}
+use Rattle.store.proofs.PlaceLaws.{place_within}
 use Rattle.store.specs.Store.{place_of}
 use Rattle.store.specs.Parts.{variable}
-use Rattle.store.specs.EncodeLaws.{length_encode}
+use Rattle.store.proofs.EncodeLaws.{length_encode}
 use Rattle.store.specs.Record.{record_size, encode_record}
 use native.Mathlib.Omega.{arith}
 use mathlib.Core.Path.{◌≡◌, sym, ap, ◌∙◌}

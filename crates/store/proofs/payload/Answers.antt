@@ -1,4 +1,4 @@
-use Rattle.store.specs.PlaceLaws.{bounds_payload}
+use Rattle.store.proofs.PlaceLaws.{bounds_payload}
 use Rattle.store.specs.Parts.{record_in, payload_in}
 use Rattle.slices.specs.Bytes.{part}
 use lib.ListN.{length}

@@ -1,4 +1,4 @@
-use Rattle.store.specs.PlaceLaws.{find_place, place_held}
+use Rattle.store.proofs.PlaceLaws.{find_place, place_held}
 use Rattle.store.specs.Parts.{Held, record_in, payload_in}
 use mathlib.Core.Path.{sym, ap, ◌∙◌, subst}
 use Rattle.store.proofs.payload_found.Goals as goal

@@ -1,7 +1,7 @@
 use Rattle.store.proofs.Edits.{end_within, end_free, removed}
 use Rattle.store.specs.declared.Found.TheVariants.{At}
-use Rattle.store.specs.PlaceLaws.{place_within, place_absent}
-use Rattle.store.specs.StoreLaws.{without_absent}
+use Rattle.store.proofs.PlaceLaws.{place_within, place_absent}
+use Rattle.store.proofs.StoreLaws.{without_absent}
 use Rattle.store.specs.Store.{place_of}
 use Rattle.store.specs.Parts.{variable}
 use native.Mathlib.Omega.{arith}

@@ -1,11 +1,11 @@
 use Rattle.store.proofs.Edits.{end_within, end_free, fits_at_place, fits_behind, rewritten, created}
 use Rattle.store.specs.declared.Found.TheVariants.{At, Absent}
-use Rattle.store.specs.PlaceLaws.{place_within}
+use Rattle.store.proofs.PlaceLaws.{place_within}
 use Rattle.store.specs.Store.{place_of}
 use Rattle.store.specs.Parts.{variable}
-use Rattle.store.specs.EncodeLaws.{length_encode}
+use Rattle.store.proofs.EncodeLaws.{length_encode}
 use Rattle.store.specs.Record.{record_size, encode_record}
-use Rattle.names.specs.NameLaws.{is_name-length, named_namespace, named_name}
+use Rattle.names.proofs.NameLaws.{is_name-length, named_namespace, named_name}
 use Rattle.names.specs.Name.{Variable}
 use Rattle.slices.specs.Bytes.{Bytes}
 use Rattle.limits.specs.Limits.{max_name_bytes}

@@ -1,0 +1,4 @@
+pub mod MoreCallsLaws
+pub mod HistoryLaws
+pub mod AnyMoment
+pub mod AtEach
