@@ -1,0 +1,8 @@
+use Rattle.store.proofs.PlaceLaws.{contains_place}
+use Rattle.store.specs.Parts.{is_found}
+use mathlib.Core.Path.{sym, ap, ◌∙◌}
+use borrow.Author.Rules.{rules}
+use Rattle.stores.proofs.has_within.Goals as goal
+
+pub returns : goal.returns
+returns c = c.is_found.ensures ∙ ap is_found c.find_within.ensures ∙ sym (contains_place _ _ _)
