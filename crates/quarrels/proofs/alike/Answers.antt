@@ -1,0 +1,27 @@
+use Prim.Native.Nat.{ℕ, ◌≤◌, ◌<◌}
+use mathlib.Core.Path.{◌≡◌, ap, ◌∙◌}
+use mathlib.Core.Bool.{Bool, false}
+use native.Mathlib.Omega.{arith}
+use lib.Dec.{ltb}
+use borrow.Author.Tests.{lt-ltb, le-ltb}
+use borrow.Author.Rules.{rules}
+use Rattle.slices.specs.Test.{◌and◌}
+use Rattle.slices.specs.Bytes.{Bytes}
+use Rattle.patterns.specs.Common.{same_signs}
+use Rattle.entry.specs.Entry.{name_of}
+use Rattle.quarrels.proofs.alike.Goals as goal
+
+none_there : (place count : ℕ) (t : Bool) → count ≤ place → false ≡ (ltb place count and t)
+unfolding ◌and◌
+none_there place count t h = rw (le-ltb place count h)
+
+one-there : {r : Bool} {m e : Bytes} (name f : Bytes) (place count : ℕ) → place < count → r ≡ same_signs name m → m ≡ name_of e → e ≡ f → r ≡ (ltb place count and same_signs name (name_of f))
+unfolding ◌and◌
+one-there name f place count h a b c = a ∙ ap (same_signs name) (b ∙ ap name_of c) ∙ rw (lt-ltb place count h)
+
+pub returns-then-count-place : goal.returns-then-count-place
+returns-then-count-place c = none_there c.args.place c.args.count _ c.if-count-place.true
+
+pub returns : goal.returns
+returns c =
+    one-there c.args.name.now _ c.args.place c.args.count c.if-count-place.false c.same_signs.ensures c.name_bytes.ensures c.entry_at-e.ensures.is

@@ -1,0 +1,51 @@
+use Prim.Native.Nat.{ℕ, ◌-◌, ◌≤◌, ◌<◌}
+use mathlib.Core.Path.{◌≡◌, refl, sym, ◌∙◌}
+use native.Mathlib.Omega.{arith}
+use lib.ListN.{length, get_or}
+use Rattle.limits.specs.Limits.{max_entries}
+use Rattle.slices.specs.Bytes.{Bytes}
+use Rattle.policy.specs.Policy.{entries_of}
+use Rattle.quarrels.specs.declared.Pair.TheVariants.{NoPair}
+use Rattle.quarrels.proofs.Chains.{skipped_later}
+use Rattle.quarrels.proofs.Places.{Clear, Walks, clear_start, clear_row, walk_start, walk_step, walk_skip, found_here, found_none}
+use Rattle.quarrels.proofs.first_pair.Goals as goal
+
+pub loop-j-init : goal.loop-j-init
+loop-j-init c =
+    let D : Bytes = c.args.dump.now in
+    let bytes : (k : ℕ) → get_or (D) k 0 < 256 = λ k. omega (arith, c.type_inv.dump k) in (
+      c.pairs.invariant.0,
+      walk_start (D) c.requires.1 (bytes) c.args.first.now c.pairs.i c.requires.6 c.place-j.ensures (omega (arith, c.pairs-test.true, c.requires.0)) c.pairs.invariant.1,
+    )
+
+pub loop-j-smaller : goal.loop-j-smaller
+loop-j-smaller c =
+    let D : Bytes = c.args.dump.now in
+    let inner : c.loop-j.j < length (entries_of (D)) = omega (arith, c.loop-j-test.true, c.requires.0) in
+    let inner-under : c.loop-j.j < max_entries = omega (arith, inner, c.requires.2.few) in
+    let rising : (c.loop-j.j < get_or c.args.next.now c.loop-j.j 0) × (get_or c.args.next.now c.loop-j.j 0 ≤ max_entries) = c.requires.5.rises c.loop-j.j (inner-under) in
+    omega (arith, c.loop-j-test.true, (rising).0, c.place.ensures, skipped_later c.requires.5.rises c.candidate-j.ensures)
+
+pub loop-j-preserved : goal.loop-j-preserved
+loop-j-preserved c =
+    let D : Bytes = c.args.dump.now in
+    let bytes : (k : ℕ) → get_or (D) k 0 < 256 = λ k. omega (arith, c.type_inv.dump k) in
+    let inner : c.loop-j.j < length (entries_of (D)) = omega (arith, c.loop-j-test.true, c.requires.0) in (
+      c.loop-j.invariant.0,
+      walk_skip (D) c.requires.1 (bytes) c.args.next.now c.requires.5 c.pairs.i c.args.masks.now c.args.shown.now c.requires.3 c.requires.4 c.candidate-j.ensures
+          (walk_step (D) c.requires.1 (bytes) c.args.next.now c.requires.5 c.pairs.i c.loop-j.j (inner) c.loop-j.invariant.1 c.place.ensures
+          (sym c.quarrel_at.ensures ∙ c.if-quarrel_at.false)),
+    )
+
+pub returns-after-pairs : goal.returns-after-pairs
+returns-after-pairs c =
+    let D : Bytes = c.args.dump.now in
+    let bytes : (k : ℕ) → get_or (D) k 0 < 256 = λ k. omega (arith, c.type_inv.dump k) in
+    c.pairs.invariant.0 ∙ found_none (D) c.requires.1 (bytes) c.pairs.i (omega (arith, c.pairs-test.false, c.requires.0)) c.pairs.invariant.1
+
+pub returns-then-quarrel_at : goal.returns-then-quarrel_at
+returns-then-quarrel_at c =
+    let D : Bytes = c.args.dump.now in
+    let bytes : (k : ℕ) → get_or (D) k 0 < 256 = λ k. omega (arith, c.type_inv.dump k) in
+    let inner : c.loop-j.j < length (entries_of (D)) = omega (arith, c.loop-j-test.true, c.requires.0) in
+    found_here (D) c.requires.1 (bytes) c.pairs.i c.loop-j.j (inner) c.loop-j.invariant.1 (sym c.quarrel_at.ensures ∙ c.if-quarrel_at.true)

@@ -1,0 +1,7 @@
+use borrow.Author.Rules.{rules}
+use Rattle.reader.specs.Reader.{fresh}
+use Rattle.reader.proofs.clear.Goals as goal
+
+pub returns : goal.returns
+unfolding fresh
+returns c = c.fill.ensures

@@ -1,0 +1,12 @@
+use native.Mathlib.Omega.{arith}
+use Rattle.reader.proofs.Parts.{part_short, part_stated}
+use borrow.Author.Rules.{rules}
+use Rattle.reader.proofs.is_decided.Goals as goal
+
+pub returns-then-to-from : goal.returns-then-to-from
+returns-then-to-from c = let a = c.args in part_short a.from a.to a.r.now c.if-to-from.true
+
+pub returns : goal.returns
+returns c =
+    let a = c.args in
+    part_stated a.from a.to a.r.now (omega (arith, c.if-to-from.false)) (omega (arith, c.requires.0, c.requires.2)) c.get16-size.ensures.is
