@@ -18,7 +18,8 @@ use Rattle.stores.proofs.PairLaws.{sound_with_nv, sound_with_vol, sound_without,
 use Rattle.rules.specs.declared.Decision.{Decision}
 use Rattle.rules.specs.declared.Decision.TheVariants.{Refuse, Block, Delete, Keep, Store}
 use Rattle.rules.specs.Set.{Request, stored_attributes, other_attributes, payload_after, record_after, decision, decision_store}
-use Rattle.rules.proofs.DecisionLaws.{Stored, Facts, facts, stored_facts}
+use Rattle.rules.specs.Stored.{Stored}
+use Rattle.rules.proofs.DecisionLaws.{Facts, facts, stored_facts}
 
 -- ---- what is written into a sound pair
 
