@@ -1,0 +1,13 @@
+use Rattle.set.proofs.Requests.{empty_is}
+use Rattle.rules.specs.Set.{is_empty_append}
+use Rattle.slices.specs.Test.{◌and◌}
+use borrow.Author.Rules.{rules}
+use Rattle.set.proofs.is_empty_append.Goals as goal
+
+pub returns-then-has_append : goal.returns-then-has_append
+unfolding ◌and◌ is_empty_append
+returns-then-has_append c = simp (← c.has_append.ensures, c.if-has_append.true) (empty_is _)
+
+pub returns : goal.returns
+unfolding ◌and◌ is_empty_append
+returns c = simp (← c.has_append.ensures, c.if-has_append.false)

@@ -1,0 +1,20 @@
+use Rattle.set.proofs.Shown.{shown_absent, shown_before, shown_after}
+use borrow.Author.Rules.{rules}
+use mathlib.Core.Bool.{not}
+use mathlib.Core.Path.{ap}
+use Rattle.set.proofs.is_shown.Goals as goal
+
+pub returns-then-not-is_somewhere : goal.returns-then-not-is_somewhere
+returns-then-not-is_somewhere c =
+    let a = c.args in
+    shown_absent _ a.nv.now a.vol.now a.place c.is_somewhere.ensures (ap not c.if-not-is_somewhere.true)
+
+pub returns-then-not-exited : goal.returns-then-not-exited
+returns-then-not-exited c =
+    let a = c.args in
+    shown_before _ a.nv.now a.vol.now a.place c.is_somewhere.ensures (ap not c.if-not-is_somewhere.false) (ap not c.if-not-exited.true)
+
+pub returns : goal.returns
+returns c =
+    let a = c.args in
+    shown_after _ a.nv.now a.vol.now a.place c.is_somewhere.ensures (ap not c.if-not-is_somewhere.false) (ap not c.if-not-exited.false) c.attributes_at.ensures c.has_rt.ensures
