@@ -1,0 +1,6 @@
+use Rattle.engine.proofs.Registered.{disable_step}
+use borrow.Author.Rules.{rules}
+use Rattle.engine.proofs.disable.Goals as goal
+
+pub returns : goal.returns
+returns c = disable_step _ c.disable.ensures

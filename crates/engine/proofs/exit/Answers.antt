@@ -1,0 +1,6 @@
+use Rattle.engine.proofs.Registered.{exit_step}
+use borrow.Author.Rules.{rules}
+use Rattle.engine.proofs.exit.Goals as goal
+
+pub returns : goal.returns
+returns c = exit_step _ c.exit.ensures

@@ -1,0 +1,19 @@
+use Rattle.engine.proofs.Started.{power_unsound, power_long, power_record, power_done, power_refused, power_granted, filled}
+use borrow.Author.Tests.{not-true, not-false}
+use mathlib.Core.Path.{sym, ◌∙◌}
+use borrow.Author.Rules.{rules}
+use Rattle.engine.proofs.power_on.Goals as goal
+
+pub returns-then-not-check_alone : goal.returns-then-not-check_alone
+returns-then-not-check_alone c = power_refused _ _ _ _ (power_unsound _ _ _ (sym c.check_alone.ensures ∙ c.if-not-check_alone.true)) c.refused_start.ensures
+
+pub returns-then-length-gt-MAX_STORE : goal.returns-then-length-gt-MAX_STORE
+returns-then-length-gt-MAX_STORE c = power_refused _ _ _ _ (power_long _ _ _ c.if-length-gt-MAX_STORE.true) c.refused_start-then-length-gt-MAX_STORE.ensures
+
+pub returns-then-policy-ne-POLICY_BYTES : goal.returns-then-policy-ne-POLICY_BYTES
+returns-then-policy-ne-POLICY_BYTES c = power_refused _ _ _ _ (power_record _ _ _ c.if-policy-ne-POLICY_BYTES.true) c.refused_start-then-policy-ne-POLICY_BYTES.ensures
+
+pub returns : goal.returns
+returns c =
+    power_granted _ _ _ _ (power_done _ _ _ (sym c.check_alone.ensures ∙ c.if-not-check_alone.false) c.if-length-gt-MAX_STORE.false c.if-policy-ne-POLICY_BYTES.false)
+    c.fresh_start.ensures (filled _ c.fill.ensures) c.clear.ensures

@@ -1,0 +1,50 @@
+use Rattle.limits.specs.Limits.{namespace_bytes}
+use Rattle.slices.specs.Test.{◌and◌}
+use Rattle.slices.proofs.TestLaws.{and_no}
+use Rattle.names.specs.Name.{Variable, variable, named, is_name}
+use Rattle.policy.proofs.PolicyLaws.{Checked, check_valid, check_invalid}
+use Rattle.stores.specs.Pair.{sound, ends_of}
+use Rattle.stores.proofs.PairLaws.{check_sound, check_unsound}
+use Rattle.engine.proofs.SettledAnswers.{settled_unsound_lem, settled_invalid, settled_unnamed, settled_told}
+use borrow.Author.Tests.{eq-eqb, not-true, not-false}
+use lib.ListN.{length}
+use mathlib.Core.Bool.{true, false}
+use mathlib.Core.Path.{◌≡◌, sym, ◌∙◌}
+use borrow.Author.Rules.{rules}
+use Rattle.engine.proofs.settled.Goals as goal
+
+pub returns-in_default : goal.returns-in_default
+returns-in_default c =
+    settled_unsound_lem _ _ _ _ c.not_settled.ensures (check_unsound _ _ (sym c.check-checked.ensures ∙ c.in_default.is))
+
+pub returns-in_default-entries : goal.returns-in_default-entries
+returns-in_default-entries c =
+    settled_invalid _ _ _ _ c.not_settled-in_default-entries.ensures (check_invalid _ (sym c.check_noting-entries.ensures.answer ∙ c.in_default-entries.is))
+
+pub returns-then-not-is_name : goal.returns-then-not-is_name
+unfolding named
+returns-then-not-is_name c =
+    let checked : (sound c.args.nv.now c.args.vol.now ≡ true) × (c.in-Sound.ends ≡ ends_of c.args.nv.now c.args.vol.now) = check_sound _ _ _ (sym c.check-checked.ensures ∙ c.in-Sound.is) in
+    let valid : Checked c.args.policy.now c.in-Valid.count c.in-Valid.used = check_valid _ _ _ (sym c.check_noting-entries.ensures.answer ∙ c.in-Valid.is) in
+    let n : is_name c.args.name.now ≡ false = sym c.is_name.ensures ∙ c.if-not-is_name.true in
+    settled_unnamed _ _ _ _ (checked).0 (valid).valid c.not_settled-then-not-is_name.ensures (simp (n, and_no))
+
+pub is_settled-requires : goal.is_settled-requires
+is_settled-requires c =
+    let checked : (sound c.args.nv.now c.args.vol.now ≡ true) × (c.in-Sound.ends ≡ ends_of c.args.nv.now c.args.vol.now) = check_sound _ _ _ (sym c.check-checked.ensures ∙ c.in-Sound.is) in
+    let valid : Checked c.args.policy.now c.in-Valid.count c.in-Valid.used = check_valid _ _ _ (sym c.check_noting-entries.ensures.answer ∙ c.in-Valid.is) in (
+      record { counted = (valid).counted; ends = c.check_noting-entries.ensures.noted (valid).valid },
+      (checked).0,
+      (checked).1,
+    )
+
+pub returns : goal.returns
+unfolding named ◌and◌
+returns c =
+    let checked : (sound c.args.nv.now c.args.vol.now ≡ true) × (c.in-Sound.ends ≡ ends_of c.args.nv.now c.args.vol.now) = check_sound _ _ _ (sym c.check-checked.ensures ∙ c.in-Sound.is) in
+    let valid : Checked c.args.policy.now c.in-Valid.count c.in-Valid.used = check_valid _ _ _ (sym c.check_noting-entries.ensures.answer ∙ c.in-Valid.is) in
+    let Asked : Variable = variable c.args.namespace c.args.name.now in
+    let sixteen : length c.args.namespace ≡ namespace_bytes = search rules in
+    let good : named (Asked) ≡ true = let n : is_name c.args.name.now ≡ true = sym c.is_name.ensures ∙ c.if-not-is_name.false in
+    simp (eq-eqb _ _ (sixteen), n) in
+    settled_told _ _ _ _ (checked).0 (valid).valid (good) (λ w. c.is_settled.ensures)
