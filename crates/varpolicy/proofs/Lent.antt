@@ -2,11 +2,12 @@
 -- switches alone: `f` is what a step with it does, and `new` writes the byte that the call moves.
 --     answered     a function that calls the engine on the switches of the bytes answers by `by_f`
 --     does         what `by_f` answers, and the bytes that it leaves, are as `Does` says
+--     leaves       the same of whatever answers as `by_f` does, by whether it is granted
 -- Assumes nothing.
 use Prim.Native.Nat.{ℕ}
-use mathlib.Core.Path.{◌≡◌, sym, ap, ap₂, ◌∙◌}
+use mathlib.Core.Path.{◌≡◌, sym, ap, ap₂, ◌∙◌, subst, subst⁻¹}
 use mathlib.Core.List.{[]}
-use mathlib.Core.Bool.{cond}
+use mathlib.Core.Bool.{Bool, cond}
 use lib.Dec.{eqb}
 use Rattle.slices.specs.Bytes.{Bytes}
 use Rattle.switches.specs.declared.Switches.{Switches}
@@ -41,3 +42,10 @@ module _ (call : Call) (f : Switches → SwitchAnswer) (new : SwitchBytes → Sw
     λ nv vol policy. ap numbered (known (switches_of b) nv vol policy) ∙ ap (λ s. (status_alone (by_f b).status, state_of nv vol policy s)) (sym (left b)),
     left_at_zero (f (switches_of b)).status (new b) b,
   )
+
+  -- the same of what a call answers that is `by_f`: granted or not, it leaves what it leaves
+  pub leaves : ((b : SwitchBytes) → switches_of (left_by (by_f b) b) ≡ (f (switches_of b)).switches)
+      → (b : SwitchBytes) {r : BytesAnswer} → r ≡ by_f b → (g : Bool) → r.granted ≡ g → Does call new b r.status (cond g r.switches b)
+  leaves left b {r} e g h =
+      subst (λ (d : Bool). Does call new b r.status (cond d r.switches b)) h
+      (subst⁻¹ (λ (q : BytesAnswer). Does call new b q.status (left_by q b)) e (does left b))
