@@ -30,11 +30,12 @@ use Rattle.history.specs.History.Kind.{starts, registers}
 use Rattle.history.specs.History.ItemOf.{call, own_dump, rebuild}
 use Rattle.history.specs.StandingOrder.{restarts, NoneRestarts}
 use Rattle.history.proofs.AnyMoment as moment
-use Rattle.history.proofs.AnyMoment.{NoneOutdates}
+use Rattle.history.specs.AnyMoment.{NoneOutdates}
 use Rattle.history.proofs.HistoryLaws.{granted_refused}
 use Rattle.demand3.specs.Machine.{outcome_by, kind_of, restart_of, closing_of, CanDumpInto, machine}
 use Rattle.demand3.proofs.MachineLaws.{Reached, laws}
-use Rattle.demand3.proofs.Demand3.{powered_on, demand_3, first_part, ProperFrom, entries_at, past_at}
+use Rattle.demand3.specs.Demand3.{powered_on, ProperFrom, entries_at, past_at}
+use Rattle.demand3.proofs.Demand3.{demand_3, first_part}
 use Rattle.demand3.proofs.Demand3 as list
 
 -- ---- one call

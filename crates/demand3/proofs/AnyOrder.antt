@@ -29,8 +29,11 @@ use Rattle.history.proofs.AnyMoment as moment
 use Rattle.demand3.specs.Machine.{outcome_by, CanDumpInto, machine}
 use Rattle.demand3.proofs.MachineLaws.{Reached, laws, never_cut, dump_holds_lem}
 use Rattle.demand3.proofs.UnambiguousLaws.{UnambiguousInBytes, unambiguous}
+use Rattle.demand3.specs.Demand3.{powered_on, ProperFrom, entries_at, past_at}
+use Rattle.demand3.specs.AnyOrder as claim
+use Rattle.demand3.specs.AnyOrder.{Checks, handed_out}
 use Rattle.demand3.proofs.Demand3 as list
-use Rattle.demand3.proofs.Demand3.{powered_on, demand_3, ProperFrom, entries_at, past_at}
+use Rattle.demand3.proofs.Demand3.{demand_3}
 
 -- ---- WHAT THE CHECKER'S ANSWER SAYS OF OTHER ORDERS
 
@@ -43,12 +46,6 @@ pub no_quarrel_in_bytes : (d : Bytes) → dump_valid d ≡ true → All AreBytes
 no_quarrel_in_bytes d v b =
     let k = no_quarrel_unambiguous d v in
     ((λ h w n. k.0 h w n.taken), λ u. k.1 (unambiguous (entries_of d) b u))
-
--- what it says of the bytes d, which hold the entries ds: that they are a dump, and none exactly under that condition on ds
-pub record Checks (d : Bytes) (ds : List Bytes) : Type 0 where
-  pub entries : entries_of d ≡ ds
-  pub is_dump : quarrels_of d ≡ NoDump → ⊥
-  pub exactly : quarrels_of d ≡ NoQuarrel ↔ Unambiguous machine ds
 
 -- of entries end to end, as a policy record could hold them
 pub entries_checked : (ds : List Bytes) → Entries ds → Checks (flat ds) ds
@@ -64,10 +61,6 @@ entries_checked ds a =
 -- in the buffer of a dump it finds the very entries that the dump has by 12.2
 pub buffer_entries : (ds : List Bytes) (c : Call) (a : Answer) → DumpOf machine ds c a → entries_of (take a.number a.bytes) ≡ ds
 buffer_entries ds c a d = ap entries_of (sym d.are_dumped) ∙ entries_of-flat ds d.are_formed
-
--- of what a dump that answered 0 hands out, in any state
-abbrev pub handed_out : State → Bytes → Bytes
-handed_out s buffer = take (rules.step s (dump buffer)).0.number (rules.step s (dump buffer)).0.bytes
 
 pub dump_checked : (s : State) (buffer : Bytes) → is_success (rules.step s (dump buffer)).0.status ≡ true
     → Checks (handed_out s buffer) (entries_of s.policy)
@@ -143,16 +136,8 @@ module _ (s : State) (allowed : Bool) (answered0 : is_success (rules.step s (pow
 
   -- ---- EVERY ORDER
 
-  -- a list that ends with a rebuild in the order o
-  pub record RebuiltIn (o : List Bytes) (xs : Items machine) : Type 0 where
-    -- is one that demand 3 is about, and demand 3 holds of it;
-    pub proper : ProperHere xs
-    pub holds : Demand3 machine begun xs
-    -- the engine holds the entries in that order then;
-    pub entries : entries_here xs ≡ o
-    -- and demand 3 holds of it with any calls behind
-    pub proper_on : (cs : List Call) → ProperHere (xs ++ map call cs)
-    pub holds_on : (cs : List Call) → Demand3 machine begun (xs ++ map call cs)
+  abbrev RebuiltIn : List Bytes → Items machine → Type 0
+  RebuiltIn = claim.RebuiltIn s allowed answered0
 
   rebuilt : (is : Items machine) (ds o : List Bytes) → ProperHere (is ++ (rebuild ds (some o) ∷ [])) → RebuiltIn o (is ++ (rebuild ds (some o) ∷ []))
   rebuilt is ds o p =

@@ -16,13 +16,11 @@ use Rattle.history.specs.History.ItemOf.{call, own_dump, rebuild}
 use Rattle.history.specs.StandingOrder.{NoneRestarts, registered_since}
 use Rattle.history.proofs.HistoryLaws as general
 use Rattle.history.proofs.AnyMoment as moment
-use Rattle.history.proofs.AnyMoment.{NoneOutdates, OneRebuild, past_after}
+use Rattle.history.specs.AnyMoment.{NoneOutdates, OneRebuild, past_after, cut_at_end}
 use Rattle.demand3.specs.Machine.{CanDumpInto, machine}
+use Rattle.demand3.specs.Demand3 as of_lists
+use Rattle.demand3.specs.Demand3.{powered_on}
 use Rattle.demand3.proofs.MachineLaws.{Reached, laws, never_cut}
-
--- where a history begins (RULES.md, 12.1): the state that the power-on left
-abbrev pub powered_on : State → Bool → State
-powered_on s allowed = (rules.step s (power_on allowed)).1
 
 pub start : (s : State) (allowed : Bool) → is_success (rules.step s (power_on allowed)).0.status ≡ true → Reached false (powered_on s allowed)
 start s allowed h = record { uncut = refl; sound = power_on_sound s allowed h }
@@ -43,18 +41,16 @@ module _ (s : State) (allowed : Bool) (answered0 : is_success (rules.step s (pow
   reached : Reached false begun
   reached = start s allowed answered0
 
-  -- the list is one that the claim is about
-  abbrev pub ProperFrom : Items machine → Type 0
-  ProperFrom is = Proper machine false [] begun is
+  abbrev ProperFrom : Items machine → Type 0
+  ProperFrom = of_lists.ProperFrom s allowed answered0
 
-  -- the entries that stand after a list, and what counts for complete dumps then
-  abbrev pub entries_at : Items machine → List Bytes
-  entries_at xs = entries_of (end_with machine begun xs).policy
+  abbrev entries_at : Items machine → List Bytes
+  entries_at = of_lists.entries_at s allowed answered0
 
-  abbrev pub past_at : Items machine → Past machine
-  past_at xs = past_after machine [] begun xs
+  abbrev past_at : Items machine → Past machine
+  past_at = of_lists.past_at s allowed answered0
 
-  uncut : (xs : Items machine) → moment.cut_at_end machine false begun xs ≡ false
+  uncut : (xs : Items machine) → cut_at_end machine false begun xs ≡ false
   uncut xs = moment.never_cut machine never_cut xs begun
 
   -- any calls may stand behind a proper list, and so a list of calls alone is proper

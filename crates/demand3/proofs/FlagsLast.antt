@@ -16,7 +16,8 @@ use Rattle.rules.specs.Engine.Call.{set}
 use Rattle.rules.specs.Grounds.{Not, RecordOf, Absent, ChosenFor, PolicyEntries}
 use Rattle.rules.proofs.ReportLaws.{Answered}
 use Rattle.rules.proofs.ExitLaws.{record_named, GoesOn}
-use Rattle.rules.proofs.SettledStays.{EnabledLocked, settled_lasts, entries_last, says_yes}
+use Rattle.rules.specs.SettledStays.{EnabledLocked}
+use Rattle.rules.proofs.SettledStays.{settled_lasts, entries_last, says_yes}
 use Rattle.rules.specs.Phases.{end_of_dxe_name, flag_entry, lock_entry, flag_variable, flag, lockable, PhaseCall, phase_step, EndedDxe, FlagStands}
 use Rattle.rules.specs.Phases.PhaseCall.{end_of_dxe, exit_flag}
 use Rattle.rules.proofs.PhasesLaws.{flag_settled, lock_settled, lock_waits, flag_created, lockable_named}
@@ -27,8 +28,10 @@ use Rattle.history.proofs.MoreCallsLaws.{end_made, none_restarts_made}
 use Rattle.demand3.specs.Machine.{machine}
 use Rattle.demand3.proofs.MachineLaws.{Reached, laws}
 use Rattle.demand3.proofs.AfterExit.{goes_on}
-use Rattle.demand3.proofs.HowLong.{AsItWas, how_long_lem}
-use Rattle.demand3.proofs.PhaseCalls.{AnyCall, phase_makes, phase_machine, phases_make}
+use Rattle.demand3.specs.HowLong.{AsItWas}
+use Rattle.demand3.proofs.HowLong.{how_long_lem}
+use Rattle.demand3.specs.PhaseCalls.{AnyCall, phase_makes, phase_machine}
+use Rattle.demand3.proofs.PhaseCalls.{phases_make}
 
 -- ---- what `how_long_lem` says of lists with the calls of phases
 

@@ -10,3 +10,5 @@ pub mod AfterExit
 pub mod HowLong
 pub mod PhaseCalls
 pub mod FlagsLast
+pub mod OldRecords
+pub mod HowLongRebuilt

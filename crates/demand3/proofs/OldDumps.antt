@@ -27,41 +27,14 @@ use Rattle.history.specs.History.{answers, end, AllGranted}
 use Rattle.demand3.specs.Machine.{machine}
 use Rattle.demand3.proofs.MachineLaws.{with_entries, registers_run}
 use Rattle.demand3.proofs.OrderLaws.{entries_left}
-use Rattle.demand3.proofs.Demand3.{powered_on}
+use Rattle.demand3.specs.Demand3.{powered_on}
+use Rattle.demand3.specs.OldDumps.{Registrations, AllRegister, DumpsBack}
 use Rattle.demand3.specs.OldEntries.{Earlier, first, larger, OldEntries, answer_to, without_signs}
 use Rattle.demand3.proofs.OldEntriesLaws.{Formed, formed_since, without_append, without_entries, without_all, register_refused, registers}
 
 -- every record that an earlier edition took as valid has such entries
 pub old_valid : (most bytes : ℕ) (p : Bytes) → valid_within first_well_formed most bytes p ≡ true → OldEntries most bytes p (chunks (length_by first_well_formed) p)
 old_valid most bytes p v = packs_entries p (chunks (length_by first_well_formed) p) (valid_packs first_well_formed most bytes p v)
-
--- ---- what registering them does
-
--- in the state t the registrations of es, one after the other
-pub record Registrations (t : State) (es : List Bytes) : Type 0 where
-  -- exactly those with '#' in the trigger's name answer 2, all others 0
-  pub answered : answers machine t (map register es) ≡ map answer_to es
-  -- each that answers 2 leaves every byte of the state as it was
-  pub untouched : (xs : List Bytes) (e : Bytes) (ys : List Bytes) → es ≡ xs ++ (e ∷ ys) → sign_in_trigger e ≡ true
-      → (step (end machine t (map register xs)) (register e)).1 ≡ end machine t (map register xs)
-  -- after each first part xs of them the policy record holds exactly those of xs without '#' in the trigger's name, in order,
-  pub holds : (xs ys : List Bytes) → es ≡ xs ++ ys → PolicyEntries (end machine t (map register xs)).policy (without_signs xs)
-  -- and the stores and the switches are as they were
-  pub keeps : (xs ys : List Bytes) → es ≡ xs ++ ys → end machine t (map register xs) ≡ state_of t.nv t.vol (pack_policy (without_signs xs)) t.switches
-
--- E5's promise: in the state t the registrations of es
-pub record AllRegister (t : State) (es : List Bytes) : Type 0 where
-  -- answer 0 each time,
-  pub granted : AllGranted machine t (map register es)
-  -- leave a policy record that holds exactly them, in this order,
-  pub holds : PolicyEntries (end machine t (map register es)).policy es
-  -- and leave the stores and the switches as they were
-  pub keeps : end machine t (map register es) ≡ state_of t.nv t.vol (pack_policy es) t.switches
-
--- a dump in the state t, into a buffer with room, hands out es end to end and leaves the buffer's later bytes
-abbrev pub DumpsBack : State → List Bytes → Type 0
-DumpsBack t es = (buffer : Bytes) → length (flat es) ≤ length buffer
-    → (step t (dump buffer)).0 ≡ answer_of Success (length (flat es)) (overwrite buffer 0 (flat es)) none
 
 dumps_back : (t : State) (es : List Bytes) → t.switches.exited ≡ false → PolicyEntries t.policy es → DumpsBack t es
 unfolding step dump_status
@@ -163,17 +136,3 @@ module _ (p : Bytes) (es : List Bytes) (held : OldEntries max_entries policy_byt
         let k = entries_packs p es held in
         packs_policy es p (record { entries = subst Entries (without_all es n) (without_entries es larger k.entries); packs = k.packs })),
   )
-
-none_among : (es : List Bytes) → All (λ e. sign_in_trigger e ≡ false) es → contains sign_in_trigger es ≡ false
-unfolding contains
-none_among [] nil = refl
-none_among (e ∷ es) (more h a) = rw h (none_among es a)
-
--- AND WITH '#' IN THE NAME OF ONE OF ITS TRIGGERS IT IS 10 in every call that is lent it and is no start
-pub old_record_corrupted : (s : State) (es : List Bytes) → OldEntries max_entries policy_bytes s.policy es → contains sign_in_trigger es ≡ true
-    → (c : Call) → (uses c).lent.policy ≡ true → (uses c).hands_back ≡ none → (step s c).0.status ≡ VolumeCorrupted
-old_record_corrupted s es held h c l n = invalid_corrupted s c l n (go (policy_valid s.policy) refl)
-  where
-    go : (b : Bool) → policy_valid s.policy ≡ b → b ≡ false
-    go true v = absurd (false≢true (sym (none_among es ((old_records s.policy es held).0 v)) ∙ h))
-    go false v = refl

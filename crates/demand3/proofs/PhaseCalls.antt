@@ -23,24 +23,9 @@ use Rattle.history.specs.MoreCalls.{CallOr, GivenBy, Makes, step_of, with_more}
 use Rattle.history.proofs.MoreCallsLaws.{more_laws}
 use Rattle.demand3.specs.Machine.{state_in, outcome_by, CanDumpInto, machine}
 use Rattle.demand3.proofs.MachineLaws.{Reached, laws}
-use Rattle.demand3.proofs.Demand3.{powered_on, start}
-
--- the call of the engine that each makes; a lock whose name is none to lock makes none
-abbrev pub phase_makes : PhaseCall → Option Call
-phase_makes (phase_policy phase) = some (register (flag_entry phase))
-phase_makes (write_once_policy namespace) = some (register (flag_entry namespace))
-phase_makes (lock_variable phase v) = cond (lockable v) (some (register (lock_entry phase v))) none
-phase_makes (end_of_dxe phase) = some (set (flag phase end_of_dxe_name))
-phase_makes (ready_to_boot phase) = some (set (flag phase ready_to_boot_name))
-phase_makes (exit_flag phase name) = some (set (flag phase name))
-
--- a call of the engine, or one of phases
-abbrev pub AnyCall : Type 0
-AnyCall = CallOr Call PhaseCall
-
--- THE MACHINE: the engine's states and answers; its step is the rules' `step` of the engine's calls and `phase_step` of the others
-abbrev pub phase_machine : Machine
-phase_machine = with_more machine PhaseCall phase_makes phase_step
+use Rattle.demand3.specs.Demand3.{powered_on}
+use Rattle.demand3.specs.PhaseCalls.{phase_makes, AnyCall, phase_machine}
+use Rattle.demand3.proofs.Demand3.{start}
 
 -- each is that call
 refused_name : (b : Bool) → outcome_by (is_success (cond b InvalidParameter VolumeCorrupted)) ≡ refused

@@ -13,9 +13,11 @@ use Rattle.rules.specs.Engine.Call.{power_on}
 use Rattle.rules.proofs.StateLaws.{Sound, step_sound, power_on_sound}
 use Rattle.rules.proofs.SizeLaws.{EnforcedAt, Sized, step_sizes}
 use Rattle.history.specs.History.{Items, Order, Proper, end, end_with, history, standing_order, state_by}
-use Rattle.history.proofs.AtEach.{AtEach, kept_to_end, at_each_first, at_each_history}
+use Rattle.history.specs.AtEach.{AtEach}
+use Rattle.history.proofs.AtEach.{kept_to_end, at_each_first, at_each_history}
 use Rattle.demand3.specs.Machine.{machine}
-use Rattle.demand3.proofs.Demand3.{powered_on, demand_3, first_part}
+use Rattle.demand3.specs.Demand3.{powered_on}
+use Rattle.demand3.proofs.Demand3.{demand_3, first_part}
 
 -- another order of the entries changes no variable
 sized_in_order : (e : Bytes) (v : Variable) (t : State) (w : Order machine) → Sized e v t → Sized e v (state_by machine w t)

@@ -28,11 +28,12 @@ use Rattle.rules.specs.Engine.{State, Answer, Call, step}
 use Rattle.rules.specs.Engine.Call.{power_on, restart, register, dump, lock, disable, exit, read, set}
 use Rattle.rules.specs.Opened.{rules_opened}
 use Rattle.history.specs.History.{Items, Order, Complete, Demand3, Permitted, Past, answers, end, answers_with, end_with, history, state_by, standing_order, struck}
-use Rattle.history.proofs.AnyMoment.{past_after}
+use Rattle.history.specs.AnyMoment.{past_after}
 use Rattle.history.specs.History.Kind.{dumps}
 use Rattle.history.specs.History.ItemOf.{call, own_dump, rebuild}
 use Rattle.demand3.specs.Machine.{outcome_by, kind_of, machine}
-use Rattle.demand3.proofs.Demand3.{powered_on, demand_3, ProperFrom, append_calls, insert_dump, append_rebuild}
+use Rattle.demand3.specs.Demand3.{powered_on, ProperFrom}
+use Rattle.demand3.proofs.Demand3.{demand_3, append_calls, insert_dump, append_rebuild}
 use Rattle.demand3.proofs.AnyOrder.{any_order, quarrel_no_order}
 
 -- to compute by the checker of a dump as well

@@ -13,47 +13,11 @@ use Rattle.history.specs.History.ItemOf.{call, own_dump, rebuild}
 use Rattle.history.specs.History.{outcome_of, answers, end, AllGranted, rebuilding, registered, end_with}
 use Rattle.history.specs.History.{event, outdates, Complete, Permitted, cut_after, ProperHistory, Proper, entries_after}
 use Rattle.history.specs.StandingOrder.{restarts, NoneRestarts, registered_by, registered_since}
+use Rattle.history.specs.AnyMoment.{cut_at_end, past_after, NoneOutdates, NeverCut, rebuild_after, OneRebuild}
 use Rattle.history.proofs.HistoryLaws.{Laws, complete_push, holds_after, keeps_entries, rebuild_same}
 
 module _ (M : Machine) where
   open M use {State, Call, step, kind, entries, state_in, dump, CanDump}
-
-  -- whether the last call of a list that was not refused was cut
-  abbrev pub cut_at_end : Bool → State → Items M → Bool
-  cut_at_end t s [] = t
-  cut_at_end t s (call c ∷ is) = cut_at_end (cut_after M t (outcome_of M s c)) (step s c).1 is
-  cut_at_end t s (own_dump b ∷ is) = cut_at_end false (step s (dump b)).1 is
-  cut_at_end t s (rebuild ds x ∷ is) = cut_at_end false (end M s (rebuilding M s (registered M ds x))) is
-
-  -- what counts for complete dumps after a list
-  abbrev pub past_after : Past M → State → Items M → Past M
-  past_after past s [] = past
-  past_after past s (call c ∷ is) = past_after (event M s c ∷ past) (step s c).1 is
-  past_after past s (own_dump b ∷ is) = past_after (event M s (dump b) ∷ past) (step s (dump b)).1 is
-  past_after past s (rebuild ds x ∷ is) = past_after past (end M s (rebuilding M s (registered M ds x))) is
-
-  -- no call of the history in a list outdates a dump
-  abbrev pub NoneOutdates : State → Items M → Type 0
-  NoneOutdates s [] = Unit
-  NoneOutdates s (call c ∷ is) = (outdates M (kind c) (outcome_of M s c) ≡ false) × NoneOutdates (step s c).1 is
-  NoneOutdates s (own_dump b ∷ is) = NoneOutdates (step s (dump b)).1 is
-  NoneOutdates s (rebuild ds x ∷ is) = NoneOutdates (end M s (rebuilding M s (registered M ds x))) is
-
-  -- no call is ever cut
-  abbrev pub NeverCut : Type 0
-  NeverCut = (s : State) (c : Call) → outcome_of M s c ≡ cut → ⊥
-
-  -- the calls of a rebuild in order behind a history
-  abbrev pub rebuild_after : State → List Call → List Call
-  rebuild_after s cs = rebuilding M (end M s cs) (entries (end M s cs))
-
-  -- One rebuild between two parts of a history: each of its calls is granted; the history's calls get the answers, and the end
-  -- is the state, that there would be without it
-  pub record OneRebuild (s : State) (cs₁ cs₂ : List Call) : Type 0 where
-    pub succeeds : AllGranted M (end M s cs₁) (rebuild_after s cs₁)
-    pub same_answers :
-        answers M s cs₁ ++ answers M (end M s (cs₁ ++ rebuild_after s cs₁)) cs₂ ≡ answers M s (cs₁ ++ cs₂)
-    pub same_end : end M s (cs₁ ++ (rebuild_after s cs₁ ++ cs₂)) ≡ end M s (cs₁ ++ cs₂)
 
   -- A PROPER LIST in two parts
   pub proper_left : (xs ys : Items M) (t : Bool) (past : Past M) (s : State) → Proper M t past s (xs ++ ys)
@@ -64,21 +28,21 @@ module _ (M : Machine) where
   proper_left (rebuild ds x ∷ xs) ys t past s p = (p.0, p.1, p.2, proper_left xs ys _ _ _ p.3)
 
   proper_right : (xs ys : Items M) (t : Bool) (past : Past M) (s : State) → Proper M t past s (xs ++ ys)
-      → Proper M (cut_at_end t s xs) (past_after past s xs) (end_with M s xs) ys
+      → Proper M (cut_at_end M t s xs) (past_after M past s xs) (end_with M s xs) ys
   proper_right [] ys t past s p = p
   proper_right (call c ∷ xs) ys t past s p = proper_right xs ys _ _ _ p.1
   proper_right (own_dump b ∷ xs) ys t past s p = proper_right xs ys _ _ _ p.1
   proper_right (rebuild ds x ∷ xs) ys t past s p = proper_right xs ys _ _ _ p.3
 
   proper_append : (xs ys : Items M) (t : Bool) (past : Past M) (s : State) → Proper M t past s xs
-      → Proper M (cut_at_end t s xs) (past_after past s xs) (end_with M s xs) ys → Proper M t past s (xs ++ ys)
+      → Proper M (cut_at_end M t s xs) (past_after M past s xs) (end_with M s xs) ys → Proper M t past s (xs ++ ys)
   proper_append [] ys t past s p q = q
   proper_append (call c ∷ xs) ys t past s p q = (p.0, proper_append xs ys _ _ _ p.1 q)
   proper_append (own_dump b ∷ xs) ys t past s p q = (p.0, proper_append xs ys _ _ _ p.1 q)
   proper_append (rebuild ds x ∷ xs) ys t past s p q = (p.0, p.1, p.2, proper_append xs ys _ _ _ p.3 q)
 
   pub past_append : (xs ys : Items M) (past : Past M) (s : State)
-      → past_after past s (xs ++ ys) ≡ past_after (past_after past s xs) (end_with M s xs) ys
+      → past_after M past s (xs ++ ys) ≡ past_after M (past_after M past s xs) (end_with M s xs) ys
   past_append [] ys past s = refl
   past_append (call c ∷ xs) ys past s = past_append xs ys _ _
   past_append (own_dump b ∷ xs) ys past s = past_append xs ys _ _
@@ -90,7 +54,7 @@ module _ (M : Machine) where
   end_with_append (own_dump b ∷ xs) ys s = end_with_append xs ys _
   end_with_append (rebuild ds x ∷ xs) ys s = end_with_append xs ys _
 
-  cut_append : (xs ys : Items M) (t : Bool) (s : State) → cut_at_end t s (xs ++ ys) ≡ cut_at_end (cut_at_end t s xs) (end_with M s xs) ys
+  cut_append : (xs ys : Items M) (t : Bool) (s : State) → cut_at_end M t s (xs ++ ys) ≡ cut_at_end M (cut_at_end M t s xs) (end_with M s xs) ys
   cut_append [] ys t s = refl
   cut_append (call c ∷ xs) ys t s = cut_append xs ys _ _
   cut_append (own_dump b ∷ xs) ys t s = cut_append xs ys _ _
@@ -113,11 +77,11 @@ module _ (M : Machine) where
   history_proper (c ∷ cs) t past s h = (h.0, history_proper cs _ _ _ h.1)
 
   pub append_history : (is : Items M) (cs : List Call) (s : State) → Proper M false [] s is
-      → ProperHistory M (cut_at_end false s is) (end_with M s is) cs → Proper M false [] s (is ++ map call cs)
+      → ProperHistory M (cut_at_end M false s is) (end_with M s is) cs → Proper M false [] s (is ++ map call cs)
   append_history is cs s p h = proper_append is (map call cs) false [] s p (history_proper cs _ _ _ h)
 
   -- where no call is ever cut these are any calls
-  module _ (never : NeverCut) where
+  module _ (never : NeverCut M) where
     never_after : (s : State) (c : Call) → cut_after M false (outcome_of M s c) ≡ false
     never_after s c = go (outcome_of M s c) refl
       where
@@ -126,7 +90,7 @@ module _ (M : Machine) where
         go refused e = refl
         go cut e = absurd (never s c e)
 
-    pub never_cut : (is : Items M) (s : State) → cut_at_end false s is ≡ false
+    pub never_cut : (is : Items M) (s : State) → cut_at_end M false s is ≡ false
     never_cut [] s = refl
     never_cut (call c ∷ is) s = rw (never_after s c) (never_cut is (step s c).1)
     never_cut (own_dump b ∷ is) s = never_cut is (step s (dump b)).1
@@ -161,8 +125,8 @@ module _ (M : Machine) where
     past_own_dump b past s ds d = inr (ap (λ κ. outdates M κ (outcome_of M s (dump b))) (L.dump_kind b), d)
 
     -- A COMPLETE DUMP STAYS COMPLETE across own dumps, rebuilds, and every call that does not outdate it
-    pub stays_complete : (is : Items M) (ds : Entries M) (past : Past M) (s : State) → NoneOutdates s is
-        → Complete M ds past → Complete M ds (past_after past s is)
+    pub stays_complete : (is : Items M) (ds : Entries M) (past : Past M) (s : State) → NoneOutdates M s is
+        → Complete M ds past → Complete M ds (past_after M past s is)
     stays_complete [] ds past s n d = d
     stays_complete (call c ∷ is) ds past s n d =
         stays_complete is ds (event M s c ∷ past) (step s c).1 n.1 (inr (n.0, d))
@@ -194,7 +158,7 @@ module _ (M : Machine) where
     permitted_order es ds (some o) d m = Permᴰ.trans d m.0
 
     reach : (is : Items M) (t : Bool) (past : Past M) (s : State) → Reached t past s → Proper M t past s is
-        → Reached (cut_at_end t s is) (past_after past s is) (end_with M s is)
+        → Reached (cut_at_end M t s is) (past_after M past s is) (end_with M s is)
     reach [] t past s r p = r
     reach (call c ∷ is) t past s r p =
         let i = r.invariant in
@@ -255,21 +219,21 @@ module _ (M : Machine) where
 
     -- FROM A STATE THAT IS REACHED
     module _ (s : State) (start : Invariant false s) where
-      pub reached : (is : Items M) → Proper M false [] s is → cut_at_end false s is ≡ false → Invariant false (end_with M s is)
+      pub reached : (is : Items M) → Proper M false [] s is → cut_at_end M false s is ≡ false → Invariant false (end_with M s is)
       reached is p u =
           let r = reach is false [] s (record { invariant = start; orders = λ ds d. absurd d }) p in
           subst (λ t. Invariant t (end_with M s is)) u r.invariant
 
       -- a dump of the history where it can be taken is complete, and holds the entries of the policy record
-      pub history_dump : (xs : Items M) (b : Buffer M) → Proper M false [] s xs → cut_at_end false s xs ≡ false → CanDump (end_with M s xs) b
-          → Complete M (entries (end_with M s xs)) (past_after [] s (xs ++ (call (dump b) ∷ [])))
+      pub history_dump : (xs : Items M) (b : Buffer M) → Proper M false [] s xs → cut_at_end M false s xs ≡ false → CanDump (end_with M s xs) b
+          → Complete M (entries (end_with M s xs)) (past_after M [] s (xs ++ (call (dump b) ∷ [])))
       history_dump xs b p u room =
           subst⁻¹ (Complete M (entries (end_with M s xs))) (past_append xs (call (dump b) ∷ []) [] s)
-          (own_dump_complete b (past_after [] s xs) (end_with M s xs) (reached xs p u) room)
+          (own_dump_complete b (past_after M [] s xs) (end_with M s xs) (reached xs p u) room)
 
       -- THE ENTRIES AFTER A REBUILD, in order or not, and calls: in the rebuild's order, and behind them what was registered later
       pub entries_after_rebuild : (xs : Items M) (ds : Entries M) (x : Order M) (cs : List Call) → Proper M false [] s (xs ++ (rebuild ds x ∷ []))
-          → cut_at_end false s xs ≡ false → ProperHistory M false (end_with M s (xs ++ (rebuild ds x ∷ []))) cs
+          → cut_at_end M false s xs ≡ false → ProperHistory M false (end_with M s (xs ++ (rebuild ds x ∷ []))) cs
           → NoneRestarts M (end_with M s (xs ++ (rebuild ds x ∷ []))) cs
           → entries (end M (end_with M s (xs ++ (rebuild ds x ∷ []))) cs)
           ≡ registered M ds x ++ registered_since M (end_with M s (xs ++ (rebuild ds x ∷ []))) cs
@@ -284,11 +248,11 @@ module _ (M : Machine) where
           ∙ ap (λ l. l ++ registered_since M (end_with M s (xs ++ (rebuild ds x ∷ []))) cs) (ap entries e ∙ L.relists i o)
 
       -- an own dump into any buffer may be inserted at any place
-      pub insert_dump : (xs ys : Items M) (b : Buffer M) → Proper M false [] s (xs ++ ys) → cut_at_end false s xs ≡ false
+      pub insert_dump : (xs ys : Items M) (b : Buffer M) → Proper M false [] s (xs ++ ys) → cut_at_end M false s xs ≡ false
           → Proper M false [] s (xs ++ (own_dump b ∷ ys))
       insert_dump xs ys b p u =
           let z = end_with M s xs in
-          let past = past_after [] s xs in
+          let past = past_after M [] s xs in
           let q = subst (λ t. Proper M t past z ys) u (proper_right xs ys false [] s p) in
           proper_append xs (own_dump b ∷ ys) false [] s (proper_left xs ys false [] s p) (
             u,
@@ -297,24 +261,24 @@ module _ (M : Machine) where
           )
 
       -- a rebuild in order from a complete dump of the entries as they stand may be inserted at any place
-      pub insert_rebuild : (xs ys : Items M) → Proper M false [] s (xs ++ ys) → cut_at_end false s xs ≡ false
-          → Complete M (entries (end_with M s xs)) (past_after [] s xs)
+      pub insert_rebuild : (xs ys : Items M) → Proper M false [] s (xs ++ ys) → cut_at_end M false s xs ≡ false
+          → Complete M (entries (end_with M s xs)) (past_after M [] s xs)
           → Proper M false [] s (xs ++ (rebuild (entries (end_with M s xs)) none ∷ ys))
       insert_rebuild xs ys p u d =
           let z = end_with M s xs in
-          let past = past_after [] s xs in
+          let past = past_after M [] s xs in
           let left = proper_left xs ys false [] s p in
           let q = subst (λ t. Proper M t past z ys) u (proper_right xs ys false [] s p) in
           proper_append xs (rebuild (entries z) none ∷ ys) false [] s left
           (subst⁻¹ (λ t. Proper M t past z (rebuild (entries z) none ∷ ys)) u (rebuild_first ys past z (reached xs left u) d q))
 
       -- and so may an own dump with room and the rebuild from it
-      pub insert_dump_rebuild : (xs ys : Items M) (b : Buffer M) → Proper M false [] s (xs ++ ys) → cut_at_end false s xs ≡ false
+      pub insert_dump_rebuild : (xs ys : Items M) (b : Buffer M) → Proper M false [] s (xs ++ ys) → cut_at_end M false s xs ≡ false
           → CanDump (end_with M s xs) b
           → Proper M false [] s (xs ++ (own_dump b ∷ rebuild (entries (end_with M s xs)) none ∷ ys))
       insert_dump_rebuild xs ys b p u room =
           let z = end_with M s xs in
-          let past = past_after [] s xs in
+          let past = past_after M [] s xs in
           let e = event M z (dump b) in
           let left = proper_left xs ys false [] s p in
           let i = reached xs left u in
@@ -327,33 +291,33 @@ module _ (M : Machine) where
           )
 
       -- a rebuild from any complete dump, in any permitted order, may stand behind a list
-      pub append_rebuild : (is : Items M) (ds : Entries M) (x : Order M) → Proper M false [] s is → cut_at_end false s is ≡ false
-          → Complete M ds (past_after [] s is) → Permitted M ds x → Proper M false [] s (is ++ (rebuild ds x ∷ []))
+      pub append_rebuild : (is : Items M) (ds : Entries M) (x : Order M) → Proper M false [] s is → cut_at_end M false s is ≡ false
+          → Complete M ds (past_after M [] s is) → Permitted M ds x → Proper M false [] s (is ++ (rebuild ds x ∷ []))
       append_rebuild is ds x p u d m = proper_append is (rebuild ds x ∷ []) false [] s p (u, d, m, tt)
 
       -- an own dump with room serves a rebuild at any later moment, in any permitted order, unless the history outdates it
       pub dump_now_rebuild_later : (xs ys : Items M) (b : Buffer M) (x : Order M) → Proper M false [] s (xs ++ ys)
-          → cut_at_end false s xs ≡ false → CanDump (end_with M s xs) b → NoneOutdates (end_with M s xs) ys
-          → cut_at_end false (end_with M s xs) ys ≡ false → Permitted M (entries (end_with M s xs)) x
+          → cut_at_end M false s xs ≡ false → CanDump (end_with M s xs) b → NoneOutdates M (end_with M s xs) ys
+          → cut_at_end M false (end_with M s xs) ys ≡ false → Permitted M (entries (end_with M s xs)) x
           → Proper M false [] s ((xs ++ (own_dump b ∷ ys)) ++ (rebuild (entries (end_with M s xs)) x ∷ []))
       dump_now_rebuild_later xs ys b x p u room n v m =
           let z = end_with M s xs in
-          let past = past_after [] s xs in
+          let past = past_after M [] s xs in
           let still = L.dump_leaves z b in
           let d = own_dump_complete b past z (reached xs (proper_left xs ys false [] s p) u) room in
           append_rebuild (xs ++ (own_dump b ∷ ys)) (entries z) x (insert_dump xs ys b p u)
-          (cut_append xs (own_dump b ∷ ys) false s ∙ ap (λ y. cut_at_end false y ys) still ∙ v)
+          (cut_append xs (own_dump b ∷ ys) false s ∙ ap (λ y. cut_at_end M false y ys) still ∙ v)
           (subst⁻¹ (Complete M (entries z)) (past_append xs (own_dump b ∷ ys) [] s)
           (stays_complete ys (entries z) (event M z (dump b) ∷ past) (step z (dump b)).1
-          (subst⁻¹ (λ y. NoneOutdates y ys) still n) d))
+          (subst⁻¹ (λ y. NoneOutdates M y ys) still n) d))
           m
 
       -- ONE REBUILD between two parts of a history, unless the first ends with a call that was cut
       pub one_rebuild_uncut : (cs₁ cs₂ : List Call) → ProperHistory M false s cs₁
-          → cut_at_end false s (map call cs₁) ≡ false → OneRebuild s cs₁ cs₂
+          → cut_at_end M false s (map call cs₁) ≡ false → OneRebuild M s cs₁ cs₂
       one_rebuild_uncut cs₁ cs₂ h u =
           let z = end M s cs₁ in
-          let r = rebuild_after s cs₁ in
+          let r = rebuild_after M s cs₁ in
           let i : Invariant false z =
           subst (Invariant false) (end_calls cs₁ s) (reached (map call cs₁) (history_proper cs₁ false [] s h) u) in
           let same = rebuild_same M Invariant L i in
@@ -366,5 +330,5 @@ module _ (M : Machine) where
           }
 
       -- and, where no call is ever cut, of any two lists of calls
-      pub one_rebuild : NeverCut → (cs₁ cs₂ : List Call) → OneRebuild s cs₁ cs₂
+      pub one_rebuild : NeverCut M → (cs₁ cs₂ : List Call) → OneRebuild M s cs₁ cs₂
       one_rebuild never cs₁ cs₂ = one_rebuild_uncut cs₁ cs₂ (any_history never cs₁ s) (never_cut never (map call cs₁) s)

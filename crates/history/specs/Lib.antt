@@ -1,3 +1,5 @@
 pub mod History
 pub mod StandingOrder
 pub mod MoreCalls
+pub mod AtEach
+pub mod AnyMoment

@@ -21,6 +21,7 @@ use Rattle.rules.specs.Engine.Call.{power_on, restart, register, dump, lock, dis
 use Rattle.rules.proofs.EngineLaws.{step_status, refused_changes_nothing, granted_effect}
 use Rattle.rules.proofs.StateLaws.{register_passed}
 use Rattle.rules.specs.Grounds.{Not, RecordOf, Enforced, Applies, Answers}
+use Rattle.rules.specs.SettledStays.{EnabledLocked, Lasts, yes, Yes}
 use Rattle.rules.specs.Grounds.Applies.{set_locked, set_deleted, set_empty_append, set_done}
 use Rattle.rules.proofs.FoundLaws.{tells_sound}
 use Rattle.rules.proofs.SetGroundsLaws.{chosen_entry, tells_locks}
@@ -29,20 +30,6 @@ use Rattle.rules.proofs.GroundsLaws.{status_exactly}
 use Rattle.rules.proofs.EffectsLaws.{same_found}
 use Rattle.rules.proofs.ExitLaws.{is_start, GoesOn}
 use Rattle.rules.proofs.SettledLaws.{chosen_for, chosen_formed, settled_locks, settled_moves}
-
--- ---- what is claimed
-
--- the stores sound, the record valid, the engine enabled and locked
-pub record EnabledLocked (s : State) : Type 0 where
-  pub stores : sound s.nv s.vol ≡ true
-  pub policy : policy_valid s.policy ≡ true
-  pub enabled : s.switches.enabled ≡ true
-  pub locked : s.switches.locked ≡ true
-
--- the variable has in t the record that it has in s, byte for byte, or none in both; and it is settled in t
-pub record Lasts (s t : State) (v : Variable) : Type 0 where
-  pub stands : (q : Bytes) → RecordOf s v q ↔ RecordOf t v q
-  pub settled : is_settled t v ≡ true
 
 pub lasts_more : (s t u : State) (v : Variable) → Lasts s t v → Lasts t u v → Lasts s u v
 lasts_more s t u v a b =
@@ -146,17 +133,6 @@ pub entries_last : (s : State) (c : Call) → EnabledLocked s → GoesOn s c →
 entries_last s c h n = (step_keeps s c h n).policy
 
 -- ---- by the call's own answer
-
--- yes
-abbrev pub yes : Answer
-yes = answer_of Success 1 [] none
-
--- what a yes says of the state
-pub record Yes (s : State) (v : Variable) : Type 0 where
-  pub stores : sound s.nv s.vol ≡ true
-  pub policy : policy_valid s.policy ≡ true
-  pub called : named v ≡ true
-  pub settled : is_settled s v ≡ true
 
 pub yes_says : (s : State) (v : Variable) → (step s (settled v)).0 ≡ yes → Yes s v
 unfolding step settled_status ◌and◌

@@ -8,3 +8,4 @@ pub mod Phases
 pub mod Effects
 pub mod Opened
 pub mod BeforeExit
+pub mod SettledStays
