@@ -23,7 +23,7 @@ use Rattle.rules.specs.Engine.{State, Answer, Call}
 use Rattle.rules.specs.Engine.Call.{power_on, dump}
 use Rattle.rules.proofs.EngineLaws.{step_status}
 use Rattle.rules.proofs.StateLaws.{passed, power_on_sound}
-use Rattle.history.specs.History.{Items, Order, Past, Complete, DumpOf, Unambiguous, Permitted, Proper, Demand3, end_with, registered}
+use Rattle.history.specs.History.{Items, Order, Past, Complete, DumpOf, Unambiguous, Permitted, Proper, end_with, registered}
 use Rattle.history.specs.History.ItemOf.{call, own_dump, rebuild}
 use Rattle.history.proofs.AnyMoment as moment
 use Rattle.demand3.specs.Machine.{outcome_by, CanDumpInto, machine}

@@ -12,7 +12,7 @@ use Rattle.rules.specs.Engine.{State, Call, Answer, step}
 use Rattle.rules.specs.Engine.Call.{power_on, dump, settled}
 use Rattle.rules.specs.Grounds.{RecordOf}
 use Rattle.rules.specs.SettledStays.{yes}
-use Rattle.history.specs.History.{Items, Entries, Order, outcome_of, end, end_with, answers_with, answers_in_order, answer_by, rebuilding, registered, history, order_after, order_rebuilt, standing_order, state_by}
+use Rattle.history.specs.History.{Items, Entries, Order, outcome_of, end, end_with, answers_with, answers_in_order, answer_by, rebuilding, registered, history, order_after, order_rebuilt, standing_order}
 use Rattle.history.specs.History.ItemOf.{call, own_dump, rebuild}
 use Rattle.history.specs.StandingOrder.{NoneRestarts}
 use Rattle.demand3.specs.Machine.{kind_of, machine}

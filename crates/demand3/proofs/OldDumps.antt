@@ -1,35 +1,34 @@
 -- DUMPS OF EARLIER EDITIONS (RULES.md, 12.8): of the entries of each of their policy records, registered in order after a power-on that answered 0,
 -- exactly those with '#' in the trigger's name are refused. Assumes nothing but that the power-on answered 0.
-use Rattle.std.specs.Prelude.{ℕ, ◌≤◌, ◌≡◌, refl, List, [], ◌∷◌, ◌++◌, map, Bool, true, false, not, ◌↔◌, length}
+use Rattle.std.specs.Prelude.{ℕ, ◌≡◌, refl, List, [], ◌∷◌, ◌++◌, map, Bool, true, false, not, ◌↔◌, length}
 use Rattle.std.proofs.Common.{sym, ap, subst, ◌∙◌, append-nil, arith, le-leb}
 use Rattle.std.proofs.Math.Path.{subst⁻¹}
-use Rattle.std.proofs.lemmas.Bool.{false≢true, not-true}
-use Rattle.std.proofs.Math.Option.{none}
+use Rattle.std.proofs.lemmas.Bool.{not-true}
 use Rattle.limits.specs.Limits.{max_entries, policy_bytes}
 use Rattle.limits.specs.FirstEdition.{first_max_entries, first_policy_bytes}
-use Rattle.lists.specs.Lists.{All, nil, more}
+use Rattle.lists.specs.Lists.{All}
 use Rattle.lists.proofs.ListsLaws.{all_left, all_right, all_here, all_map}
 use Rattle.slices.proofs.TestLaws.{and_left, and_right}
-use Rattle.slices.specs.Bytes.{Bytes, overwrite}
-use Rattle.slices.specs.Chunks.{flat, chunks, contains}
+use Rattle.slices.specs.Bytes.{Bytes}
+use Rattle.slices.specs.Chunks.{flat, chunks}
 use Rattle.entry.specs.FirstEdition.{first_well_formed, sign_in_trigger}
 use Rattle.entry.proofs.FirstEditionLaws.{first_header, since_first}
 use Rattle.policy.specs.Policy.{length_by, entries_of, pack_policy, valid_within, policy_valid}
 use Rattle.policy.proofs.PolicyLaws.{WellFormed, Entries, valid_packs, packs_policy, packs_only, chunks_pack, flat_unique, policy_entries}
 use Rattle.status.specs.Status.{is_success}
-use Rattle.status.specs.declared.Status.TheVariants.{Success, VolumeCorrupted}
-use Rattle.rules.specs.Engine.{State, Call, Answer, state_of, answer_of, uses, dump_status, effect, step}
-use Rattle.rules.specs.Engine.Call.{power_on, register, dump}
+use Rattle.status.specs.declared.Status.TheVariants.{VolumeCorrupted}
+use Rattle.rules.specs.Engine.{State, Call, Answer, state_of, uses, dump_status, effect, step}
+use Rattle.rules.specs.Engine.Call.{power_on, register}
 use Rattle.rules.specs.Grounds.{PolicyEntries}
 use Rattle.rules.proofs.FoundLaws.{entries_packs, packs_entries}
-use Rattle.rules.proofs.EngineLaws.{granted_effect, other_length_corrupted, invalid_corrupted}
-use Rattle.history.specs.History.{answers, end, AllGranted}
+use Rattle.rules.proofs.EngineLaws.{granted_effect, other_length_corrupted}
+use Rattle.history.specs.History.{end}
 use Rattle.demand3.specs.Machine.{machine}
 use Rattle.demand3.proofs.MachineLaws.{with_entries, registers_run}
 use Rattle.demand3.proofs.OrderLaws.{entries_left}
 use Rattle.demand3.specs.Demand3.{powered_on}
 use Rattle.demand3.specs.OldDumps.{Registrations, AllRegister, DumpsBack}
-use Rattle.demand3.specs.OldEntries.{Earlier, first, larger, OldEntries, answer_to, without_signs}
+use Rattle.demand3.specs.OldEntries.{Earlier, first, larger, OldEntries, without_signs}
 use Rattle.demand3.proofs.OldEntriesLaws.{Formed, formed_since, without_append, without_entries, without_all, register_refused, registers}
 
 -- every record that an earlier edition took as valid has such entries

@@ -2,7 +2,7 @@
 -- state, kind by kind as the register or set that it makes. Nothing is assumed but that the power-on answered 0.
 use Rattle.std.specs.Prelude.{◌≡◌, refl, Bool, true, false, cond, ℕ}
 use mathlib.Core.List.{List, [], ◌∷◌, ◌++◌, map, Permᴰ}
-use Rattle.std.proofs.Math.Option.{Option, none, some}
+use Rattle.std.proofs.Math.Option.{none, some}
 use Rattle.std.proofs.Common.{arith}
 use Rattle.slices.specs.Bytes.{Bytes}
 use Rattle.policy.specs.Policy.{entries_of, policy_valid}
@@ -11,15 +11,15 @@ use Rattle.status.specs.Status.{is_success}
 use Rattle.rules.specs.Engine as rules
 use Rattle.rules.specs.Engine.{State, Call, only_status, step}
 use Rattle.rules.specs.Engine.Call.{power_on, register, set}
-use Rattle.rules.specs.Phases.{end_of_dxe_name, ready_to_boot_name, flag_entry, lock_entry, flag, lockable, lock_step, PhaseCall, phase_step}
+use Rattle.rules.specs.Phases.{lock_entry, lockable, lock_step, PhaseCall, phase_step}
 use Rattle.rules.specs.Phases.PhaseCall.{phase_policy, write_once_policy, lock_variable, end_of_dxe, ready_to_boot, exit_flag}
-use Rattle.history.specs.History.{Machine, Items, Proper, Demand3, outcome_of, end_with}
+use Rattle.history.specs.History.{Items, Proper, Demand3, outcome_of, end_with}
 use Rattle.history.specs.History.Outcome.{refused, cut}
 use Rattle.history.specs.History.ItemOf.{call, own_dump, rebuild}
 use Rattle.history.proofs.AnyMoment as moment
 use Rattle.history.proofs.HistoryLaws as general
 use Rattle.history.proofs.HistoryLaws.{Laws}
-use Rattle.history.specs.MoreCalls.{CallOr, GivenBy, Makes, step_of, with_more}
+use Rattle.history.specs.MoreCalls.{GivenBy, Makes, step_of}
 use Rattle.history.proofs.MoreCallsLaws.{more_laws}
 use Rattle.demand3.specs.Machine.{state_in, outcome_by, CanDumpInto, machine}
 use Rattle.demand3.proofs.MachineLaws.{Reached, laws}

@@ -1,7 +1,7 @@
 -- EVERY ORDER (RULES.md, 10.11 and 12.4): what is claimed of the checker's answer and of a list that ends with a rebuild in another order.
 -- Assumes nothing: these are definitions.
 use Rattle.std.specs.Prelude.{◌≡◌, Bool, true, ◌↔◌, take}
-use mathlib.Core.List.{List, ◌∷◌, ◌++◌, map}
+use mathlib.Core.List.{List, ◌++◌, map}
 use Rattle.slices.specs.Bytes.{Bytes}
 use Rattle.policy.specs.Policy.{entries_of}
 use Rattle.quarrels.specs.declared.Verdict.TheVariants.{NoDump, NoQuarrel}

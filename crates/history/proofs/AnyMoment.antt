@@ -10,7 +10,7 @@ use Rattle.history.specs.History.{Outcome, Kind, Machine, Buffer, Entry, Entries
 use Rattle.history.specs.History.Outcome.{granted, refused, cut}
 use Rattle.history.specs.History.Kind.{starts, registers, dumps, keeps}
 use Rattle.history.specs.History.ItemOf.{call, own_dump, rebuild}
-use Rattle.history.specs.History.{outcome_of, answers, end, AllGranted, rebuilding, registered, end_with}
+use Rattle.history.specs.History.{outcome_of, answers, end, rebuilding, registered, end_with}
 use Rattle.history.specs.History.{event, outdates, Complete, Permitted, cut_after, ProperHistory, Proper, entries_after}
 use Rattle.history.specs.StandingOrder.{restarts, NoneRestarts, registered_by, registered_since}
 use Rattle.history.specs.AnyMoment.{cut_at_end, past_after, NoneOutdates, NeverCut, rebuild_after, OneRebuild}

@@ -1,10 +1,10 @@
 -- The order that stands (RULES.md, 12.4): after a rebuild in another order, or in order where another stood, and calls of the
 -- history of which none is a granted start, it is the order in which the rebuild registered, and what is registered later
 -- stands behind it; a granted start ends it. Assumes nothing.
-use Rattle.std.specs.Prelude.{◌≡◌, refl, List, [], ◌∷◌, ◌++◌, map, Bool, true, false}
+use Rattle.std.specs.Prelude.{◌≡◌, refl, List, [], ◌∷◌, ◌++◌, map, false}
 use Rattle.std.proofs.Common.{sym, ◌∙◌, ap, ap₂, append_assoc, append-nil, true≢false}
 use Rattle.std.proofs.Math.Option.{none, some}
-use Rattle.history.specs.History.{Outcome, Kind, Machine, Entry, Entries, Items, Order, if_granted}
+use Rattle.history.specs.History.{Outcome, Kind, Machine, Entry, Entries, Items, Order}
 use Rattle.history.specs.History.Outcome.{granted, refused, cut}
 use Rattle.history.specs.History.Kind.{starts, registers, dumps, keeps}
 use Rattle.history.specs.History.ItemOf.{call, own_dump, rebuild}

@@ -14,7 +14,7 @@ use Rattle.rules.specs.Phases.{flag_entry, lock_entry, lockable, lock_step}
 use Rattle.rules.specs.Phases.PhaseCall.{phase_policy, write_once_policy, end_of_dxe, ready_to_boot, exit_flag}
 use Rattle.rules.specs.Opened.{rules_opened}
 use Rattle.readings.specs.Readings.{board, Holds, A, Tells, readings, reports, Answers, by_entry, by_link, by_links, how_long, settled_readings, chain_from, all_hold, first_of_chain, P, W, AnyCall, answers, AnswersAny, locking, written, flagged, older_lock, phase_readings}
-use Rattle.readings.specs.Readings.AnyCall.{engine, phase}
+use Rattle.readings.specs.Readings.AnyCall.{phase}
 
 -- P of each of a list, as a tuple: no part of it is a blank while it is computed
 abbrev Each : (List Call × List ℕ → Type 0) → List (List Call × List ℕ) → Type 0
