@@ -35,6 +35,8 @@ use Rattle.demand3.proofs.OldEntriesLaws.{Formed, formed_since, without_append, 
 pub old_valid : (most bytes : ℕ) (p : Bytes) → valid_within first_well_formed most bytes p ≡ true → OldEntries most bytes p (chunks (length_by first_well_formed) p)
 old_valid most bytes p v = packs_entries p (chunks (length_by first_well_formed) p) (valid_packs first_well_formed most bytes p v)
 
+-- ---- what registering them does
+
 dumps_back : (t : State) (es : List Bytes) → t.switches.exited ≡ false → PolicyEntries t.policy es → DumpsBack t es
 unfolding step dump_status
 dumps_back t es x w buffer room =

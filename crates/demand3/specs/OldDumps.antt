@@ -13,6 +13,8 @@ use Rattle.history.specs.History.{answers, end, AllGranted}
 use Rattle.demand3.specs.Machine.{machine}
 use Rattle.demand3.specs.OldEntries.{answer_to, without_signs}
 
+-- ---- what registering them does
+
 -- in the state t the registrations of es, one after the other
 pub record Registrations (t : State) (es : List Bytes) : Type 0 where
   -- exactly those with '#' in the trigger's name answer 2, all others 0
