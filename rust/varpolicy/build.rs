@@ -14,7 +14,7 @@ fn main() {
     println!("cargo::rerun-if-changed={}", archive.display());
     if !archive.is_file() {
         println!(
-            "cargo::error={} is missing: run `rt staticlib varpolicy` at the root of the repository first",
+            "cargo::error={} is missing: run `rust/archives varpolicy` at the root of the repository first",
             archive.display()
         );
         return;
