@@ -1,2 +1,4 @@
 pub mod Texts
+pub mod Readings
 pub mod Sizes
+pub mod Runs

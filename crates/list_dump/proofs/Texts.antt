@@ -1,21 +1,21 @@
--- A line is made by putting one text behind the other, and what io makes of a number is `decimal`. Assumes nothing.
+-- A line is made by putting one text behind the other, and what itoa makes of a number is `decimal`. Assumes nothing.
 use mathlib.Core.Path.{◌≡◌, refl, sym, ap, subst, ◌∙◌}
 use mathlib.Core.List.{[], ◌∷◌, ◌++◌, append_assoc}
 use mathlib.Core.Bool.{Bool, true, false}
-use lib.Dec.{leb}
-use Prim.Native.Nat.{ℕ, zero, suc, ◌+◌, ◌-◌, ◌/◌, ◌%◌, ◌^◌, ◌≤◌, ◌<◌}
+use lib.Dec.{ltb}
+use Prim.Native.Nat.{ℕ, zero, suc, ◌+◌, ◌/◌, ◌%◌, ◌^◌, ◌≤◌, ◌<◌}
 use native.Mathlib.Omega.{arith}
-use native.Mathlib.Nat.{pow-suc, one-le-pow, pow-le-pow_right, zero-lt-suc}
-use borrow.Author.Tests.{eq-eqb, ne_eqb, lt-ltb, le-ltb, leb-true, leb-false}
+use native.Mathlib.Nat.{pow-suc}
+use borrow.Author.Tests.{eq-eqb, ne_eqb, lt-ltb, le-ltb, ltb-true, ltb-false}
 use lib.ListN.{length, take, drop, length-append, length-take}
 use lib.Seq.{take_at}
 use Rattle.limits.specs.Limits.{whole_namespace_rank}
 use Rattle.slices.specs.Bytes.{Bytes, overwrite}
 use Rattle.slices.proofs.OverwriteLaws.{length_overwrite}
-use Rattle.io.specs.Counts.{IsPrefixLen}
-use Rattle.io.specs.Digits.{hex_digit_ascii, last_digits, IsDigitCount}
+use Rattle.std.specs.Fmt.{decimal as printed}
+use Rattle.std.proofs.lemmas.Fmt.{decimal_digit, decimal_step, length-decimal-le}
 use Rattle.reader.specs.declared.Verdict.{Verdict}
-use Rattle.list_dump.specs.Lines.{ascii, decimal_within, decimal, field, marks, entry_line, closing_line, Put}
+use Rattle.list_dump.specs.Lines.{ascii, digit, decimal_within, decimal, field, marks, entry_line, closing_line, IsPrefixLen, Put}
 
 -- a text copied into the line is put there
 pub put_copied : {a : Bytes} (b : Bytes) (n : ℕ) (t : Bytes) → n + length t ≤ length b → a ≡ overwrite b n t → Put b n t a (n + length t)
@@ -31,47 +31,30 @@ put_copied b n t h e =
 pub put_same : (a b : Bytes) (n r : ℕ) (t u : Bytes) → t ≡ u → Put b n t a r → Put b n u a r
 put_same a b n r t u e p = subst (λ (x : Bytes). Put b n x a r) e p
 
--- the digits of a number, of which there are k and no fewer would do
-last_digit : (m n : ℕ) → n < 10 → hex_digit_ascii (n % 10) ∷ [] ≡ decimal_within (suc m) n
+-- what std prints of a number with at most m digits
+last_digit : (m n : ℕ) → n < 10 → printed n ≡ decimal_within (suc m) n
 unfolding decimal_within
-last_digit m n h = let e : n % 10 ≡ n = omega arith in rw (e, lt-ltb n 10 h) refl
+last_digit m n h = rw (lt-ltb n 10 h) (decimal_digit n h)
 
-more_digits : (m n : ℕ) → 10 ≤ n → decimal_within m (n / 10) ++ (hex_digit_ascii (n % 10) ∷ []) ≡ decimal_within (suc m) n
+more_digits : (m n : ℕ) → 10 ≤ n → n < 2 ^ 64 → printed (n / 10) ≡ decimal_within m (n / 10) → printed n ≡ decimal_within (suc m) n
 unfolding decimal_within
-more_digits m n h = rw (le-ltb n 10 h) refl
+more_digits m n h k e = rw (le-ltb n 10 h) (decimal_step n h k ∙ ap (λ (l : Bytes). l ++ (digit (n % 10) ∷ [])) e)
 
-pub decimal_is : (m k n : ℕ) → k ≤ m → IsDigitCount 10 1 n k → last_digits 10 k n ≡ decimal_within m n
-decimal_is m zero n h f = absurd (omega (arith, f.0))
-decimal_is zero (suc k) n h f = absurd (omega arith)
-decimal_is (suc m) (suc zero) n h f = last_digit m n f.1
-decimal_is (suc m) (suc (suc k)) n h f =
-    let p = pow-suc 10 k in
-    let q = pow-suc 10 (suc k) in
-    let o = one-le-pow k 10 (zero-lt-suc 9) in
-    let e : k ≡ suc k - 1 = omega arith in
-    let g : suc (suc k) - 1 ≡ suc k = omega arith in
-    let low : 10 ^ suc k ≤ n = subst (λ (j : ℕ). 10 ^ j ≤ n) g (f.2 (omega arith)) in
-    let below : n / 10 < 10 ^ suc k = omega (arith, f.1) in
-    let least : 10 ^ k ≤ n / 10 = omega arith in
-    rw (decimal_is m (suc k) (n / 10) (omega arith) (omega arith, below, λ _. subst (λ (j : ℕ). 10 ^ j ≤ n / 10) e least)) (more_digits m n (omega arith))
-
--- no number of 64 bits has more than 20
-pub few_digits : (n k : ℕ) → n < 2 ^ 64 → IsDigitCount 10 1 n k → k ≤ 20
-few_digits n k h f = go (leb k 20) refl
+pub decimal_is : (m n : ℕ) → n < 10 ^ suc m → n < 2 ^ 64 → printed n ≡ decimal_within (suc m) n
+decimal_is zero n h k = last_digit zero n (omega arith)
+decimal_is (suc m) n h k =
+    let p = pow-suc 10 (suc m) in
+    go (ltb n 10) refl (decimal_is m (n / 10) (omega arith) (omega arith))
   where
-    go : (b : Bool) → leb k 20 ≡ b → k ≤ 20
-    go true e = leb-true k 20 e
-    go false e =
-        let l = leb-false k 20 e in
-        let p : 10 ^ 20 ≤ 10 ^ (k - 1) = pow-le-pow_right (zero-lt-suc 9) {i = 20} {j = k - 1} (omega arith) in
-        absurd (omega (arith, f.2 (omega arith)))
+    go : (b : Bool) → ltb n 10 ≡ b → printed (n / 10) ≡ decimal_within (suc m) (n / 10) → printed n ≡ decimal_within (suc (suc m)) n
+    go true e f = last_digit (suc m) n (ltb-true n 10 e)
+    go false e f = more_digits (suc m) n (ltb-false n 10 e) k f
 
--- what `io::decimal` made was put
-pub put_decimal : (a b t : Bytes) (n k v r : ℕ) → v < 2 ^ 64 → IsDigitCount 10 1 v k → k ≡ length t → t ≡ last_digits 10 k v → Put b n t a r
-    → Put b n (decimal v) a r × (r ≤ n + 20)
-put_decimal a b t n k v r h f l e p =
-    let m = few_digits v k h f in
-    (put_same a b n r t (decimal v) (e ∙ decimal_is 20 k v m f) p, omega (arith, p.0))
+-- what was made of a number was put
+pub put_decimal : (a b t : Bytes) (n v r : ℕ) → v < 2 ^ 64 → t ≡ printed v → Put b n t a r → Put b n (decimal v) a r × (r ≤ n + 20)
+put_decimal a b t n v r h e p =
+    let l = length-decimal-le 20 v (omega arith) (omega arith) h in
+    (put_same a b n r t (decimal v) (e ∙ decimal_is 19 v (omega arith) h) p, omega (arith, p.0, ap length e))
 
 -- one text was put behind the other
 pub put_two : (a b c t u : Bytes) (n m r : ℕ) → Put b n t a m → Put a m u c r → Put b n (t ++ u) c r

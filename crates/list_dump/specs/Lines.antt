@@ -1,10 +1,9 @@
 -- The lines that the program writes, as bytes. Assumes nothing: these are definitions.
-use Rattle.std.specs.Prelude.{ℕ, zero, suc, ◌+◌, ◌/◌, ◌%◌, [], ◌∷◌, ◌++◌, cond, ◌≡◌, length, take, eqb, ltb}
+use Rattle.std.specs.Prelude.{ℕ, zero, suc, ◌+◌, ◌/◌, ◌%◌, ◌≤◌, [], ◌∷◌, ◌++◌, cond, ◌≡◌, length, take, eqb, ltb}
 use Prim.Native.Char.{code}
 use Prim.Native.String.{String, [] as end, ◌∷◌ as ◌then◌}
 use Rattle.limits.specs.Limits.{whole_namespace_rank}
 use Rattle.slices.specs.Bytes.{Bytes}
-use Rattle.io.specs.Digits.{hex_digit_ascii}
 use Rattle.reader.specs.declared.Verdict.{Verdict}
 
 -- a text in ASCII
@@ -12,10 +11,14 @@ abbrev pub ascii : String → Bytes
 ascii end = []
 ascii (c then s) = code c ∷ ascii s
 
+-- the ASCII code of a decimal digit
+abbrev pub digit : ℕ → ℕ
+digit d = 48 + d
+
 -- the decimal digits of a number, as few as it takes, the highest first; of a number with more than k digits the last k
 unfoldable pub decimal_within : ℕ → ℕ → Bytes
 decimal_within zero n = []
-decimal_within (suc k) n = cond (ltb n 10) (hex_digit_ascii n ∷ []) (decimal_within k (n / 10) ++ (hex_digit_ascii (n % 10) ∷ []))
+decimal_within (suc k) n = cond (ltb n 10) (digit n ∷ []) (decimal_within k (n / 10) ++ (digit (n % 10) ∷ []))
 
 -- no number of 64 bits has more than 20
 abbrev pub decimal : ℕ → Bytes
@@ -43,3 +46,7 @@ closing_line v =
 -- text was put behind the first n bytes of a line, which then begins with r bytes that are known
 abbrev pub Put : Bytes → ℕ → Bytes → Bytes → ℕ → Type 0
 Put before n text after r = (r ≡ n + length text) × (length after ≡ length before) × (take r after ≡ take n before ++ text)
+
+-- xs has n bytes to begin with
+abbrev pub IsPrefixLen : ℕ → Bytes → Type 0
+IsPrefixLen n xs = (n ≤ length xs) × (n ≡ length (take n xs))

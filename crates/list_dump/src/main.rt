@@ -2,19 +2,31 @@
 // `entries N bytes M`, or `bad at N` with the first byte of the first entry that is not good. Behind such an entry nothing more is read.
 //
 // A read that fails is told on standard error: the lines so far stay, and no closing line follows, since nothing is known of the rest. A write that
-// fails is told there too and ends the program; where the system ends it at a pipe that nobody reads any more, it says nothing. There is no exit
-// status but 0: whether all is well is what the last line says.
+// fails is told there too and ends the program, also at a pipe that nobody reads any more. The exit status is 0 in every case: whether all is well is
+// what the last line says.
 #![tactic(auto)]
 
-ghost use Rattle.std.specs.Prelude.{◌≡◌, ◌++◌, ◌+◌, ◌≤◌, length, take};
-ghost use Rattle.io.specs.Counts.{IsPrefixLen};
-ghost use Rattle.list_dump.specs.Lines.{ascii, decimal, marks, entry_line, closing_line, Put};
+ghost use Rattle.std.specs.Prelude.{◌≡◌, ◌++◌, ◌+◌, ◌<◌, ◌≤◌, List, length, take, IfOk, IfErr, OnOk, IfSome, []};
+ghost use Rattle.std.specs.Io.KnownBytes.{Appends, Consumes};
+ghost use Rattle.limits.specs.Limits.{max_piece};
+ghost use Rattle.slices.specs.Bytes.{Bytes};
+ghost use Rattle.reader.specs.declared.Listing.{Listing};
+ghost use Rattle.reader.specs.Pieces.{HandsOut};
+ghost use Rattle.reader.specs.HasRead.{HasRead};
+ghost use Rattle.list_dump.specs.Lines.{ascii, decimal, marks, entry_line, closing_line, IsPrefixLen, Put};
+ghost use Rattle.list_dump.specs.Runs.{listing_lines, entry_lines, dump_lines, Took, IsDone, AfterTurn, OnInput};
 
-use libc::{STDIN_FILENO, STDOUT_FILENO};
+use arrayvec::ArrayString;
 use reader::{Listing, READER_BYTES, Verdict};
+use std::fmt::Write as _;
+use std::io::{Read, Write};
+use std::{fmt, io};
 
 // Room for a line: the longest has four numbers of at most 20 digits and 20 other bytes.
 const LINE: usize = 128;
+
+// The most bytes that are read at once.
+const PIECE: usize = 4096;
 
 // Puts text behind the first n bytes of a line, and answers how many there are then.
 fn put(line: &mut [u8], n: usize, text: &[u8]) -> usize
@@ -31,9 +43,8 @@ fn put_number(line: &mut [u8], n: usize, value: u64) -> usize
     ensures put { Put line.old n (decimal value) line.new result }
     ensures bound { result ≤ n + 20 }
 {
-    let mut digits = [0u8; 20];
-    let k = io::decimal(value, &mut digits);
-    put(line, n, &digits[..k])
+    let mut digits = itoa::Buffer::new();
+    put(line, n, digits.format(value).as_bytes())
 }
 
 // A word and a number behind it.
@@ -86,102 +97,156 @@ fn put_closing(line: &mut [u8], v: Verdict) -> usize
     put(line, n, b"\n")
 }
 
-// Writes a line, by one call where the system takes it whole; answers whether that was done, and tells where it was not.
-fn write_line(line: &[u8]) -> bool {
-    let is_written = io::write_all(STDOUT_FILENO, line);
-    if !is_written {
-        os::fail(b"standard output");
-    }
-    is_written
+// What failed, with the system's reason.
+#[derive(Debug, Drop)]
+enum Failure {
+    Input(io::Error),
+    Output(io::Error),
 }
 
-fn write_entry(index: u64, size: u32, lock: u32, rank: u32) -> bool {
+// An error's text without its number, which std puts behind it in brackets.
+fn reason(text: &str) -> &str {
+    match text.split_once(" (os error ") {
+        Some((reason, _)) => reason,
+        None => text,
+    }
+}
+
+impl fmt::Display for Failure {
+    fn fmt<W: fmt::Write>(&self, f: &mut fmt::Formatter<W>) -> fmt::Result {
+        let mut text = ArrayString::<256>::new();
+        match self {
+            Failure::Input(error) => write!(text, "standard input: {error}")?,
+            Failure::Output(error) => write!(text, "standard output: {error}")?,
+        }
+        f.write_str(reason(text.as_str()))
+    }
+}
+
+// Writes the line of an entry.
+fn write_entry<W: Write>(
+    output: &mut W,
+    index: u64,
+    size: u32,
+    lock: u32,
+    rank: u32,
+) -> io::Result<()>
+    ensures { OnOk result (Appends (W.contents output.old) (W.contents output.new) (entry_line index size lock rank)) }
+{
     let mut line = [0u8; LINE];
     let n = put_entry(&mut line, index, size, lock, rank);
-    write_line(&line[..n])
+    output.write_all(&line[..n])
 }
 
-fn write_closing(v: Verdict) -> bool {
+// Writes the last line.
+fn write_closing<W: Write>(output: &mut W, v: Verdict) -> io::Result<()>
+    ensures { OnOk result (Appends (W.contents output.old) (W.contents output.new) (closing_line v)) }
+{
     let mut line = [0u8; LINE];
     let n = put_closing(&mut line, v);
-    write_line(&line[..n])
+    output.write_all(&line[..n])
 }
 
-// Writes the lines of the good entries from byte from of the dump on, of which the first is entry index; answers whether all were written.
-fn list_entries(reader: &[u8; READER_BYTES], index: u32, from: u32) -> bool {
+// Writes the lines of the good entries from byte from of the dump on, of which the first is entry index.
+fn list_entries<W: Write>(
+    output: &mut W,
+    reader: &[u8; READER_BYTES],
+    index: u32,
+    from: u32,
+) -> io::Result<()>
+    ensures { OnOk result ((ls : List Listing) → HandsOut reader.now from ls
+        → Appends (W.contents output.old) (W.contents output.new) (listing_lines index ls)) }
+{
     let to = reader::verdict_of(reader).bytes as usize;
     let mut i = index as u64;
     let mut at = from as usize;
     while at < to {
         match reader::listing_at(reader, at) {
             Listing::Entry { size, lock, rank } => {
-                if !write_entry(i, size, lock, rank) {
-                    return false;
-                }
+                write_entry(output, i, size, lock, rank)?;
                 i += 1;
                 at += size as usize;
             }
             Listing::NoEntry => {
-                return true;
+                return Ok(());
             }
         }
     }
-    true
+    Ok(())
 }
 
-#[derive(Clone, Copy)]
 enum Turn {
     More,
     End,
-    Failed,
 }
 
 // Reads once, feeds what came, and writes the lines of the entries that are good since.
-fn read_piece(reader: &mut [u8; READER_BYTES], buffer: &mut [u8]) -> Turn {
-    let got = libc::read(STDIN_FILENO, buffer);
-    if got < 0 {
-        os::fail(b"standard input");
-        return Turn::Failed;
+fn read_piece<R: Read, W: Write>(
+    input: &mut R,
+    output: &mut W,
+    reader: &mut [u8; READER_BYTES],
+    buffer: &mut [u8],
+) -> Result<Turn, Failure>
+    ensures ok { IfOk result (λ turn. (d : Bytes) → HasRead reader.old d → 0 < length buffer.old → length buffer.old ≤ max_piece
+        → (p : Bytes) × Took d p (R.remaining input.old) (R.remaining input.new) (W.contents output.old) (W.contents output.new) reader.new
+        × AfterTurn turn d p (R.remaining input.new)) }
+    ensures unread { IfErr result (λ failure. OnInput failure ((d : Bytes) → HasRead reader.old d
+        → Took d [] (R.remaining input.old) (R.remaining input.new) (W.contents output.old) (W.contents output.new) reader.new)) }
+{
+    let n = input.read(buffer).map_err(Failure::Input)?;
+    if n == 0 {
+        return Ok(Turn::End);
     }
-    if got == 0 {
-        return Turn::End;
-    }
-    let n = io::count(got, buffer);
     let before = reader::verdict_of(reader);
     reader::feed(reader, &buffer[..n]);
-    if !list_entries(reader, before.entries, before.bytes) {
-        return Turn::Failed;
-    }
+    list_entries(output, reader, before.entries, before.bytes).map_err(Failure::Output)?;
     if reader::verdict_of(reader).ended {
-        return Turn::End;
+        return Ok(Turn::End);
     }
-    Turn::More
+    Ok(Turn::More)
 }
 
-// Reads to the end, or to a bad entry; answers whether no read and no write failed. Each piece has a byte, and a dump with more than POLICY_BYTES is
-// bad: there are no more turns than that.
-fn read_all(reader: &mut [u8; READER_BYTES]) -> bool {
-    let mut buffer = io::buffer();
-    let mut turns = limits::POLICY_BYTES + 1;
-    while 0 < turns {
-        match read_piece(reader, &mut buffer) {
+// Reads to the end, or to a bad entry. Each piece has a byte, and a dump with more than POLICY_BYTES is bad: there are no more turns than that.
+fn read_all<R: Read, W: Write>(
+    input: &mut R,
+    output: &mut W,
+    reader: &mut [u8; READER_BYTES],
+) -> Result<(), Failure>
+    ensures ok { OnOk result ((d : Bytes) → HasRead reader.old d
+        → (p : Bytes) × Took d p (R.remaining input.old) (R.remaining input.new) (W.contents output.old) (W.contents output.new) reader.new
+        × IsDone (d ++ p) (R.remaining input.new)) }
+    ensures unread { IfErr result (λ failure. OnInput failure ((d : Bytes) → HasRead reader.old d
+        → (p : Bytes) × Took d p (R.remaining input.old) (R.remaining input.new) (W.contents output.old) (W.contents output.new) reader.new)) }
+{
+    let mut buffer = [0u8; PIECE];
+    for _ in 0..limits::POLICY_BYTES + 1 {
+        match read_piece(input, output, reader, &mut buffer)? {
             Turn::More => {}
             Turn::End => {
-                return true;
-            }
-            Turn::Failed => {
-                return false;
+                return Ok(());
             }
         }
-        turns -= 1;
     }
-    true
+    Ok(())
 }
 
-fn main() {
+// Lists the dump of all that is left to read: at its end, or where the rest would change nothing, all its lines were written; where a read failed, those
+// of the entries so far, and no last line.
+fn list<R: Read, W: Write>(input: &mut R, output: &mut W) -> Result<(), Failure>
+    ensures ok { OnOk result (IfSome (R.remaining input.old) (λ d.
+        Appends (W.contents output.old) (W.contents output.new) (dump_lines d))) }
+    ensures unread { IfErr result (λ failure. OnInput failure ((p : Bytes) × Consumes (R.remaining input.old) (R.remaining input.new) p
+        × Appends (W.contents output.old) (W.contents output.new) (entry_lines p))) }
+{
     let mut reader = [0u8; READER_BYTES];
     reader::start(&mut reader);
-    if read_all(&mut reader) {
-        write_closing(reader::verdict_of(&reader));
+    read_all(input, output, &mut reader)?;
+    write_closing(output, reader::verdict_of(&reader)).map_err(Failure::Output)?;
+    Ok(())
+}
+
+fn main(rt: HostRuntime) {
+    if let Err(failure) = list(&mut rt.stdin(), &mut rt.stdout()) {
+        let _ = eprintln!(rt; "{failure}");
     }
 }
