@@ -3,7 +3,6 @@ use Prim.Native.Nat.{ℕ}
 use mathlib.Core.Path.{◌≡◌, refl, sym, ap, ap₂, ◌∙◌}
 use mathlib.Core.List.{[], ◌∷◌, ◌++◌}
 use mathlib.Core.Bool.{Bool, true, false, cond}
-use lib.ListN.{length}
 use Rattle.slices.specs.Bytes.{Bytes, overwrite}
 use Rattle.slices.specs.Chunks.{flat}
 use Rattle.policy.specs.Policy.{entries_of, sizes_sum, pack_policy, policy_valid}

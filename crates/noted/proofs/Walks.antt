@@ -3,7 +3,7 @@ use Prim.Native.Nat.{ℕ, zero, suc, ◌+◌, ◌≤◌, ◌<◌}
 use mathlib.Core.Path.{◌≡◌, refl, sym, ap, ap₂, subst, subst⁻¹, ◌∙◌}
 use mathlib.Core.List.{List, [], ◌∷◌, append-nil}
 use mathlib.Core.Bool.{Bool, true, false, ◌||◌, cond, false≢true}
-use mathlib.Core.Option.{Option, none, some}
+use mathlib.Core.Option.{some}
 use mathlib.Core.Logic.{inl, inr}
 use native.Mathlib.Omega.{arith}
 use lib.Dec.{eqb}
@@ -13,11 +13,11 @@ use borrow.Author.Tests.{eqb-true, eqb-false}
 use Rattle.lists.specs.Lists.{Among}
 use Rattle.lists.proofs.ListsLaws.{among_left, among_right}
 use Rattle.slices.specs.Bytes.{Bytes, part}
-use Rattle.slices.specs.Chunks.{contains, distinct, find}
+use Rattle.slices.specs.Chunks.{contains}
 use Rattle.slices.proofs.PartLaws.{part_of}
 use Rattle.slices.proofs.ChunksLaws.{chunks_step, chunks_stop, used_step, used_stop}
 use Rattle.names.specs.Name.{Variable}
-use Rattle.store.specs.Record.{name_size, data_size, record_size, record_length, is_of, same_variable}
+use Rattle.store.specs.Record.{name_size, data_size, record_size, record_length, is_of}
 use Rattle.store.proofs.RecordLaws.{record_length-within, record_length-local}
 use Rattle.store.specs.Store.{records_of, end_of, place_of}
 use Rattle.store.specs.Parts.{is_found, record_in, Held, HeaderFits}
@@ -31,7 +31,7 @@ use Rattle.stores.proofs.PairLaws.{sound_distinct}
 use Rattle.stores.specs.declared.Place.{Place}
 use Rattle.stores.specs.Place.{place_in, record_at, Within}
 use Rattle.stores.proofs.PlaceLaws.{lookup_place, place_within_stores}
-use Rattle.noted.specs.Noted.{keys, notes, Begins, NoteOf, Noted, Leads, Tried}
+use Rattle.noted.specs.Noted.{keys, notes, Begins, NoteOf, Noted, Tried}
 
 -- ---- notes
 

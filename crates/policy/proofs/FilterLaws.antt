@@ -1,6 +1,6 @@
 -- What the filter tells: an entry whose slot is free, or has another fingerprint, has the target of none that was met, since entries with one target have
 -- one slot and one fingerprint. Assumes nothing.
-use Rattle.std.specs.Prelude.{◌+◌, ◌≡◌, List, [], ◌∷◌, ◌++◌, true, false, ◌||◌, length, get_or, eqb}
+use Rattle.std.specs.Prelude.{◌≡◌, List, [], ◌∷◌, ◌++◌, true, false, ◌||◌, length, get_or, eqb}
 use Rattle.std.proofs.Common.{sym, ap₂, ◌∙◌, arith, length-set}
 use Rattle.std.proofs.lemmas.Bool.{eqb-false}
 use Rattle.slices.specs.Bytes.{Bytes, le32}

@@ -7,7 +7,6 @@ use Rattle.std.proofs.Math.Bool.{true, false}
 use Rattle.std.proofs.lemmas.Bool.{false≢true}
 use Rattle.std.proofs.Math.Option.{some}
 use native.Mathlib.Omega.{arith}
-use Rattle.lists.proofs.ListsLaws as choice
 use Rattle.lists.proofs.ListsLaws.{Less, less}
 use Rattle.slices.specs.Bytes.{Bytes}
 use Rattle.entry.specs.Entry.{attributes_must_have, attributes_cant_have, rank}

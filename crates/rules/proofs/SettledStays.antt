@@ -1,12 +1,11 @@
 -- HOW LONG A LOCK LASTS (RULES.md, 12.9), one call: with the engine enabled and locked, no call but a granted start changes, creates or deletes a settled variable, and it
 -- stays settled (`settled_lasts`). Over a list of calls: HowLong.antt in `demand3`. Assumes nothing.
-use Rattle.std.specs.Prelude.{ℕ, ◌<◌, ◌≡◌, refl, [], Bool, true, false, cond, ◌↔◌}
+use Rattle.std.specs.Prelude.{ℕ, ◌<◌, ◌≡◌, refl, [], Bool, true, false, cond}
 use Rattle.std.proofs.Common.{sym, ap, ◌∙◌, true≢false, arith, lit<}
 use Rattle.std.proofs.Math.Path.{subst⁻¹}
 use Rattle.std.proofs.Math.Option.{none}
 use Rattle.limits.specs.Limits.{max_links}
 use Rattle.slices.specs.Test.{◌and◌}
-use Rattle.slices.specs.Bytes.{Bytes}
 use Rattle.names.specs.Name.{Variable, named}
 use Rattle.policy.specs.Policy.{entries_of, policy_valid}
 use Rattle.policy.specs.Choice.{chosen}
@@ -16,11 +15,11 @@ use Rattle.status.specs.Status.{is_success}
 use Rattle.status.proofs.StatusLaws.{success_only}
 use Rattle.rules.specs.Set.{Request}
 use Rattle.rules.specs.Settled.{settled_in}
-use Rattle.rules.specs.Engine.{State, Call, Answer, decision_by, settled_status, is_settled, answer_of, status, refusal, effect, step}
+use Rattle.rules.specs.Engine.{State, Call, decision_by, settled_status, is_settled, answer_of, refusal, effect, step}
 use Rattle.rules.specs.Engine.Call.{power_on, restart, register, dump, lock, disable, exit, query, read, set, settled}
 use Rattle.rules.proofs.EngineLaws.{step_status, refused_changes_nothing, granted_effect}
 use Rattle.rules.proofs.StateLaws.{register_passed}
-use Rattle.rules.specs.Grounds.{Not, RecordOf, Enforced, Applies, Answers}
+use Rattle.rules.specs.Grounds.{Not, Enforced, Applies, Answers}
 use Rattle.rules.specs.SettledStays.{EnabledLocked, Lasts, yes, Yes}
 use Rattle.rules.specs.Grounds.Applies.{set_locked, set_deleted, set_empty_append, set_done}
 use Rattle.rules.proofs.FoundLaws.{tells_sound}

@@ -10,7 +10,7 @@ use Rattle.limits.specs.Limits.{max_payload, namespace_bytes, max_name_bytes}
 use Rattle.slices.specs.Bytes.{Bytes}
 use Rattle.slices.specs.Chunks.{find}
 use Rattle.slices.proofs.ItemsLaws.{or_else, find_none}
-use Rattle.names.specs.Name.{Variable, variable, named}
+use Rattle.names.specs.Name.{Variable, named}
 use Rattle.names.proofs.NameLaws.{is_name-length, named_namespace, named_name}
 use Rattle.store.specs.Record.{has_nv, attributes_ok, is_of, encode_record}
 use Rattle.store.proofs.AttributeLaws.{attributes_ok-stored}

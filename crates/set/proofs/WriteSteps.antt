@@ -9,7 +9,7 @@ use lib.Dec.{eqb}
 use borrow.Author.Tests.{lt-ltb, le-ltb}
 use Rattle.limits.specs.Limits.{max_payload}
 use Rattle.slices.specs.Bytes.{Bytes}
-use Rattle.names.specs.Name.{Variable, variable}
+use Rattle.names.specs.Name.{Variable}
 use Rattle.store.specs.Record.{has_nv, has_append}
 use Rattle.store.specs.Store.{has_room}
 use Rattle.store.specs.Parts.{payload_in}

@@ -6,7 +6,6 @@ use Rattle.policy.proofs.PolicyLaws.{Checked, check_valid, check_invalid}
 use Rattle.bench_parts.specs.declared.Numbers.{Numbers}
 use Rattle.bench_parts.specs.Parts.{of_choice, chosen_in}
 use Rattle.bench_parts.proofs.Tested.{not_ok, not_asked, asked}
-use borrow.Author.Rules.{rules}
 use Rattle.bench_parts.proofs.bench_choose.Goals as goal
 
 pub returns-in_default : goal.returns-in_default

@@ -1,7 +1,5 @@
 use mathlib.Core.Path.{sym, ◌∙◌}
-use borrow.Author.Tests.{leb-true}
 use Rattle.bench_parts.proofs.Tested.{fill_done, fill_kept}
-use borrow.Author.Rules.{rules}
 use Rattle.bench_parts.proofs.bench_fill.Goals as goal
 
 pub returns-then-fits : goal.returns-then-fits

@@ -3,7 +3,6 @@ use mathlib.Core.Bool.{true}
 use Rattle.stores.specs.Pair.{sound, ends_of}
 use Rattle.stores.proofs.PairLaws.{check_sound, check_unsound}
 use Rattle.bench_parts.proofs.Tested.{not_ok, not_asked, found_is}
-use borrow.Author.Rules.{rules}
 use Rattle.bench_parts.proofs.bench_find.Goals as goal
 
 pub returns-in_default : goal.returns-in_default

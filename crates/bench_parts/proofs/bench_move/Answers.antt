@@ -3,10 +3,7 @@ use mathlib.Core.Path.{◌≡◌, sym, ◌∙◌}
 use mathlib.Core.Bool.{true}
 use lib.Dec.{leb}
 use lib.ListN.{length}
-use native.Mathlib.Omega.{arith}
-use borrow.Author.Tests.{leb-true, not-true, not-false}
 use Rattle.bench_parts.proofs.Tested.{move_done, move_from, move_to}
-use borrow.Author.Rules.{rules}
 use Rattle.bench_parts.proofs.bench_move.Goals as goal
 
 pub returns-then-not-fits : goal.returns-then-not-fits

@@ -1,5 +1,4 @@
 use Rattle.engine.proofs.Registered.{disable_step}
-use borrow.Author.Rules.{rules}
 use Rattle.engine.proofs.disable.Goals as goal
 
 pub returns : goal.returns

@@ -1,5 +1,4 @@
 use Rattle.engine.proofs.Registered.{exit_step}
-use borrow.Author.Rules.{rules}
 use Rattle.engine.proofs.exit.Goals as goal
 
 pub returns : goal.returns

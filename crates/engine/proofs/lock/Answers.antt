@@ -1,5 +1,4 @@
 use Rattle.engine.proofs.Registered.{lock_step_lem}
-use borrow.Author.Rules.{rules}
 use Rattle.engine.proofs.lock.Goals as goal
 
 pub returns : goal.returns

@@ -1,5 +1,4 @@
-use Rattle.engine.proofs.Readings.{named_from, within_nv, within_vol, part_nv, part_vol, place_in_nv, place_in_vol}
-use borrow.Author.Rules.{rules}
+use Rattle.engine.proofs.Readings.{named_from, within_nv, within_vol}
 use Rattle.engine.proofs.payload.Goals as goal
 
 pub slice_bounds-result-count : goal.slice_bounds-result-count

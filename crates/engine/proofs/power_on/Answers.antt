@@ -1,7 +1,5 @@
 use Rattle.engine.proofs.Started.{power_unsound, power_long, power_record, power_done, power_refused, power_granted, filled}
-use borrow.Author.Tests.{not-true, not-false}
 use mathlib.Core.Path.{sym, ◌∙◌}
-use borrow.Author.Rules.{rules}
 use Rattle.engine.proofs.power_on.Goals as goal
 
 pub returns-then-not-check_alone : goal.returns-then-not-check_alone

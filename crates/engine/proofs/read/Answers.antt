@@ -7,7 +7,7 @@ use Rattle.stores.proofs.PairLaws.{check_sound, check_unsound}
 use Rattle.stores.specs.Place.{Within}
 use Rattle.stores.proofs.PlaceLaws.{place_within_stores}
 use Rattle.engine.proofs.Readings.{reading_unsound, reading_unnamed, reading_absent, reading_found, reads}
-use borrow.Author.Tests.{eq-eqb, not-true, not-false}
+use borrow.Author.Tests.{eq-eqb}
 use lib.ListN.{length}
 use mathlib.Core.Bool.{true, false}
 use mathlib.Core.Path.{◌≡◌, sym, subst, ◌∙◌}

@@ -1,7 +1,6 @@
 use Rattle.stores.proofs.PairLaws.{check_sound, check_unsound}
 use Rattle.engine.proofs.Started.{restart_unsound_lem, restart_record, restart_done_lem, restart_refused_lem, restart_granted}
 use mathlib.Core.Path.{sym, ◌∙◌}
-use borrow.Author.Rules.{rules}
 use Rattle.engine.proofs.restart.Goals as goal
 
 pub returns-in_default : goal.returns-in_default

@@ -1,5 +1,4 @@
 use Rattle.limits.specs.Limits.{namespace_bytes}
-use Rattle.names.specs.Name.{variable}
 use Rattle.policy.proofs.PolicyLaws.{Checked, check_valid, check_invalid}
 use Rattle.stores.specs.Pair.{sound, ends_of}
 use Rattle.stores.proofs.PairLaws.{check_sound, check_unsound}

@@ -6,7 +6,7 @@ use Rattle.policy.proofs.PolicyLaws.{Checked, check_valid, check_invalid}
 use Rattle.stores.specs.Pair.{sound, ends_of}
 use Rattle.stores.proofs.PairLaws.{check_sound, check_unsound}
 use Rattle.engine.proofs.SettledAnswers.{settled_unsound_lem, settled_invalid, settled_unnamed, settled_told}
-use borrow.Author.Tests.{eq-eqb, not-true, not-false}
+use borrow.Author.Tests.{eq-eqb}
 use lib.ListN.{length}
 use mathlib.Core.Bool.{true, false}
 use mathlib.Core.Path.{◌≡◌, sym, ◌∙◌}

@@ -1,5 +1,4 @@
 use Rattle.entry.specs.Entry.{entry_of}
-use borrow.Author.Rules.{rules}
 use Rattle.entry.proofs.entry_of.Goals as goal
 
 pub returns : goal.returns

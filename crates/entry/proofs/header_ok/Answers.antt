@@ -5,7 +5,6 @@ use borrow.Author.Tests.{eq-eqb, ne_eqb, le-leb, lt-leb}
 use Rattle.slices.specs.Test.{◌and◌}
 use Rattle.slices.specs.Bytes.{Bytes}
 use Rattle.entry.specs.Entry.{attributes_must_have, attributes_cant_have, header_ok}
-use borrow.Author.Rules.{rules}
 use Rattle.entry.proofs.header_ok.Goals as goal
 
 pub returns-then-e-lt-ENTRY_HEADER : goal.returns-then-e-lt-ENTRY_HEADER

@@ -2,7 +2,6 @@ use native.Mathlib.Omega.{arith}
 use borrow.Author.Tests.{eq-eqb, ne_eqb}
 use Rattle.entry.specs.Entry.{lock_of}
 use Rattle.entry.proofs.EntryLaws.{sized}
-use borrow.Author.Rules.{rules}
 use Rattle.entry.proofs.lock_of.Goals as goal
 
 pub returns-then-kind-eq0 : goal.returns-then-kind-eq0

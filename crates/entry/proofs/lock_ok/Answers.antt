@@ -1,7 +1,6 @@
 use Rattle.slices.specs.Test.{◌and◌}
 use borrow.Author.Tests.{eq-eqb, ne_eqb, le-leb, lt-leb}
 use Rattle.entry.specs.Entry.{lock_ok}
-use borrow.Author.Rules.{rules}
 use Rattle.entry.proofs.lock_ok.Goals as goal
 
 pub returns-then-kind-le2 : goal.returns-then-kind-le2

@@ -7,7 +7,6 @@ use Rattle.slices.specs.Bytes.{part}
 use Rattle.slices.proofs.PartLaws.{part_none}
 use Rattle.entry.specs.Entry.{offset_to_name, name_of}
 use Rattle.entry.proofs.EntryLaws.{sized, name_least}
-use borrow.Author.Rules.{rules}
 use Rattle.entry.proofs.name_bytes.Goals as goal
 
 pub get16-start-requires : goal.get16-start-requires

@@ -1,7 +1,6 @@
 use Rattle.slices.specs.Test.{◌and◌}
 use borrow.Author.Tests.{eq-eqb, ne_eqb, le-leb, lt-leb}
 use Rattle.entry.specs.Entry.{name_ok}
-use borrow.Author.Rules.{rules}
 use Rattle.entry.proofs.name_ok.Goals as goal
 
 pub returns-then-e-offset : goal.returns-then-e-offset

@@ -1,6 +1,4 @@
 use Rattle.entry.specs.Entry.{parse}
-use mathlib.Core.Path.{sym, ◌∙◌}
-use borrow.Author.Rules.{rules}
 use Rattle.entry.proofs.parse.Goals as goal
 
 pub returns-then-well_formed : goal.returns-then-well_formed

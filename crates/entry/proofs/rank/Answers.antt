@@ -4,7 +4,6 @@ use mathlib.Core.Bool.{Bool, true, false}
 use lib.ListN.{length}
 use lib.Dec.{eqb}
 use borrow.Author.Tests.{eq-eqb, ne_eqb}
-use borrow.Author.Rules.{rules}
 use Rattle.limits.specs.Limits.{whole_namespace_rank}
 use Rattle.slices.specs.Bytes.{Bytes}
 use Rattle.names.specs.Name.{units, wildcards}

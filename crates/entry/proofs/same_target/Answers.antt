@@ -1,12 +1,10 @@
 use mathlib.Core.Path.{◌≡◌, sym, ◌∙◌}
 use mathlib.Core.Bool.{Bool, true, false}
 use native.Mathlib.Omega.{arith}
-use borrow.Author.Tests.{not-true, not-false}
 use Rattle.slices.proofs.TestLaws.{and_no, and_yes}
 use Rattle.slices.specs.Bytes.{Bytes, same}
 use Rattle.entry.specs.Entry.{namespace_of, name_of, same_target}
 use Rattle.entry.proofs.EntryLaws.{sized}
-use borrow.Author.Rules.{rules}
 use Rattle.entry.proofs.same_target.Goals as goal
 
 -- r is the test of the names

@@ -1,7 +1,5 @@
 use mathlib.Core.Path.{refl, sym, ◌∙◌}
 use native.Mathlib.Omega.{arith}
-use borrow.Author.Tests.{not-false}
-use borrow.Author.Rules.{rules}
 use Rattle.slices.proofs.TestLaws.{first_fails, first_holds}
 use Rattle.entry.specs.Entry.{well_formed}
 use Rattle.entry.proofs.EntryLaws.{header_least}

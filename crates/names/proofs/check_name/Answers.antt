@@ -1,6 +1,5 @@
 use mathlib.Core.Path.{sym, ap, ◌∙◌}
 use mathlib.Core.Bool.{Bool, cond}
-use borrow.Author.Rules.{rules}
 use Rattle.slices.proofs.TestLaws.{first_fails, first_holds}
 use Rattle.names.specs.Name.{units, each, no_zero, plain_unit}
 use Rattle.names.proofs.NameLaws.{name_tests}

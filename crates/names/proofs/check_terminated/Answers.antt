@@ -1,8 +1,4 @@
 use mathlib.Core.Path.{sym, ◌∙◌}
-use lib.ListN.{length-take}
-use native.Mathlib.Omega.{arith}
-use borrow.Author.Tests.{not-false}
-use borrow.Author.Rules.{rules}
 use Rattle.slices.proofs.TestLaws.{first_fails, first_holds}
 use Rattle.names.proofs.NameLaws.{terminated_tests, closed_least}
 use mathlib.Core.Bool.{not}

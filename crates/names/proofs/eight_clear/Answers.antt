@@ -1,10 +1,5 @@
-use mathlib.Core.Path.{◌≡◌, refl, ap, ◌∙◌}
-use Prim.Native.Nat.{ℕ, ◌≤◌, ◌-◌, ◌+◌, ◌*◌, ◌/◌}
+use mathlib.Core.Path.{refl}
 use native.Mathlib.Omega.{arith}
-use native.Mathlib.Nat.{add-zero}
-use mathlib.Core.Bool.{true}
-use lib.ListN.{drop}
-use Rattle.names.specs.Name.{units, each, plain_unit}
 use Rattle.names.proofs.NameLaws.{plain_clear}
 use Rattle.names.proofs.eight_clear.Goals as goal
 

@@ -1,10 +1,4 @@
-use mathlib.Core.Path.{◌≡◌, ap, ◌∙◌}
-use Prim.Native.Nat.{ℕ, ◌≤◌, ◌-◌, ◌+◌, ◌*◌, ◌/◌}
 use native.Mathlib.Omega.{arith}
-use native.Mathlib.Nat.{add-zero}
-use mathlib.Core.Bool.{true}
-use lib.ListN.{drop}
-use Rattle.names.specs.Name.{units, wildcards}
 use Rattle.names.proofs.NameLaws.{wildcards_clear}
 use Rattle.names.proofs.eight_literal.Goals as goal
 

@@ -1,11 +1,8 @@
-use mathlib.Core.Path.{◌≡◌, ap, ◌∙◌}
-use Prim.Native.Nat.{ℕ, ◌≤◌, ◌-◌, ◌+◌, ◌*◌, ◌/◌}
-use native.Mathlib.Omega.{arith}
-use native.Mathlib.Nat.{add-zero}
+use mathlib.Core.Path.{◌≡◌}
+use Prim.Native.Nat.{◌≤◌, ◌-◌, ◌+◌, ◌*◌, ◌/◌}
 use mathlib.Core.Bool.{true}
 use lib.ListN.{drop}
 use Rattle.names.specs.Name.{units, wildcards}
-use Rattle.names.proofs.NameLaws.{wildcards_clear}
 use Rattle.names.proofs.eight_literal.Given as goal
 
 abbrev pub invariant-loop-j : goal.invariant-loop-j

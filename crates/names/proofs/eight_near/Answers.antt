@@ -1,10 +1,5 @@
-use mathlib.Core.Path.{◌≡◌, refl}
-use Prim.Native.Nat.{◌≤◌, ◌-◌, ◌+◌, ◌*◌, ◌/◌}
 use native.Mathlib.Omega.{arith}
-use native.Mathlib.Nat.{add-zero}
-use borrow.Author.Rules.{rules}
-use mathlib.Core.Bool.{true}
-use Rattle.names.proofs.NameLaws.{matches_from, matches_near}
+use Rattle.names.proofs.NameLaws.{matches_near}
 use Rattle.names.proofs.eight_near.Goals as goal
 
 pub loop-j-preserved : goal.loop-j-preserved

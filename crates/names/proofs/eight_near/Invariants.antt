@@ -1,10 +1,7 @@
-use mathlib.Core.Path.{◌≡◌, refl}
+use mathlib.Core.Path.{◌≡◌}
 use Prim.Native.Nat.{◌≤◌, ◌-◌, ◌+◌, ◌*◌, ◌/◌}
-use native.Mathlib.Omega.{arith}
-use native.Mathlib.Nat.{add-zero}
-use borrow.Author.Rules.{rules}
 use mathlib.Core.Bool.{true}
-use Rattle.names.proofs.NameLaws.{matches_from, matches_near}
+use Rattle.names.proofs.NameLaws.{matches_from}
 use Rattle.names.proofs.eight_near.Given as goal
 
 abbrev pub invariant-loop-j : goal.invariant-loop-j

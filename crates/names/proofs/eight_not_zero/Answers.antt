@@ -1,12 +1,9 @@
-use mathlib.Core.Path.{◌≡◌, ap, ◌∙◌}
-use Prim.Native.Nat.{ℕ, ◌≤◌, ◌-◌, ◌+◌, ◌*◌, ◌/◌}
+use mathlib.Core.Path.{ap}
 use native.Mathlib.Omega.{arith}
 use native.Mathlib.Nat.{add-zero}
 use mathlib.Core.Bool.{not}
-use lib.ListN.{drop}
 use lib.Dec.{eqb}
 use Rattle.slices.specs.Test.{◌and◌}
-use Rattle.names.specs.Name.{units, no_zero}
 use Rattle.names.proofs.NameLaws.{each_more}
 use Rattle.names.proofs.eight_not_zero.Goals as goal
 

@@ -1,13 +1,8 @@
-use mathlib.Core.Path.{◌≡◌, ap, ◌∙◌}
-use Prim.Native.Nat.{ℕ, ◌≤◌, ◌-◌, ◌+◌, ◌*◌, ◌/◌}
-use native.Mathlib.Omega.{arith}
-use native.Mathlib.Nat.{add-zero}
-use mathlib.Core.Bool.{not}
+use mathlib.Core.Path.{◌≡◌}
+use Prim.Native.Nat.{◌≤◌, ◌-◌, ◌+◌, ◌*◌, ◌/◌}
 use lib.ListN.{drop}
-use lib.Dec.{eqb}
 use Rattle.slices.specs.Test.{◌and◌}
 use Rattle.names.specs.Name.{units, no_zero}
-use Rattle.names.proofs.NameLaws.{each_more}
 use Rattle.names.proofs.eight_not_zero.Given as goal
 
 abbrev pub invariant-loop-j : goal.invariant-loop-j

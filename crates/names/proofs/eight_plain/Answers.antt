@@ -1,9 +1,5 @@
-use mathlib.Core.Path.{◌≡◌, ap, ◌∙◌}
-use Prim.Native.Nat.{ℕ, ◌≤◌, ◌-◌, ◌+◌, ◌*◌, ◌/◌}
 use native.Mathlib.Omega.{arith}
-use native.Mathlib.Nat.{add-zero}
-use mathlib.Core.Bool.{true}
-use Rattle.names.proofs.NameLaws.{matches_from, matches_plain}
+use Rattle.names.proofs.NameLaws.{matches_plain}
 use Rattle.names.proofs.eight_plain.Goals as goal
 
 pub loop-j-preserved : goal.loop-j-preserved

@@ -1,9 +1,7 @@
-use mathlib.Core.Path.{◌≡◌, ap, ◌∙◌}
-use Prim.Native.Nat.{ℕ, ◌≤◌, ◌-◌, ◌+◌, ◌*◌, ◌/◌}
-use native.Mathlib.Omega.{arith}
-use native.Mathlib.Nat.{add-zero}
+use mathlib.Core.Path.{◌≡◌}
+use Prim.Native.Nat.{◌≤◌, ◌-◌, ◌+◌, ◌*◌, ◌/◌}
 use mathlib.Core.Bool.{true}
-use Rattle.names.proofs.NameLaws.{matches_from, matches_plain}
+use Rattle.names.proofs.NameLaws.{matches_from}
 use Rattle.names.proofs.eight_plain.Given as goal
 
 abbrev pub invariant-loop-j : goal.invariant-loop-j

@@ -1,11 +1,8 @@
-use mathlib.Core.Path.{◌≡◌, ap, ◌∙◌}
-use Prim.Native.Nat.{ℕ, ◌≤◌, ◌-◌, ◌+◌, ◌*◌, ◌/◌}
 use native.Mathlib.Omega.{arith}
 use native.Mathlib.Nat.{add-zero}
-use borrow.Author.Rules.{rules}
 use Rattle.slices.specs.Test.{◌and◌}
 use Rattle.names.specs.Name.{unit_matches}
-use Rattle.names.proofs.NameLaws.{matches_from, pairs_more}
+use Rattle.names.proofs.NameLaws.{pairs_more}
 use Rattle.names.proofs.eight_wild.Goals as goal
 
 pub loop-j-init : goal.loop-j-init

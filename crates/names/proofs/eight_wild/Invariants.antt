@@ -1,11 +1,7 @@
-use mathlib.Core.Path.{◌≡◌, ap, ◌∙◌}
-use Prim.Native.Nat.{ℕ, ◌≤◌, ◌-◌, ◌+◌, ◌*◌, ◌/◌}
-use native.Mathlib.Omega.{arith}
-use native.Mathlib.Nat.{add-zero}
-use borrow.Author.Rules.{rules}
+use mathlib.Core.Path.{◌≡◌}
+use Prim.Native.Nat.{◌≤◌, ◌-◌, ◌+◌, ◌*◌, ◌/◌}
 use Rattle.slices.specs.Test.{◌and◌}
-use Rattle.names.specs.Name.{unit_matches}
-use Rattle.names.proofs.NameLaws.{matches_from, pairs_more}
+use Rattle.names.proofs.NameLaws.{matches_from}
 use Rattle.names.proofs.eight_wild.Given as goal
 
 abbrev pub invariant-loop-j : goal.invariant-loop-j

@@ -1,10 +1,6 @@
-use mathlib.Core.Logic.{⊎_elim}
-use mathlib.Core.Path.{◌≡◌, sym, ap, ◌∙◌}
-use Prim.Native.Nat.{ℕ, ◌≤◌, ◌-◌, ◌+◌, ◌*◌, ◌/◌}
+use mathlib.Core.Path.{◌≡◌, sym, ◌∙◌}
+use Prim.Native.Nat.{◌+◌}
 use native.Mathlib.Omega.{arith}
-use native.Mathlib.Nat.{add-zero, zero-add}
-use lib.ListN.{drop}
-use Rattle.names.specs.Name.{units, wildcards}
 use Rattle.names.proofs.NameLaws.{wildcards_hit, wildcards_miss}
 use Rattle.names.proofs.eight_wildcards.Goals as goal
 use Rattle.names.proofs.eight_wildcards.Goals.{else-unit-eq35, then-unit-eq35}

@@ -1,11 +1,7 @@
-use mathlib.Core.Logic.{⊎_elim}
-use mathlib.Core.Path.{◌≡◌, sym, ap, ◌∙◌}
-use Prim.Native.Nat.{ℕ, ◌≤◌, ◌-◌, ◌+◌, ◌*◌, ◌/◌}
-use native.Mathlib.Omega.{arith}
-use native.Mathlib.Nat.{add-zero, zero-add}
+use mathlib.Core.Path.{◌≡◌}
+use Prim.Native.Nat.{◌≤◌, ◌-◌, ◌+◌, ◌*◌, ◌/◌}
 use lib.ListN.{drop}
 use Rattle.names.specs.Name.{units, wildcards}
-use Rattle.names.proofs.NameLaws.{wildcards_hit, wildcards_miss}
 use Rattle.names.proofs.eight_wildcards.Given as goal
 
 abbrev pub invariant-loop-j : goal.invariant-loop-j

@@ -1,9 +1,7 @@
-use mathlib.Core.Path.{refl, sym, ◌∙◌}
+use mathlib.Core.Path.{refl}
 use Prim.Native.Nat.{◌-◌}
 use native.Mathlib.Omega.{arith}
 use lib.ListN.{length}
-use borrow.Author.Tests.{not-true}
-use borrow.Author.Rules.{rules}
 use Rattle.names.specs.Name.{unit_matches}
 use Rattle.names.proofs.NameLaws.{pairs_first, pairs_last}
 use Rattle.names.proofs.ends_near.Goals as goal

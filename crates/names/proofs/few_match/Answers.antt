@@ -1,12 +1,7 @@
-use mathlib.Core.Path.{◌≡◌, refl, sym, ◌∙◌}
-use Prim.Native.Nat.{◌≤◌, ◌-◌}
+use mathlib.Core.Path.{sym, ◌∙◌}
 use native.Mathlib.Omega.{arith}
-use lib.ListN.{length}
-use borrow.Author.Tests.{not-true, not-false}
-use borrow.Author.Rules.{rules}
-use Rattle.slices.specs.Bytes.{pairwise}
-use Rattle.names.specs.Name.{units, unit_matches}
-use Rattle.names.proofs.NameLaws.{matches_from, pairs_hit, pairs_miss, pairs_end}
+use Rattle.names.specs.Name.{unit_matches}
+use Rattle.names.proofs.NameLaws.{pairs_hit, pairs_miss, pairs_end}
 use Rattle.names.proofs.few_match.Goals as goal
 
 pub returns-then-not-unit_matches : goal.returns-then-not-unit_matches

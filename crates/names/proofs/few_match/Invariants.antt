@@ -1,12 +1,9 @@
-use mathlib.Core.Path.{◌≡◌, refl, sym, ◌∙◌}
+use mathlib.Core.Path.{◌≡◌}
 use Prim.Native.Nat.{◌≤◌, ◌-◌}
-use native.Mathlib.Omega.{arith}
 use lib.ListN.{length}
-use borrow.Author.Tests.{not-true, not-false}
-use borrow.Author.Rules.{rules}
 use Rattle.slices.specs.Bytes.{pairwise}
 use Rattle.names.specs.Name.{units, unit_matches}
-use Rattle.names.proofs.NameLaws.{matches_from, pairs_hit, pairs_miss, pairs_end}
+use Rattle.names.proofs.NameLaws.{matches_from}
 use Rattle.names.proofs.few_match.Given as goal
 
 abbrev pub invariant-loop-i : goal.invariant-loop-i

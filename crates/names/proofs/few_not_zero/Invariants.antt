@@ -1,11 +1,7 @@
-use mathlib.Core.Path.{◌≡◌, refl, sym, ap, ◌∙◌}
-use mathlib.Core.Bool.{not}
-use borrow.Author.Tests.{eq-eqb, ne_eqb}
+use mathlib.Core.Path.{◌≡◌}
 use Prim.Native.Nat.{◌≤◌, ◌-◌}
-use native.Mathlib.Omega.{arith}
 use lib.ListN.{length, drop}
 use Rattle.names.specs.Name.{units, no_zero}
-use Rattle.names.proofs.NameLaws.{each_hit, each_miss, each_end}
 use Rattle.names.proofs.few_not_zero.Given as goal
 
 abbrev pub invariant-loop-i : goal.invariant-loop-i

@@ -1,8 +1,5 @@
-use mathlib.Core.Path.{◌≡◌, refl, sym, ◌∙◌}
-use Prim.Native.Nat.{◌≤◌, ◌-◌}
+use mathlib.Core.Path.{sym, ◌∙◌}
 use native.Mathlib.Omega.{arith}
-use lib.ListN.{length, drop}
-use Rattle.names.specs.Name.{units, each, plain_unit}
 use Rattle.names.proofs.NameLaws.{each_hit, each_miss, each_end, plain_unless}
 use Rattle.names.proofs.few_plain.Goals as goal
 

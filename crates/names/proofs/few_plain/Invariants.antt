@@ -1,9 +1,7 @@
-use mathlib.Core.Path.{◌≡◌, refl, sym, ◌∙◌}
+use mathlib.Core.Path.{◌≡◌}
 use Prim.Native.Nat.{◌≤◌, ◌-◌}
-use native.Mathlib.Omega.{arith}
 use lib.ListN.{length, drop}
 use Rattle.names.specs.Name.{units, each, plain_unit}
-use Rattle.names.proofs.NameLaws.{each_hit, each_miss, each_end, plain_unless}
 use Rattle.names.proofs.few_plain.Given as goal
 
 abbrev pub invariant-loop-i : goal.invariant-loop-i

@@ -1,9 +1,5 @@
-use mathlib.Core.Logic.{⊎_elim}
-use mathlib.Core.Path.{◌≡◌, sym, ◌∙◌}
-use Prim.Native.Nat.{◌≤◌, ◌-◌, ◌+◌}
+use mathlib.Core.Path.{sym, ◌∙◌}
 use native.Mathlib.Omega.{arith}
-use lib.ListN.{length, drop}
-use Rattle.names.specs.Name.{units, wildcards}
 use Rattle.names.proofs.NameLaws.{wildcards_hit, wildcards_miss, wildcards_end}
 use Rattle.names.proofs.few_wildcards.Goals as goal
 use Rattle.names.proofs.few_wildcards.Goals.{else-unit-eq35, then-unit-eq35}

@@ -1,10 +1,7 @@
-use mathlib.Core.Logic.{⊎_elim}
-use mathlib.Core.Path.{◌≡◌, sym, ◌∙◌}
+use mathlib.Core.Path.{◌≡◌}
 use Prim.Native.Nat.{◌≤◌, ◌-◌, ◌+◌}
-use native.Mathlib.Omega.{arith}
 use lib.ListN.{length, drop}
 use Rattle.names.specs.Name.{units, wildcards}
-use Rattle.names.proofs.NameLaws.{wildcards_hit, wildcards_miss, wildcards_end}
 use Rattle.names.proofs.few_wildcards.Given as goal
 
 abbrev pub invariant-loop-i : goal.invariant-loop-i

@@ -1,4 +1,3 @@
-use borrow.Author.Rules.{rules}
 use Rattle.names.specs.Name.{unit_matches}
 use Rattle.names.proofs.NameLaws.{pairs_first}
 use Rattle.names.proofs.first_near.Goals as goal

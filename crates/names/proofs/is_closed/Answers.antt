@@ -1,6 +1,5 @@
 use Rattle.slices.specs.Test.{◌and◌}
 use borrow.Author.Tests.{eq-eqb, ne_eqb, le-leb, lt-leb}
-use borrow.Author.Rules.{rules}
 use Rattle.names.proofs.is_closed.Goals as goal
 
 pub returns-then-n-lt2 : goal.returns-then-n-lt2

@@ -1,6 +1,5 @@
 use mathlib.Core.Path.{◌∙◌}
 use Rattle.slices.proofs.TestLaws.{and_yes}
-use borrow.Author.Rules.{rules}
 use Rattle.names.proofs.is_name.Goals as goal
 
 pub returns : goal.returns

@@ -1,5 +1,4 @@
 use Rattle.names.specs.Name.{is_plain_terminated}
-use borrow.Author.Rules.{rules}
 use Rattle.names.proofs.is_plain_terminated.Goals as goal
 
 pub returns : goal.returns

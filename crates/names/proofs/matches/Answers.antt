@@ -3,8 +3,6 @@ use mathlib.Core.Bool.{true}
 use Prim.Native.Nat.{ℕ, ◌*◌}
 use native.Mathlib.Omega.{arith}
 use lib.ListN.{length, take, length-take}
-use borrow.Author.Tests.{not-true}
-use borrow.Author.Rules.{rules}
 use Rattle.slices.specs.Bytes.{Bytes, pairwise}
 use Rattle.slices.proofs.BytesLaws.{pairwise_lengths}
 use Rattle.slices.proofs.TestLaws.{forced_off}

@@ -1,13 +1,6 @@
-use mathlib.Core.Path.{◌≡◌, refl, sym, ap, ◌∙◌}
+use mathlib.Core.Path.{◌≡◌}
 use Prim.Native.Nat.{◌≤◌, ◌-◌}
-use native.Mathlib.Omega.{arith}
 use lib.ListN.{length, drop}
-use native.Mathlib.Nat.{le_refl}
-use borrow.Author.Tests.{not-true, not-false}
-use borrow.Author.Rules.{rules}
-use Rattle.slices.specs.Test.{◌and◌}
-use Rattle.slices.specs.Bytes.{Bytes}
-use Rattle.slices.proofs.PartLaws.{part_rest}
 use Rattle.names.specs.Name.{units, no_zero}
 use Rattle.names.proofs.no_zero.Given as goal
 

@@ -1,8 +1,6 @@
-use mathlib.Core.Path.{◌≡◌, refl, ◌∙◌}
+use mathlib.Core.Path.{◌≡◌}
 use Prim.Native.Nat.{◌≤◌, ◌-◌}
-use native.Mathlib.Omega.{arith}
 use lib.ListN.{length}
-use borrow.Author.Tests.{not-false}
 use Rattle.slices.specs.Bytes.{pairwise}
 use Rattle.names.specs.Name.{units, unit_matches}
 use Rattle.names.proofs.NameLaws.{matches_from}

@@ -1,11 +1,8 @@
-use mathlib.Core.Path.{◌≡◌, refl, sym, ◌∙◌}
-use Prim.Native.Nat.{◌≤◌, ◌-◌}
+use mathlib.Core.Path.{sym, ◌∙◌}
+use Prim.Native.Nat.{◌-◌}
 use native.Mathlib.Omega.{arith}
-use lib.ListN.{length, drop}
-use borrow.Author.Tests.{not-true, not-false}
-use borrow.Author.Rules.{rules}
+use lib.ListN.{length}
 use Rattle.slices.specs.Test.{◌and◌}
-use Rattle.slices.specs.Bytes.{same}
 use Rattle.slices.proofs.BytesLaws.{pairwise_lengths, same_eight, same_not, same_last}
 use Rattle.names.proofs.same_name.Goals as goal
 

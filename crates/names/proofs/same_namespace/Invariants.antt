@@ -1,13 +1,8 @@
-use Prim.Native.Nat.{ℕ, ◌+◌, ◌-◌, ◌≤◌, ◌<◌}
-use mathlib.Core.Path.{◌≡◌, refl, sym, ◌∙◌}
-use mathlib.Core.Bool.{Bool, ◌&&◌}
-use native.Mathlib.Omega.{arith}
-use lib.ListN.{length, get_or, drop}
-use lib.Dec.{eqb}
+use Prim.Native.Nat.{◌-◌, ◌≤◌}
+use mathlib.Core.Path.{◌≡◌}
+use lib.ListN.{drop}
 use Rattle.slices.specs.Test.{◌and◌}
-use Rattle.slices.proofs.TestLaws.{and_assoc, and_eager, and_yes}
-use Rattle.slices.specs.Bytes.{Bytes, same}
-use Rattle.slices.proofs.BytesLaws.{pairwise_step, pairwise_end}
+use Rattle.slices.specs.Bytes.{same}
 use Rattle.names.proofs.same_namespace.Given as goal
 
 abbrev pub invariant-loop-i : goal.invariant-loop-i

@@ -1,8 +1,5 @@
-use Prim.Native.Nat.{◌<◌}
 use mathlib.Core.Path.{sym, ◌∙◌}
 use native.Mathlib.Omega.{arith}
-use lib.Bits.{bit_xor, xor_lt}
-use borrow.Author.Rules.{rules}
 use Rattle.names.specs.Tail.{unit_mask}
 use Rattle.names.proofs.unit_mask.Goals as goal
 

@@ -1,4 +1,3 @@
-use borrow.Author.Rules.{rules}
 use Rattle.names.proofs.NameLaws.{unit_tests}
 use Rattle.names.proofs.unit_matches.Goals as goal
 

@@ -1,14 +1,6 @@
-use mathlib.Core.Path.{◌≡◌, refl, sym, ap₂, ◌∙◌}
-use Prim.Native.Nat.{◌≤◌, ◌-◌}
+use mathlib.Core.Path.{sym, ◌∙◌}
 use native.Mathlib.Omega.{arith}
-use native.Mathlib.Nat.{le_refl}
-use lib.ListN.{length, length-take, length-drop}
-use borrow.Author.Tests.{not-true, not-false}
 use Rattle.slices.specs.Test.{◌and◌}
-use Rattle.slices.specs.Bytes.{Bytes, pairwise}
-use Rattle.slices.proofs.PartLaws.{part_rest}
-use Rattle.names.specs.Name.{units, unit_matches}
-use Rattle.names.proofs.NameLaws.{matches_from}
 use Rattle.names.proofs.wild_match.Goals as goal
 
 pub returns-then-not-eight_wild : goal.returns-then-not-eight_wild

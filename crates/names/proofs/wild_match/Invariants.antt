@@ -1,12 +1,7 @@
-use mathlib.Core.Path.{◌≡◌, refl, sym, ap₂, ◌∙◌}
+use mathlib.Core.Path.{◌≡◌}
 use Prim.Native.Nat.{◌≤◌, ◌-◌}
-use native.Mathlib.Omega.{arith}
-use native.Mathlib.Nat.{le_refl}
-use lib.ListN.{length, length-take, length-drop}
-use borrow.Author.Tests.{not-true, not-false}
-use Rattle.slices.specs.Test.{◌and◌}
-use Rattle.slices.specs.Bytes.{Bytes, pairwise}
-use Rattle.slices.proofs.PartLaws.{part_rest}
+use lib.ListN.{length}
+use Rattle.slices.specs.Bytes.{pairwise}
 use Rattle.names.specs.Name.{units, unit_matches}
 use Rattle.names.proofs.NameLaws.{matches_from}
 use Rattle.names.proofs.wild_match.Given as goal

@@ -1,4 +1,3 @@
-use borrow.Author.Rules.{rules}
 use Rattle.noted.proofs.find.Goals as goal
 
 pub try_note-first-requires : goal.try_note-first-requires

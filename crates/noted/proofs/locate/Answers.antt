@@ -1,5 +1,4 @@
 use Rattle.noted.proofs.Walks.{located_nv, located_vol, located_else}
-use borrow.Author.Rules.{rules}
 use Rattle.noted.proofs.locate.Goals as goal
 
 pub returns-then-is_found : goal.returns-then-is_found

@@ -1,16 +1,11 @@
-use Prim.Native.Nat.{ℕ, suc, ◌+◌, ◌-◌, ◌≤◌, ◌<◌}
-use mathlib.Core.Path.{◌≡◌, refl, sym, ap, subst⁻¹, ◌∙◌}
+use Prim.Native.Nat.{◌+◌}
+use mathlib.Core.Path.{◌≡◌, subst⁻¹}
 use native.Mathlib.Omega.{arith}
-use lib.ListN.{length, drop, length-drop}
-use Rattle.limits.specs.Limits.{max_store}
-use Rattle.lists.specs.Lists.{Among}
-use Rattle.slices.specs.Bytes.{Bytes}
+use lib.ListN.{drop, length-drop}
 use Rattle.store.specs.Record.{name_size, data_size, record_size}
-use Rattle.store.specs.Store.{records_of, end_of}
 use Rattle.store.proofs.Walk.{Here, here, resized, rest_at, length_here}
-use Rattle.noted.specs.Noted.{notes, Begins, NoteOf, Noted}
+use Rattle.noted.specs.Noted.{Begins, NoteOf}
 use Rattle.noted.proofs.Walks.{size_of, noted_after, begins_here, stands_next}
-use borrow.Author.Rules.{rules}
 use Rattle.noted.proofs.note.Goals as goal
 
 pub get32-requires : goal.get32-requires

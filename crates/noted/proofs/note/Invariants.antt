@@ -1,16 +1,10 @@
-use Prim.Native.Nat.{ℕ, suc, ◌+◌, ◌-◌, ◌≤◌, ◌<◌}
-use mathlib.Core.Path.{◌≡◌, refl, sym, ap, subst⁻¹, ◌∙◌}
-use native.Mathlib.Omega.{arith}
-use lib.ListN.{length, drop, length-drop}
-use Rattle.limits.specs.Limits.{max_store}
+use Prim.Native.Nat.{◌+◌, ◌-◌, ◌≤◌}
+use mathlib.Core.Path.{◌≡◌}
+use lib.ListN.{length, drop}
 use Rattle.lists.specs.Lists.{Among}
 use Rattle.slices.specs.Bytes.{Bytes}
-use Rattle.store.specs.Record.{name_size, data_size, record_size}
 use Rattle.store.specs.Store.{records_of, end_of}
-use Rattle.store.proofs.Walk.{Here, here, resized, rest_at, length_here}
-use Rattle.noted.specs.Noted.{notes, Begins, NoteOf, Noted}
-use Rattle.noted.proofs.Walks.{size_of, noted_after, begins_here, stands_next}
-use borrow.Author.Rules.{rules}
+use Rattle.noted.specs.Noted.{notes, Noted}
 use Rattle.noted.proofs.note.Given as goal
 
 abbrev pub invariant-loop-at : goal.invariant-loop-at

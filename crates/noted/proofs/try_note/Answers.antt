@@ -2,13 +2,11 @@ use Prim.Native.Nat.{◌-◌}
 use mathlib.Core.Path.{◌≡◌, ap}
 use native.Mathlib.Omega.{arith}
 use lib.ListN.{length-drop, drop}
-use Rattle.slices.specs.Bytes.{Bytes}
 use Rattle.store.specs.Record.{name_size, data_size, record_size}
 use Rattle.store.specs.Parts.{is_found}
 use Rattle.store.proofs.Walk.{Here, rest_at, length_here}
 use Rattle.noted.specs.Noted.{Begins}
-use Rattle.noted.proofs.Walks.{here_at, here_sized, size_of, alone_end, tried_none, tried_here}
-use borrow.Author.Rules.{rules}
+use Rattle.noted.proofs.Walks.{here_at, here_sized, size_of, alone_end, tried_here}
 use Rattle.noted.proofs.try_note.Goals as goal
 
 pub slice_bounds-r-count : goal.slice_bounds-r-count

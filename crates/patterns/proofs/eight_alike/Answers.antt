@@ -1,11 +1,8 @@
-use mathlib.Core.Path.{◌≡◌, ap, ◌∙◌}
-use Prim.Native.Nat.{ℕ, ◌≤◌, ◌-◌, ◌+◌, ◌*◌, ◌/◌}
 use native.Mathlib.Omega.{arith}
 use native.Mathlib.Nat.{add-zero}
-use borrow.Author.Rules.{rules}
 use Rattle.slices.specs.Test.{◌and◌}
 use Rattle.patterns.specs.Common.{sign_alike}
-use Rattle.names.proofs.NameLaws.{pairs_from, pairs_more}
+use Rattle.names.proofs.NameLaws.{pairs_more}
 use Rattle.patterns.proofs.eight_alike.Goals as goal
 
 pub loop-j-init : goal.loop-j-init

@@ -1,11 +1,8 @@
-use mathlib.Core.Path.{◌≡◌, ap, ◌∙◌}
-use Prim.Native.Nat.{ℕ, ◌≤◌, ◌-◌, ◌+◌, ◌*◌, ◌/◌}
-use native.Mathlib.Omega.{arith}
-use native.Mathlib.Nat.{add-zero}
-use borrow.Author.Rules.{rules}
+use mathlib.Core.Path.{◌≡◌}
+use Prim.Native.Nat.{◌≤◌, ◌-◌, ◌+◌, ◌*◌, ◌/◌}
 use Rattle.slices.specs.Test.{◌and◌}
 use Rattle.patterns.specs.Common.{sign_alike}
-use Rattle.names.proofs.NameLaws.{pairs_from, pairs_more}
+use Rattle.names.proofs.NameLaws.{pairs_from}
 use Rattle.patterns.proofs.eight_alike.Given as goal
 
 abbrev pub invariant-loop-j : goal.invariant-loop-j

@@ -1,9 +1,4 @@
-use mathlib.Core.Path.{◌≡◌, subst}
-use mathlib.Core.Bool.{false≢true}
-use Prim.Native.Nat.{ℕ, ◌≤◌, ◌-◌, ◌*◌, ◌/◌}
 use native.Mathlib.Omega.{arith}
-use native.Mathlib.Nat.{add-zero}
-use Rattle.patterns.specs.Signs.{EitherSign}
 use Rattle.patterns.proofs.SignLaws.{either_more}
 use Rattle.patterns.proofs.eight_signs.Goals as goal
 

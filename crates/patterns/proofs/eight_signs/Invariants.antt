@@ -1,10 +1,6 @@
-use mathlib.Core.Path.{◌≡◌, subst}
-use mathlib.Core.Bool.{false≢true}
-use Prim.Native.Nat.{ℕ, ◌≤◌, ◌-◌, ◌*◌, ◌/◌}
-use native.Mathlib.Omega.{arith}
-use native.Mathlib.Nat.{add-zero}
+use mathlib.Core.Path.{◌≡◌}
+use Prim.Native.Nat.{◌≤◌, ◌-◌, ◌*◌, ◌/◌}
 use Rattle.patterns.specs.Signs.{EitherSign}
-use Rattle.patterns.proofs.SignLaws.{either_more}
 use Rattle.patterns.proofs.eight_signs.Given as goal
 
 abbrev pub invariant-loop-j : goal.invariant-loop-j

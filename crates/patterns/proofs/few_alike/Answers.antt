@@ -1,11 +1,7 @@
-use mathlib.Core.Path.{◌≡◌, refl, sym, ◌∙◌}
-use Prim.Native.Nat.{◌≤◌, ◌-◌, ◌*◌, ◌/◌}
+use mathlib.Core.Path.{sym, ◌∙◌}
 use native.Mathlib.Omega.{arith}
-use lib.ListN.{length}
-use borrow.Author.Tests.{not-true, not-false}
-use borrow.Author.Rules.{rules}
-use Rattle.patterns.specs.Common.{sign_alike, same_signs}
-use Rattle.names.proofs.NameLaws.{pairs_from, pairs_hit, pairs_miss, pairs_end}
+use Rattle.patterns.specs.Common.{sign_alike}
+use Rattle.names.proofs.NameLaws.{pairs_hit, pairs_miss, pairs_end}
 use Rattle.patterns.proofs.few_alike.Goals as goal
 
 pub returns-then-not-sign_alike : goal.returns-then-not-sign_alike

@@ -1,11 +1,8 @@
-use mathlib.Core.Path.{◌≡◌, refl, sym, ◌∙◌}
+use mathlib.Core.Path.{◌≡◌}
 use Prim.Native.Nat.{◌≤◌, ◌-◌, ◌*◌, ◌/◌}
-use native.Mathlib.Omega.{arith}
 use lib.ListN.{length}
-use borrow.Author.Tests.{not-true, not-false}
-use borrow.Author.Rules.{rules}
 use Rattle.patterns.specs.Common.{sign_alike, same_signs}
-use Rattle.names.proofs.NameLaws.{pairs_from, pairs_hit, pairs_miss, pairs_end}
+use Rattle.names.proofs.NameLaws.{pairs_from}
 use Rattle.patterns.proofs.few_alike.Given as goal
 
 abbrev pub invariant-loop-i : goal.invariant-loop-i

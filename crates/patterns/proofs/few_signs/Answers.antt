@@ -1,8 +1,5 @@
-use mathlib.Core.Path.{◌≡◌, refl, sym, ◌∙◌}
-use Prim.Native.Nat.{◌≤◌, ◌-◌}
+use mathlib.Core.Path.{sym, ◌∙◌}
 use native.Mathlib.Omega.{arith}
-use lib.ListN.{length, drop}
-use Rattle.patterns.specs.Signs.{has_sign}
 use Rattle.patterns.proofs.SignLaws.{sign_hit, sign_miss, sign_end}
 use Rattle.patterns.proofs.few_signs.Goals as goal
 

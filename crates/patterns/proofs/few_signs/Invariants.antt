@@ -1,9 +1,7 @@
-use mathlib.Core.Path.{◌≡◌, refl, sym, ◌∙◌}
+use mathlib.Core.Path.{◌≡◌}
 use Prim.Native.Nat.{◌≤◌, ◌-◌}
-use native.Mathlib.Omega.{arith}
 use lib.ListN.{length, drop}
 use Rattle.patterns.specs.Signs.{has_sign}
-use Rattle.patterns.proofs.SignLaws.{sign_hit, sign_miss, sign_end}
 use Rattle.patterns.proofs.few_signs.Given as goal
 
 abbrev pub invariant-loop-i : goal.invariant-loop-i

@@ -1,7 +1,6 @@
-use mathlib.Core.Logic.{⊎_elim, inl, inr}
+use mathlib.Core.Logic.{inl, inr}
 use Prim.Native.Nat.{◌-◌, ◌*◌}
 use native.Mathlib.Omega.{arith}
-use borrow.Author.Rules.{rules}
 use Rattle.names.proofs.NameLaws.{units_length}
 use Rattle.patterns.proofs.SignLaws.{either_last}
 use Rattle.patterns.proofs.last_signs.Goals as goal

@@ -1,7 +1,6 @@
 use mathlib.Core.Path.{ap₂, ◌∙◌}
 use native.Mathlib.Omega.{arith}
 use lib.Bits.{bit_and}
-use borrow.Author.Rules.{rules}
 use Rattle.patterns.proofs.LiteralsLaws.{literals_short, literals_long}
 use Rattle.patterns.proofs.literals.Goals as goal
 

@@ -1,11 +1,7 @@
-use mathlib.Core.Path.{◌≡◌, sym, ◌∙◌}
-use Prim.Native.Nat.{◌≤◌, ◌-◌}
+use mathlib.Core.Path.{sym, ◌∙◌}
 use native.Mathlib.Omega.{arith}
-use lib.ListN.{length}
-use borrow.Author.Tests.{not-true, not-false}
-use borrow.Author.Rules.{rules}
-use Rattle.names.proofs.NameLaws.{pairs_from, pairs_hit, pairs_miss, pairs_end}
-use Rattle.patterns.specs.Common.{overlap, units_overlap}
+use Rattle.names.proofs.NameLaws.{pairs_hit, pairs_miss, pairs_end}
+use Rattle.patterns.specs.Common.{units_overlap}
 use Rattle.patterns.proofs.CommonLaws.{overlap_pairs}
 use Rattle.patterns.proofs.overlap.Goals as goal
 

@@ -1,10 +1,7 @@
-use mathlib.Core.Path.{◌≡◌, refl, sym, ap₂, ◌∙◌}
-use Prim.Native.Nat.{◌≤◌, ◌-◌}
+use mathlib.Core.Path.{sym, ap₂, ◌∙◌}
 use native.Mathlib.Omega.{arith}
-use lib.ListN.{length, drop, length-set}
-use borrow.Author.Rules.{rules}
-use Rattle.slices.specs.Bytes.{overwrite}
-use Rattle.patterns.specs.Common.{least_name, least_of}
+use lib.ListN.{length-set}
+use Rattle.patterns.specs.Common.{least_of}
 use Rattle.patterns.proofs.CommonLaws.{put_step, put_end}
 use Rattle.patterns.proofs.put_least.Goals as goal
 

@@ -1,11 +1,8 @@
-use mathlib.Core.Path.{◌≡◌, refl, sym, ap₂, ◌∙◌}
+use mathlib.Core.Path.{◌≡◌}
 use Prim.Native.Nat.{◌≤◌, ◌-◌}
-use native.Mathlib.Omega.{arith}
-use lib.ListN.{length, drop, length-set}
-use borrow.Author.Rules.{rules}
+use lib.ListN.{length, drop}
 use Rattle.slices.specs.Bytes.{overwrite}
-use Rattle.patterns.specs.Common.{least_name, least_of}
-use Rattle.patterns.proofs.CommonLaws.{put_step, put_end}
+use Rattle.patterns.specs.Common.{least_name}
 use Rattle.patterns.proofs.put_least.Given as goal
 
 abbrev pub invariant-loop-i : goal.invariant-loop-i

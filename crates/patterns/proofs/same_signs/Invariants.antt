@@ -1,15 +1,7 @@
-use mathlib.Core.Path.{◌≡◌, refl, sym, ap₂, ◌∙◌}
+use mathlib.Core.Path.{◌≡◌}
 use Prim.Native.Nat.{◌≤◌, ◌-◌, ◌*◌, ◌/◌}
-use native.Mathlib.Omega.{arith}
-use native.Mathlib.Nat.{le_refl}
-use lib.ListN.{length, length-take, length-drop}
-use borrow.Author.Tests.{not-true, not-false}
-use borrow.Author.Rules.{rules}
-use Rattle.slices.specs.Test.{◌and◌}
-use Rattle.slices.proofs.BytesLaws.{pairwise_lengths}
-use Rattle.slices.proofs.PartLaws.{part_rest}
-use Rattle.names.specs.Name.{units}
-use Rattle.names.proofs.NameLaws.{units_length, pairs_from}
+use lib.ListN.{length}
+use Rattle.names.proofs.NameLaws.{pairs_from}
 use Rattle.patterns.specs.Common.{sign_alike, same_signs}
 use Rattle.patterns.proofs.same_signs.Given as goal
 

@@ -1,10 +1,4 @@
-use mathlib.Core.Path.{◌≡◌, ap, ◌∙◌}
-use mathlib.Core.Bool.{◌||◌}
-use Prim.Native.Nat.{ℕ, ◌≤◌, ◌-◌, ◌+◌, ◌*◌, ◌/◌}
 use native.Mathlib.Omega.{arith}
-use native.Mathlib.Nat.{add-zero}
-use lib.ListN.{drop}
-use Rattle.patterns.specs.Signs.{has_sign}
 use Rattle.patterns.proofs.SignLaws.{sign_more}
 use Rattle.patterns.proofs.sixteen_signs.Goals as goal
 

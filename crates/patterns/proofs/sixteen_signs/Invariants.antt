@@ -1,11 +1,8 @@
-use mathlib.Core.Path.{◌≡◌, ap, ◌∙◌}
+use mathlib.Core.Path.{◌≡◌}
 use mathlib.Core.Bool.{◌||◌}
-use Prim.Native.Nat.{ℕ, ◌≤◌, ◌-◌, ◌+◌, ◌*◌, ◌/◌}
-use native.Mathlib.Omega.{arith}
-use native.Mathlib.Nat.{add-zero}
+use Prim.Native.Nat.{◌≤◌, ◌-◌, ◌+◌, ◌*◌, ◌/◌}
 use lib.ListN.{drop}
 use Rattle.patterns.specs.Signs.{has_sign}
-use Rattle.patterns.proofs.SignLaws.{sign_more}
 use Rattle.patterns.proofs.sixteen_signs.Given as goal
 
 abbrev pub invariant-loop-j : goal.invariant-loop-j

@@ -1,4 +1,3 @@
-use borrow.Author.Rules.{rules}
 use Rattle.patterns.proofs.CommonLaws.{overlap_tests}
 use Rattle.patterns.proofs.units_overlap.Goals as goal
 

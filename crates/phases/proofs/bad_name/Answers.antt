@@ -1,6 +1,5 @@
 use mathlib.Core.List.{[]}
 use Rattle.phases.proofs.Written.{corrupted_name, refused_name}
-use borrow.Author.Rules.{rules}
 use Rattle.phases.proofs.bad_name.Goals as goal
 
 pub returns-then-number-eq10 : goal.returns-then-number-eq10

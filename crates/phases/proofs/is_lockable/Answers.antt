@@ -1,7 +1,6 @@
 use mathlib.Core.Path.{refl, ap}
 use lib.Dec.{eqb}
 use Rattle.slices.proofs.TestLaws.{first_fails, first_holds}
-use borrow.Author.Rules.{rules}
 use mathlib.Core.Bool.{not}
 use Rattle.phases.proofs.is_lockable.Goals as goal
 

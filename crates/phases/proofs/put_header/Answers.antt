@@ -1,5 +1,4 @@
 use Rattle.phases.proofs.Written.{header_writes}
-use borrow.Author.Rules.{rules}
 use Rattle.phases.proofs.put_header.Goals as goal
 
 pub returns : goal.returns

@@ -1,6 +1,5 @@
 use Rattle.names.specs.Name.{variable}
 use Rattle.phases.proofs.Written.{lock_writes}
-use borrow.Author.Rules.{rules}
 use Rattle.phases.proofs.put_lock.Goals as goal
 
 pub returns : goal.returns

@@ -4,7 +4,6 @@ use native.Mathlib.Omega.{arith}
 use Rattle.slices.specs.Bytes.{overwrite}
 use Rattle.policy.proofs.PolicyLaws.{policy_valid-length}
 use Rattle.policy.proofs.Writes.{appended}
-use borrow.Author.Rules.{rules}
 use Rattle.policy.proofs.append.Goals as goal
 
 pub copy_in-requires : goal.copy_in-requires

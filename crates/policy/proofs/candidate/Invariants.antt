@@ -1,13 +1,6 @@
 use Prim.Native.Nat.{◌-◌, ◌≤◌}
-use mathlib.Core.Path.{refl, sym, ◌∙◌}
-use native.Mathlib.Omega.{arith}
-use lib.ListN.{get_or}
-use Rattle.slices.specs.Bytes.{Bytes}
-use Rattle.slices.proofs.TestLaws.{forced_off}
 use Rattle.names.specs.Name.{variable}
 use Rattle.policy.specs.Walk.{At, Passed}
-use Rattle.policy.proofs.Walk.{Hand, hand}
-use Rattle.policy.proofs.Best.{pass}
 use Rattle.policy.proofs.candidate.Given as goal
 
 abbrev pub invariant-loop-index : goal.invariant-loop-index

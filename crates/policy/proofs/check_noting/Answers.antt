@@ -1,5 +1,4 @@
-use native.Mathlib.Omega.{arith}
-use Rattle.policy.proofs.Marked.{invalid_length, invalid_promise, of_length}
+use Rattle.policy.proofs.Marked.{invalid_length, invalid_promise}
 use Rattle.policy.proofs.check_noting.Goals as goal
 
 pub returns-then-policy-ne-POLICY_BYTES : goal.returns-then-policy-ne-POLICY_BYTES

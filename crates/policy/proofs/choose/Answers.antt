@@ -1,17 +1,11 @@
-use Prim.Native.Nat.{◌-◌, ◌*◌, ◌/◌, ◌≤◌, ◌<◌}
-use mathlib.Core.Path.{◌≡◌, sym, ◌∙◌}
-use mathlib.Core.Logic.{⊎_elim}
+use mathlib.Core.Path.{sym, ◌∙◌}
 use native.Mathlib.Omega.{arith}
-use borrow.Author.Rules.{rules}
-use lib.ListN.{length, get_or, drop, length-take}
-use Rattle.limits.specs.Limits.{no_rank}
+use lib.ListN.{get_or}
 use Rattle.slices.specs.Bytes.{Bytes}
 use Rattle.names.specs.Name.{Variable, variable}
 use Rattle.names.specs.Tail.{whole_units, TailOf}
 use Rattle.policy.specs.declared.Choice.TheVariants.{Nothing}
 use Rattle.policy.specs.Policy.{entries_of}
-use Rattle.policy.specs.Choice.{choice_from, choice_of}
-use Rattle.policy.specs.Walk.{At}
 use Rattle.policy.specs.Best.{as_choice}
 use Rattle.policy.proofs.Walk.{Hand, hand, at_start}
 use Rattle.policy.proofs.Best.{choice_end, on_lower, on_kept, on_zero}

@@ -1,7 +1,6 @@
 use mathlib.Core.Path.{◌∙◌}
 use Rattle.limits.specs.Limits.{policy_bytes}
 use Rattle.policy.proofs.Writes.{cleared}
-use borrow.Author.Rules.{rules}
 use Rattle.policy.proofs.clear.Goals as goal
 
 pub returns : goal.returns

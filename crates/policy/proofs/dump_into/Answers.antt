@@ -5,7 +5,6 @@ use lib.ListN.{length-take, take}
 use Rattle.slices.specs.Bytes.{Bytes, overwrite}
 use Rattle.policy.proofs.PolicyLaws.{sizes_sum-within}
 use Rattle.policy.proofs.Writes.{dumped}
-use borrow.Author.Rules.{rules}
 use Rattle.policy.proofs.dump_into.Goals as goal
 
 pub slice_bounds-copy_in-end : goal.slice_bounds-copy_in-end

@@ -1,11 +1,8 @@
 use mathlib.Core.Path.{sym}
-use native.Mathlib.Omega.{arith}
-use lib.ListN.{length-take}
 use borrow.Author.Tests.{le-leb, lt-leb}
 use Rattle.slices.specs.Test.{◌and◌}
 use Rattle.policy.specs.Policy.{length_by}
 use Rattle.policy.proofs.PolicyLaws.{entry_length-short}
-use borrow.Author.Rules.{rules}
 use Rattle.policy.proofs.entry_length.Goals as goal
 
 pub returns-then-p-lt-ENTRY_HEADER : goal.returns-then-p-lt-ENTRY_HEADER

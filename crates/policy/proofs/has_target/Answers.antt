@@ -1,5 +1,5 @@
-use Prim.Native.Nat.{ℕ, ◌+◌, ◌-◌, ◌≤◌, ◌<◌}
-use mathlib.Core.Path.{◌≡◌, refl, sym, ap, ◌∙◌}
+use Prim.Native.Nat.{ℕ, ◌+◌, ◌≤◌, ◌<◌}
+use mathlib.Core.Path.{◌≡◌, sym, ap, ◌∙◌}
 use mathlib.Core.Bool.{Bool, true, false, ◌||◌}
 use native.Mathlib.Omega.{arith}
 use lib.ListN.{length, take, drop, length-drop}
@@ -10,7 +10,6 @@ use Rattle.slices.specs.Chunks.{contains}
 use Rattle.policy.specs.Stated.{stated_length, stated_of, repeats}
 use Rattle.slices.proofs.ChunksLaws.{chunks_stop, chunks_step}
 use Rattle.policy.proofs.StatedLaws.{States, stated_states, stated_within}
-use borrow.Author.Rules.{rules}
 use Rattle.policy.proofs.has_target.Goals as goal
 
 -- an entry of n bytes begins at byte at

@@ -1,16 +1,10 @@
-use Prim.Native.Nat.{◌+◌, ◌-◌, ◌≤◌, ◌<◌}
-use mathlib.Core.Path.{◌≡◌, sym, ap, ◌∙◌}
-use native.Mathlib.Omega.{arith}
-use native.Mathlib.Nat.{sub-zero}
-use lib.ListN.{length, take, drop}
-use Rattle.limits.specs.Limits.{size_at, entry_header}
-use Rattle.slices.specs.Bytes.{Bytes, le16}
-use Rattle.slices.proofs.PartLaws.{part_of}
+use Prim.Native.Nat.{◌-◌, ◌≤◌}
+use mathlib.Core.Path.{◌≡◌}
+use lib.ListN.{take, drop}
 use Rattle.slices.specs.Chunks.{contains}
 use Rattle.entry.specs.Entry.{same_target}
-use Rattle.policy.specs.Policy.{entry_length, entries_of}
+use Rattle.policy.specs.Policy.{entries_of}
 use Rattle.policy.specs.Walk.{At}
-use Rattle.policy.proofs.Walk.{at_start, at_next, formed, stated, stated_least, stated_fits, among_hit, among_miss, among_end}
 use Rattle.policy.proofs.is_among.Given as goal
 
 abbrev pub invariant-loop-index : goal.invariant-loop-index

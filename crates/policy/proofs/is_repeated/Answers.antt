@@ -1,11 +1,8 @@
 use mathlib.Core.Path.{◌≡◌}
-use Prim.Native.Nat.{◌<◌}
-use native.Mathlib.Omega.{arith}
 use lib.ListN.{take, set}
 use Rattle.policy.specs.Policy.{entries_of}
-use Rattle.policy.specs.Filter.{slots, marks_with}
+use Rattle.policy.specs.Filter.{marks_with}
 use Rattle.policy.proofs.Marked.{marks_first, marks_several, free, unmarked}
-use borrow.Author.Rules.{rules}
 use Rattle.policy.proofs.is_repeated.Goals as goal
 
 pub returns-then-seen-eq0 : goal.returns-then-seen-eq0

@@ -1,7 +1,6 @@
 use native.Mathlib.Omega.{arith}
 use Rattle.entry.proofs.EntryLaws.{sized}
 use Rattle.policy.proofs.Marked.{key_is}
-use borrow.Author.Rules.{rules}
 use Rattle.policy.proofs.key.Goals as goal
 
 pub get32-requires : goal.get32-requires

@@ -2,7 +2,6 @@ use Prim.Native.Nat.{◌+◌, ◌≤◌}
 use mathlib.Core.Path.{sym, ◌∙◌}
 use native.Mathlib.Omega.{arith}
 use borrow.Author.Tests.{eq-eqb}
-use borrow.Author.Rules.{rules}
 use Rattle.slices.specs.Bytes.{Bytes}
 use Rattle.policy.proofs.Named.{header, offset_most, whole, least, long_name, long_own, whole_units_lem, shown_word}
 use Rattle.policy.proofs.may_name.Goals as goal

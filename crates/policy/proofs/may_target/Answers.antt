@@ -3,12 +3,10 @@ use mathlib.Core.Path.{◌≡◌, sym, ap, ◌∙◌}
 use native.Mathlib.Omega.{arith}
 use lib.ListN.{drop}
 use lib.Seq.{drop-drop}
-use borrow.Author.Tests.{not-true}
-use borrow.Author.Rules.{rules}
 use Rattle.limits.specs.Limits.{namespace_at, min_size_at, entry_header}
 use Rattle.slices.proofs.TestLaws.{and_left, and_right}
 use Rattle.slices.specs.Bytes.{Bytes, part, same}
-use Rattle.slices.proofs.PartLaws.{part_take, length_part}
+use Rattle.slices.proofs.PartLaws.{part_take}
 use Rattle.entry.specs.Entry.{namespace_of, targets}
 use Rattle.policy.proofs.Named.{header}
 use Rattle.policy.proofs.may_target.Goals as goal

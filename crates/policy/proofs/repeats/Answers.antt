@@ -3,14 +3,12 @@ use mathlib.Core.Path.{◌≡◌, sym, ap, ◌∙◌}
 use mathlib.Core.Bool.{Bool, true, false}
 use native.Mathlib.Omega.{arith}
 use lib.ListN.{length}
-use borrow.Author.Tests.{not-true, not-false}
 use Rattle.slices.specs.Test.{◌and◌}
 use Rattle.slices.proofs.TestLaws.{and_no, and_yes}
 use Rattle.slices.specs.Bytes.{Bytes, part, same}
 use Rattle.entry.specs.Entry.{well_formed, namespace_of, name_of, same_target}
 use Rattle.entry.proofs.EntryLaws.{sized}
 use Rattle.policy.specs.Stated.{repeats}
-use borrow.Author.Rules.{rules}
 use Rattle.policy.proofs.repeats.Goals as goal
 
 -- s says whether the namespaces are the same, t whether the names are, which are m and n

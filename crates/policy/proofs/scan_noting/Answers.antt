@@ -1,4 +1,3 @@
-use borrow.Author.Rules.{rules}
 use Rattle.policy.proofs.FilterLaws.{marks_none}
 use Rattle.policy.proofs.scan_noting.Goals as goal
 

@@ -1,7 +1,6 @@
 use mathlib.Core.Path.{sym, ◌∙◌}
 use native.Mathlib.Omega.{arith}
 use Rattle.policy.proofs.StatedLaws.{stated_short, stated_small, stated_none, stated_there}
-use borrow.Author.Rules.{rules}
 use Rattle.policy.proofs.stated_length.Goals as goal
 
 pub returns-then-p-lt-ENTRY_HEADER : goal.returns-then-p-lt-ENTRY_HEADER

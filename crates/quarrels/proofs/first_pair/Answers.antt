@@ -1,13 +1,12 @@
-use Prim.Native.Nat.{ℕ, ◌-◌, ◌≤◌, ◌<◌}
-use mathlib.Core.Path.{◌≡◌, refl, sym, ◌∙◌}
+use Prim.Native.Nat.{ℕ, ◌≤◌, ◌<◌}
+use mathlib.Core.Path.{sym, ◌∙◌}
 use native.Mathlib.Omega.{arith}
 use lib.ListN.{length, get_or}
 use Rattle.limits.specs.Limits.{max_entries}
 use Rattle.slices.specs.Bytes.{Bytes}
 use Rattle.policy.specs.Policy.{entries_of}
-use Rattle.quarrels.specs.declared.Pair.TheVariants.{NoPair}
 use Rattle.quarrels.proofs.Chains.{skipped_later}
-use Rattle.quarrels.proofs.Places.{Clear, Walks, clear_start, clear_row, walk_start, walk_step, walk_skip, found_here, found_none}
+use Rattle.quarrels.proofs.Places.{walk_start, walk_step, walk_skip, found_here, found_none}
 use Rattle.quarrels.proofs.first_pair.Goals as goal
 
 pub loop-j-init : goal.loop-j-init

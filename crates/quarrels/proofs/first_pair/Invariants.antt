@@ -1,13 +1,8 @@
-use Prim.Native.Nat.{ℕ, ◌-◌, ◌≤◌, ◌<◌}
-use mathlib.Core.Path.{◌≡◌, refl, sym, ◌∙◌}
-use native.Mathlib.Omega.{arith}
-use lib.ListN.{length, get_or}
-use Rattle.limits.specs.Limits.{max_entries}
-use Rattle.slices.specs.Bytes.{Bytes}
+use Prim.Native.Nat.{◌-◌}
+use mathlib.Core.Path.{◌≡◌}
 use Rattle.policy.specs.Policy.{entries_of}
 use Rattle.quarrels.specs.declared.Pair.TheVariants.{NoPair}
-use Rattle.quarrels.proofs.Chains.{skipped_later}
-use Rattle.quarrels.proofs.Places.{Clear, Walks, clear_start, clear_row, walk_start, walk_step, walk_skip, found_here, found_none}
+use Rattle.quarrels.proofs.Places.{Clear, Walks}
 use Rattle.quarrels.proofs.first_pair.Given as goal
 
 abbrev pub invariant-loop-j : goal.invariant-loop-j

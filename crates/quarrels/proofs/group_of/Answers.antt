@@ -1,7 +1,5 @@
 use native.Mathlib.Omega.{arith}
 use mathlib.Core.Path.{sym, ◌∙◌}
-use borrow.Author.Tests.{not-true, not-false}
-use borrow.Author.Rules.{rules}
 use Rattle.limits.specs.Limits.{max_name_bytes}
 use Prim.Native.Nat.{◌≤◌}
 use lib.ListN.{length}

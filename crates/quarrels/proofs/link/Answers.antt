@@ -13,7 +13,7 @@ use Rattle.entry.specs.Entry.{name_of}
 use Rattle.policy.specs.Policy.{entries_of}
 use Rattle.quarrels.proofs.QuarrelLaws.{at}
 use Rattle.quarrels.specs.Group.{group_of, group_at}
-use Rattle.quarrels.proofs.Linked.{Linked, linked_none, linked_next, linked_skip, linked_single, linked_back, linked_all, alike_yes, alike_under}
+use Rattle.quarrels.proofs.Linked.{Linked, linked_none, linked_next, linked_skip, linked_single, linked_back, alike_yes, alike_under}
 use Rattle.quarrels.proofs.link.Goals as goal
 
 pub loop-i-init : goal.loop-i-init

@@ -1,7 +1,5 @@
 use mathlib.Core.Path.{sym, ◌∙◌}
 use native.Mathlib.Omega.{arith}
-use borrow.Author.Tests.{not-true}
-use borrow.Author.Rules.{rules}
 use Rattle.patterns.specs.Literals.{literal_mask_of, literals_of}
 use Rattle.policy.specs.Policy.{entries_of}
 use Rattle.quarrels.specs.Group.{group_at}

@@ -1,10 +1,7 @@
 use mathlib.Core.Path.{sym, ◌∙◌}
 use native.Mathlib.Omega.{arith}
-use borrow.Author.Tests.{not-true, not-false}
-use borrow.Author.Rules.{rules}
-use Rattle.names.specs.Name.{wildcards}
 use Rattle.entry.proofs.EntryLaws.{sized}
-use Rattle.quarrels.proofs.Tests.{by_length, by_none_lem, by_overlap, by_rank, by_namespace, namespace_length}
+use Rattle.quarrels.proofs.Tests.{by_length, by_none_lem, by_overlap, by_rank, by_namespace}
 use Rattle.quarrels.proofs.quarrel.Goals as goal
 
 pub returns-then-own-other : goal.returns-then-own-other

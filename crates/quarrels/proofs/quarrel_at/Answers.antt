@@ -1,10 +1,7 @@
 use Prim.Native.Nat.{ℕ, ◌<◌}
-use mathlib.Core.Path.{sym, ap₂, ◌∙◌}
+use mathlib.Core.Path.{sym, ◌∙◌}
 use native.Mathlib.Omega.{arith}
 use lib.ListN.{get_or}
-use borrow.Author.Tests.{not-true}
-use Rattle.limits.specs.Limits.{max_entries}
-use Rattle.quarrels.specs.Quarrel.{quarrel}
 use Rattle.quarrels.proofs.Places.{fronts_differ, tails_differ}
 use Rattle.quarrels.proofs.quarrel_at.Goals as goal
 

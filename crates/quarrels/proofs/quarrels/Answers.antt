@@ -1,6 +1,5 @@
 use mathlib.Core.Path.{◌≡◌, sym, ap, ◌∙◌}
 use native.Mathlib.Omega.{arith}
-use borrow.Author.Rules.{rules}
 use Rattle.entry.specs.Entry.{name_of}
 use Rattle.policy.specs.Policy.{entries_of}
 use Rattle.policy.proofs.DumpLaws.{DumpChecked, dump_check_valid, dump_check_invalid}

@@ -8,7 +8,6 @@ use Rattle.slices.proofs.PartLaws.{length_part}
 use Rattle.policy.specs.Filter.{slot_of, fingerprint_of}
 use Rattle.reader.specs.Reader.{filter_at, count, good, seen}
 use Rattle.reader.proofs.Judged.{full, repeated, admitted, with_it}
-use borrow.Author.Rules.{rules}
 use Rattle.reader.proofs.accept.Goals as goal
 
 pub returns-then-count-ge-MAX_ENTRIES : goal.returns-then-count-ge-MAX_ENTRIES

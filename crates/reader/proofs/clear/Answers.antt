@@ -1,4 +1,3 @@
-use borrow.Author.Rules.{rules}
 use Rattle.reader.specs.Reader.{fresh}
 use Rattle.reader.proofs.clear.Goals as goal
 

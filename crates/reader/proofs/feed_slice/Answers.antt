@@ -1,11 +1,8 @@
-use mathlib.Core.Path.{sym, ap, ◌∙◌}
+use mathlib.Core.Path.{ap, ◌∙◌}
 use mathlib.Core.Logic.{inl, inr}
 use native.Mathlib.Omega.{arith}
-use borrow.Author.Tests.{ltb-true}
-use Rattle.limits.specs.Limits.{policy_bytes}
-use Rattle.reader.specs.Reader.{held, fed}
+use Rattle.reader.specs.Reader.{fed}
 use Rattle.reader.proofs.Taken.{one_byte, fed_piece, refused}
-use borrow.Author.Rules.{rules}
 use Rattle.reader.proofs.feed_slice.Goals as goal
 
 pub returns-then-has_room : goal.returns-then-has_room

@@ -1,6 +1,5 @@
 use Rattle.reader.specs.Reader.{put}
 use Rattle.reader.proofs.Taken.{hold_tells}
-use borrow.Author.Rules.{rules}
 use Rattle.reader.proofs.hold.Goals as goal
 
 pub returns : goal.returns

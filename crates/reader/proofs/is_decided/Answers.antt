@@ -1,6 +1,5 @@
 use native.Mathlib.Omega.{arith}
 use Rattle.reader.proofs.Parts.{part_short, part_stated}
-use borrow.Author.Rules.{rules}
 use Rattle.reader.proofs.is_decided.Goals as goal
 
 pub returns-then-to-from : goal.returns-then-to-from

@@ -1,5 +1,4 @@
 use Rattle.reader.proofs.Judged.{judged_stopped, judged_going}
-use borrow.Author.Rules.{rules}
 use Rattle.reader.proofs.judge.Goals as goal
 
 pub returns-then-is_decided : goal.returns-then-is_decided

@@ -4,7 +4,6 @@ use lib.Seq.{length-take-le}
 use Rattle.entry.proofs.EntryLaws.{rank_most}
 use Rattle.policy.proofs.PolicyLaws.{Begins, entry_length-begins}
 use Rattle.reader.proofs.Said.{nothing_there, listed_there}
-use borrow.Author.Rules.{rules}
 use Rattle.reader.proofs.listing_in.Goals as goal
 
 pub returns-then-size-eq0 : goal.returns-then-size-eq0

@@ -1,5 +1,4 @@
 use Rattle.slices.proofs.OverwriteLaws.{set_overwrites}
-use borrow.Author.Rules.{rules}
 use Rattle.reader.proofs.put_byte.Goals as goal
 
 pub returns : goal.returns

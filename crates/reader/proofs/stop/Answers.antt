@@ -1,4 +1,3 @@
-use borrow.Author.Rules.{rules}
 use Rattle.reader.specs.Reader.{put}
 use Rattle.reader.proofs.stop.Goals as goal
 

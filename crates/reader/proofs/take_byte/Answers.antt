@@ -8,7 +8,6 @@ use Rattle.slices.specs.Bytes.{Bytes}
 use Rattle.slices.proofs.OverwriteLaws.{length_overwrite}
 use Rattle.reader.specs.Reader.{reader_bytes, all_judged, fed}
 use Rattle.reader.proofs.Taken.{ready, none_judged, taken_is, fed_room}
-use borrow.Author.Rules.{rules}
 use Rattle.reader.proofs.take_byte.Goals as goal
 
 pub judge-requires : goal.judge-requires

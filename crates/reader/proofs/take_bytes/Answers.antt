@@ -6,7 +6,6 @@ use Rattle.limits.specs.Limits.{policy_bytes}
 use Rattle.slices.proofs.OverwriteLaws.{length_overwrite}
 use Rattle.reader.specs.Reader.{reader_bytes}
 use Rattle.reader.proofs.Taken.{ready, none_judged, taken_is}
-use borrow.Author.Rules.{rules}
 use Rattle.reader.proofs.take_bytes.Goals as goal
 
 pub judge-requires : goal.judge-requires

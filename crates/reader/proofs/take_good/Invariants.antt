@@ -1,14 +1,8 @@
-use Prim.Native.Nat.{◌+◌, ◌-◌}
-use mathlib.Core.Bool.{false}
-use mathlib.Core.Path.{◌≡◌, sym, ap, ◌∙◌}
-use native.Mathlib.Omega.{arith}
-use lib.ListN.{length}
-use borrow.Author.Tests.{not-true, not-false}
+use Prim.Native.Nat.{◌-◌}
+use mathlib.Core.Path.{◌≡◌}
 use Rattle.slices.specs.Bytes.{part}
 use Rattle.policy.specs.Policy.{entry_length}
-use borrow.Author.Rules.{rules}
-use Rattle.reader.specs.Reader.{held, good}
-use Rattle.reader.proofs.Judged.{Hand, hand, Judging, judging_start, judging_end, judging_kept, judging_refused, judging_more}
+use Rattle.reader.proofs.Judged.{Judging}
 use Rattle.reader.proofs.take_good.Given as goal
 
 abbrev pub invariant-loop-next : goal.invariant-loop-next

@@ -1,13 +1,11 @@
 use Prim.Native.Nat.{ℕ, ◌-◌, ◌≤◌, ◌<◌}
-use mathlib.Core.Path.{◌≡◌, sym, ◌∙◌}
+use mathlib.Core.Path.{◌≡◌, ◌∙◌}
 use native.Mathlib.Omega.{arith}
-use lib.ListN.{length, take, length-take}
-use lib.Seq.{length-take-le}
+use lib.ListN.{length, take}
 use Rattle.limits.specs.Limits.{policy_bytes}
 use Rattle.slices.specs.Bytes.{Bytes}
 use Rattle.reader.specs.Reader.{held, stop, taken, fed}
 use Rattle.reader.proofs.Taken.{fed_stopped, fed_room, fed_past}
-use borrow.Author.Rules.{rules}
 use Rattle.reader.proofs.take_piece.Goals as goal
 
 -- more bytes than there is room for; f is the number held

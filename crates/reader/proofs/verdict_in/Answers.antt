@@ -1,5 +1,4 @@
 use Rattle.reader.proofs.Said.{verdict_is}
-use borrow.Author.Rules.{rules}
 use Rattle.reader.proofs.verdict_in.Goals as goal
 
 pub returns : goal.returns

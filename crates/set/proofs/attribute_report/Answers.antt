@@ -1,4 +1,3 @@
-use borrow.Author.Rules.{rules}
 use Rattle.set.proofs.Reports.{attribute_report}
 use Rattle.set.proofs.attribute_report.Goals as goal
 

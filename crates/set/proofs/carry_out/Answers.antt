@@ -1,8 +1,7 @@
 use Rattle.set.proofs.Puts.{carried, refused_left, blocked_left, kept_left, deleted_left}
 use Rattle.rules.proofs.DecisionLaws.{stored_facts}
-use Rattle.rules.specs.declared.Decision.TheVariants.{Delete, Keep, Store}
+use Rattle.rules.specs.declared.Decision.TheVariants.{Delete, Keep}
 use mathlib.Core.Path.{sym, ◌∙◌}
-use borrow.Author.Rules.{rules}
 use Rattle.set.proofs.carry_out.Goals as goal
 
 pub put_variable-requires : goal.put_variable-requires

@@ -1,10 +1,9 @@
 use Rattle.set.proofs.Requests.{bad_name_lem, long_payload, unknown_bit, lacks_bs, lacks_runtime, taken}
 use Rattle.names.specs.Name.{is_name}
 use Rattle.rules.specs.Set.{unsupported_bit}
-use borrow.Author.Tests.{eq-eqb, ne_eqb, not-true, not-false}
+use borrow.Author.Tests.{eq-eqb, ne_eqb}
 use mathlib.Core.Path.{◌≡◌, sym, ap, ◌∙◌}
 use mathlib.Core.Bool.{true, not}
-use borrow.Author.Rules.{rules}
 use Rattle.set.proofs.check_request.Goals as goal
 
 pub returns-then-not-is_name : goal.returns-then-not-is_name

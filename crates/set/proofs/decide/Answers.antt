@@ -9,11 +9,9 @@ use Rattle.set.specs.Decided.{decided_by}
 use Rattle.set.proofs.Decisions.{spoken_ground, decided_silent, silent_report, decided_blocked, ground_in}
 use Rattle.status.specs.Status.{is_success}
 use Rattle.switches.specs.declared.Switches.{Switches}
-use borrow.Author.Tests.{not-true, not-false}
 use mathlib.Core.Bool.{true, false}
 use mathlib.Core.List.{List}
 use mathlib.Core.Path.{◌≡◌, refl, sym, ap, ◌∙◌}
-use borrow.Author.Rules.{rules}
 use Rattle.set.proofs.decide.Goals as goal
 
 pub returns-then-not-is_success : goal.returns-then-not-is_success

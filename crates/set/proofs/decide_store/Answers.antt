@@ -5,7 +5,6 @@ use Rattle.stores.specs.Pair.{lookup}
 use Rattle.rules.specs.Set.{payload_after}
 use mathlib.Core.Path.{◌≡◌, sym}
 use lib.ListN.{length}
-use borrow.Author.Rules.{rules}
 use Rattle.set.proofs.decide_store.Goals as goal
 
 -- ---- the needs

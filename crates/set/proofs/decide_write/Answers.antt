@@ -5,7 +5,6 @@ use Rattle.stores.specs.Pair.{lookup}
 use Rattle.rules.specs.Set.{is_deletion, other_attributes}
 use mathlib.Core.Bool.{false}
 use mathlib.Core.Path.{◌≡◌, sym, ◌∙◌}
-use borrow.Author.Rules.{rules}
 use Rattle.set.proofs.decide_write.Goals as goal
 
 pub decide_delete-requires : goal.decide_delete-requires

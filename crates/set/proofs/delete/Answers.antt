@@ -1,7 +1,6 @@
 use Rattle.set.proofs.Puts.{end_nv, end_vol, found_there, deleted_nv, deleted_vol}
 use Rattle.stores.proofs.PairLaws.{sound_nv, sound_vol}
 use mathlib.Core.Bool.{true, false}
-use borrow.Author.Rules.{rules}
 use Rattle.set.proofs.delete.Goals as goal
 
 pub remove-requires : goal.remove-requires

@@ -7,7 +7,6 @@ use Rattle.set.specs.Known.{Located}
 use Rattle.set.proofs.Grounds.{sized, by_request, locked_ground, unlocked_ground}
 use Rattle.set.proofs.WriteSteps.{after_place}
 use mathlib.Core.Path.{◌≡◌, sym, ap, ◌∙◌}
-use borrow.Author.Rules.{rules}
 use Rattle.set.proofs.entry_ground.Goals as goal
 
 pub returns-in-SizeGround : goal.returns-in-SizeGround

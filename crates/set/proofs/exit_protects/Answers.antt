@@ -1,5 +1,4 @@
 use Rattle.set.proofs.Shown.{protects_before, protects_absent, protects_after}
-use borrow.Author.Rules.{rules}
 use mathlib.Core.Bool.{not}
 use mathlib.Core.Path.{ap}
 use Rattle.set.proofs.exit_protects.Goals as goal

@@ -1,8 +1,6 @@
-use Rattle.set.proofs.Puts.{namespace_length, name_most, end_nv, end_vol, found_alike, room_alike}
-use Rattle.rules.specs.Set.{stored_attributes}
+use Rattle.set.proofs.Puts.{namespace_length, name_most, end_nv, end_vol, found_alike}
 use mathlib.Core.Bool.{true, false}
 use mathlib.Core.Path.{sym, ◌∙◌}
-use borrow.Author.Rules.{rules}
 use Rattle.set.proofs.has_room.Goals as goal
 
 pub has_room-requires : goal.has_room-requires

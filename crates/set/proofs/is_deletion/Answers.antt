@@ -1,7 +1,6 @@
 use Rattle.set.proofs.Requests.{empty_length, some_length}
 use Rattle.rules.specs.Set.{is_deletion}
 use Rattle.slices.specs.Test.{◌and◌}
-use borrow.Author.Rules.{rules}
 use Rattle.set.proofs.is_deletion.Goals as goal
 
 pub returns-then-has_append : goal.returns-then-has_append

@@ -1,7 +1,6 @@
 use Rattle.set.proofs.Requests.{empty_is}
 use Rattle.rules.specs.Set.{is_empty_append}
 use Rattle.slices.specs.Test.{◌and◌}
-use borrow.Author.Rules.{rules}
 use Rattle.set.proofs.is_empty_append.Goals as goal
 
 pub returns-then-has_append : goal.returns-then-has_append

@@ -1,5 +1,4 @@
 use Rattle.set.proofs.Shown.{shown_absent, shown_before, shown_after}
-use borrow.Author.Rules.{rules}
 use mathlib.Core.Bool.{not}
 use mathlib.Core.Path.{ap}
 use Rattle.set.proofs.is_shown.Goals as goal

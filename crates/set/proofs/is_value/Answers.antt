@@ -1,5 +1,4 @@
 use Rattle.set.proofs.Requests.{other_length, one_byte}
-use borrow.Author.Rules.{rules}
 use Rattle.set.proofs.is_value.Goals as goal
 
 pub returns-then-payload-ne1 : goal.returns-then-payload-ne1

@@ -1,6 +1,5 @@
 use Rattle.set.proofs.WriteSteps.{append_length, plain_length}
 use mathlib.Core.Path.{sym, ◌∙◌}
-use borrow.Author.Rules.{rules}
 use Rattle.set.proofs.length_after.Goals as goal
 
 pub returns-then-has_append : goal.returns-then-has_append

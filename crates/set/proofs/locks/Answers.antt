@@ -1,7 +1,6 @@
 use Rattle.set.proofs.LockRules.{exists_place, trigger_place, rule_locks_lem, trigger_locks}
 use Rattle.stores.specs.Pair.{lookup}
 use mathlib.Core.Path.{sym, ◌∙◌}
-use borrow.Author.Rules.{rules}
 use Rattle.set.proofs.locks.Goals as goal
 
 pub trigger_holds-requires : goal.trigger_holds-requires

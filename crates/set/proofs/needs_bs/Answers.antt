@@ -1,5 +1,4 @@
 use Rattle.set.proofs.Requests.{no_need, runtime_needs, append_needs}
-use borrow.Author.Rules.{rules}
 use Rattle.set.proofs.needs_bs.Goals as goal
 
 pub returns-then-has_bs : goal.returns-then-has_bs

@@ -1,5 +1,4 @@
 use Rattle.set.proofs.Requests.{not_exited, deletion_passes, runtime_asked}
-use borrow.Author.Rules.{rules}
 use mathlib.Core.Bool.{not}
 use mathlib.Core.Path.{ap}
 use Rattle.set.proofs.needs_runtime.Goals as goal

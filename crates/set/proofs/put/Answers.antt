@@ -1,7 +1,6 @@
 use Rattle.set.proofs.Puts.{put_storable, put_room, put_is, joined_some}
 use Rattle.set.proofs.WriteSteps.{after_plain, after_append}
 use mathlib.Core.Path.{sym, ◌∙◌}
-use borrow.Author.Rules.{rules}
 use Rattle.set.proofs.put.Goals as goal
 
 pub append-requires : goal.append-requires

@@ -1,7 +1,6 @@
 use Rattle.set.proofs.Puts.{end_nv, end_vol, found_alike, writable, stored_nv, stored_vol_lem}
 use mathlib.Core.Bool.{true, false}
 use mathlib.Core.Path.{sym, ◌∙◌}
-use borrow.Author.Rules.{rules}
 use Rattle.set.proofs.put_variable.Goals as goal
 
 pub put-requires : goal.put-requires

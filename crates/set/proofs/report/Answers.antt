@@ -8,10 +8,8 @@ use Rattle.rules.specs.Set.{request_of}
 use Rattle.set.proofs.LockRules.{located_within}
 use Rattle.set.proofs.Spoken.{header_within, end_within, entry_formed, entry_chosen, index_below, rank_below, entry_rank, entry_place}
 use Rattle.set.proofs.Reports.{disabled_report, unchosen_report, spoken_report}
-use borrow.Author.Tests.{not-true, not-false}
 use native.Mathlib.Omega.{arith}
 use mathlib.Core.Path.{◌≡◌, sym, ◌∙◌}
-use borrow.Author.Rules.{rules}
 use Rattle.set.proofs.report.Goals as goal
 
 pub returns-then-not-enabled : goal.returns-then-not-enabled

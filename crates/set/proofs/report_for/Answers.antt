@@ -1,5 +1,4 @@
-use borrow.Author.Rules.{rules}
-use Rattle.set.proofs.Reports.{none_reported, size_reported, attributes_reported, lock_reported}
+use Rattle.set.proofs.Reports.{none_reported, size_reported, lock_reported}
 use Rattle.set.proofs.report_for.Goals as goal
 
 pub returns-in-NoGround : goal.returns-in-NoGround

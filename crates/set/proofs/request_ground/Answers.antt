@@ -1,7 +1,5 @@
 use Rattle.set.proofs.Grounds.{size_by, attributes_by, deletion_ground, size_ground, no_ground, attribute_ground}
-use borrow.Author.Tests.{not-true, not-false}
 use mathlib.Core.Path.{sym, ◌∙◌}
-use borrow.Author.Rules.{rules}
 use Rattle.set.proofs.request_ground.Goals as goal
 
 pub returns-then-is_deletion : goal.returns-then-is_deletion

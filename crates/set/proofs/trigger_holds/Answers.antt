@@ -2,7 +2,6 @@ use Rattle.set.proofs.LockRules.{trigger_by}
 use Rattle.stores.proofs.PlaceLaws.{place_within_stores}
 use Rattle.stores.specs.Place.{Within}
 use mathlib.Core.Path.{sym, subst}
-use borrow.Author.Rules.{rules}
 use Rattle.set.proofs.trigger_holds.Goals as goal
 
 pub payload_at-requires : goal.payload_at-requires

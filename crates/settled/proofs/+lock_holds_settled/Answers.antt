@@ -2,14 +2,11 @@
 use Prim.Native.Nat.{ℕ, ◌+◌, ◌-◌, ◌*◌, ◌<◌}
 use mathlib.Core.Path.{◌≡◌, sym, ◌∙◌}
 use native.Mathlib.Omega.{arith}
-use Rattle.names.specs.Name.{Variable, variable}
+use Rattle.names.specs.Name.{variable}
 use Rattle.policy.specs.Policy.{entries_of}
-use Rattle.policy.specs.Choice.{chosen, choice_of}
+use Rattle.policy.specs.Choice.{chosen}
 use Rattle.policy.proofs.ChoiceLaws.{choice_none}
-use Rattle.policy.specs.declared.Choice.TheVariants.{Chosen}
 use Rattle.stores.specs.Pair.{lookup}
-use Rattle.rules.specs.Set.{Lookup}
-use Rattle.rules.specs.Settled.{Choice}
 use Rattle.set.proofs.LockRules.{trigger_place}
 use Rattle.set.proofs.Spoken.{header_within, end_within, entry_formed, entry_chosen}
 use Rattle.settled.proofs.Links.{settled_none, settled_some, namespace_within, lock_none, lock_now, lock_created, lock_end, lock_differs, lock_link}

@@ -3,7 +3,6 @@ use mathlib.Core.Bool.{true, false}
 use Rattle.store.proofs.StoreLaws.{store_ok-length}
 use Rattle.stores.proofs.PairLaws.{sound_nv, sound_vol}
 use Rattle.noted.proofs.Walks.{fresh}
-use borrow.Author.Rules.{rules}
 use Rattle.settled.proofs.is_settled.Goals as goal
 
 pub note-requires : goal.note-requires

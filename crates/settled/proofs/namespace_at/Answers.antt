@@ -6,7 +6,6 @@ use lib.ListN.{length, drop, replicate}
 use Rattle.slices.specs.Bytes.{Bytes, overwrite}
 use Rattle.slices.proofs.PartLaws.{length_part}
 use Rattle.slices.proofs.OverwriteLaws.{overwrite_seam}
-use borrow.Author.Rules.{rules}
 use Rattle.settled.proofs.namespace_at.Goals as goal
 
 -- sixteen bytes over sixteen zeros

@@ -1,5 +1,4 @@
 use Rattle.settled.proofs.Links.{trigger_noted}
-use borrow.Author.Rules.{rules}
 use Rattle.settled.proofs.trigger_holds.Goals as goal
 
 pub returns : goal.returns

@@ -1,7 +1,6 @@
 use Rattle.rules.specs.Set.{exists}
 use Rattle.set.proofs.LockRules.{exists_at}
 use mathlib.Core.Path.{sym, ap, ◌∙◌}
-use borrow.Author.Rules.{rules}
 use Rattle.settled.proofs.variable_exists.Goals as goal
 
 pub returns : goal.returns

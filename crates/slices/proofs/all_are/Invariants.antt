@@ -1,11 +1,8 @@
-use mathlib.Core.Path.{◌≡◌, refl, sym, ◌∙◌}
+use mathlib.Core.Path.{◌≡◌}
 use Prim.Native.Nat.{◌≤◌, ◌-◌}
-use native.Mathlib.Omega.{arith}
 use lib.ListN.{length, drop}
 use Rattle.slices.specs.Test.{◌and◌}
-use Rattle.slices.proofs.TestLaws.{and_yes}
 use Rattle.slices.specs.Bytes.{all_are}
-use Rattle.slices.proofs.BytesLaws.{all_are-end, all_are-more}
 use Rattle.slices.proofs.all_are.Given as goal
 
 abbrev pub invariant-loop-i : goal.invariant-loop-i

@@ -1,8 +1,6 @@
 use mathlib.Core.Path.{refl}
-use native.Mathlib.Omega.{arith}
-use lib.ListN.{length, replicate, length-take}
+use lib.ListN.{length, replicate}
 use Rattle.slices.proofs.Writes.{copy_through}
-use borrow.Author.Rules.{rules}
 use Rattle.slices.proofs.copy_block.Goals as goal
 
 pub returns : goal.returns

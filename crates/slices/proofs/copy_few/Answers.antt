@@ -1,8 +1,7 @@
 use mathlib.Core.Path.{◌≡◌, refl, ◌∙◌}
-use Prim.Native.Nat.{◌≤◌, ◌-◌}
 use native.Mathlib.Omega.{arith}
 use lib.ListN.{length, length-set}
-use Rattle.slices.proofs.Writes.{upto, upto_start, upto_step, upto_done}
+use Rattle.slices.proofs.Writes.{upto_start, upto_step, upto_done}
 use Rattle.slices.proofs.copy_few.Goals as goal
 
 pub loop-i-init : goal.loop-i-init

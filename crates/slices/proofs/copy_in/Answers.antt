@@ -1,10 +1,8 @@
-use mathlib.Core.Path.{◌≡◌, refl, ◌∙◌}
-use Prim.Native.Nat.{◌≤◌, ◌-◌, ◌+◌}
+use mathlib.Core.Path.{refl, ◌∙◌}
+use Prim.Native.Nat.{◌+◌}
 use native.Mathlib.Omega.{arith}
-use lib.ListN.{length, take}
+use lib.ListN.{length}
 use lib.Seq.{take-length}
-use Rattle.slices.specs.Bytes.{overwrite}
-use Rattle.slices.proofs.PartLaws.{length_part}
 use Rattle.slices.proofs.OverwriteLaws.{overwrite_none}
 use Rattle.slices.proofs.Writes.{copy_next}
 use Rattle.slices.proofs.copy_in.Goals as goal

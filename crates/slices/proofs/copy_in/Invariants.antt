@@ -1,12 +1,7 @@
-use mathlib.Core.Path.{◌≡◌, refl, ◌∙◌}
-use Prim.Native.Nat.{◌≤◌, ◌-◌, ◌+◌}
-use native.Mathlib.Omega.{arith}
+use mathlib.Core.Path.{◌≡◌}
+use Prim.Native.Nat.{◌≤◌, ◌-◌}
 use lib.ListN.{length, take}
-use lib.Seq.{take-length}
 use Rattle.slices.specs.Bytes.{overwrite}
-use Rattle.slices.proofs.PartLaws.{length_part}
-use Rattle.slices.proofs.OverwriteLaws.{overwrite_none}
-use Rattle.slices.proofs.Writes.{copy_next}
 use Rattle.slices.proofs.copy_in.Given as goal
 
 abbrev pub invariant-loop-i : goal.invariant-loop-i

@@ -1,9 +1,6 @@
-use mathlib.Core.Path.{◌≡◌, refl}
-use Prim.Native.Nat.{◌≤◌, ◌-◌}
+use mathlib.Core.Path.{refl}
 use native.Mathlib.Omega.{arith}
-use lib.ListN.{take, drop}
 use Rattle.slices.specs.Test.{◌and◌}
-use Rattle.slices.specs.Bytes.{same}
 use Rattle.slices.proofs.BytesLaws.{same_more, same_done}
 use Rattle.slices.proofs.eight.Goals as goal
 

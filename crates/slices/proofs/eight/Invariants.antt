@@ -1,10 +1,8 @@
-use mathlib.Core.Path.{◌≡◌, refl}
+use mathlib.Core.Path.{◌≡◌}
 use Prim.Native.Nat.{◌≤◌, ◌-◌}
-use native.Mathlib.Omega.{arith}
 use lib.ListN.{take, drop}
 use Rattle.slices.specs.Test.{◌and◌}
 use Rattle.slices.specs.Bytes.{same}
-use Rattle.slices.proofs.BytesLaws.{same_more, same_done}
 use Rattle.slices.proofs.eight.Given as goal
 
 abbrev pub invariant-loop-j : goal.invariant-loop-j

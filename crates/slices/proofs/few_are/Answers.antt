@@ -1,10 +1,7 @@
-use mathlib.Core.Path.{◌≡◌, refl, sym, ◌∙◌}
-use Prim.Native.Nat.{◌≤◌, ◌-◌}
+use mathlib.Core.Path.{sym, ◌∙◌}
 use native.Mathlib.Omega.{arith}
-use lib.ListN.{length, drop}
 use borrow.Author.Tests.{eq-eqb, ne_eqb}
 use Rattle.slices.specs.Test.{◌and◌}
-use Rattle.slices.specs.Bytes.{all_are}
 use Rattle.slices.proofs.BytesLaws.{all_are-step, all_are-end}
 use Rattle.slices.proofs.few_are.Goals as goal
 

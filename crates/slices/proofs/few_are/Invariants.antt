@@ -1,11 +1,7 @@
-use mathlib.Core.Path.{◌≡◌, refl, sym, ◌∙◌}
+use mathlib.Core.Path.{◌≡◌}
 use Prim.Native.Nat.{◌≤◌, ◌-◌}
-use native.Mathlib.Omega.{arith}
 use lib.ListN.{length, drop}
-use borrow.Author.Tests.{eq-eqb, ne_eqb}
-use Rattle.slices.specs.Test.{◌and◌}
 use Rattle.slices.specs.Bytes.{all_are}
-use Rattle.slices.proofs.BytesLaws.{all_are-step, all_are-end}
 use Rattle.slices.proofs.few_are.Given as goal
 
 abbrev pub invariant-loop-i : goal.invariant-loop-i

@@ -1,8 +1,7 @@
 use mathlib.Core.Path.{◌≡◌, refl, sym, ◌∙◌}
-use Prim.Native.Nat.{◌≤◌, ◌-◌}
 use native.Mathlib.Omega.{arith}
-use lib.ListN.{length, replicate, get_or-replicate, length-replicate, length-set}
-use Rattle.slices.proofs.Writes.{upto, upto_start, upto_step, upto_done}
+use lib.ListN.{get_or-replicate, length-replicate, length-set}
+use Rattle.slices.proofs.Writes.{upto_start, upto_step, upto_done}
 use Rattle.slices.proofs.fill.Goals as goal
 
 pub loop-i-init : goal.loop-i-init

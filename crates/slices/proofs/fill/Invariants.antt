@@ -1,8 +1,7 @@
-use mathlib.Core.Path.{◌≡◌, refl, sym, ◌∙◌}
+use mathlib.Core.Path.{◌≡◌}
 use Prim.Native.Nat.{◌≤◌, ◌-◌}
-use native.Mathlib.Omega.{arith}
-use lib.ListN.{length, replicate, get_or-replicate, length-replicate, length-set}
-use Rattle.slices.proofs.Writes.{upto, upto_start, upto_step, upto_done}
+use lib.ListN.{length, replicate}
+use Rattle.slices.proofs.Writes.{upto}
 use Rattle.slices.proofs.fill.Given as goal
 
 abbrev pub invariant-loop-i : goal.invariant-loop-i

@@ -1,9 +1,7 @@
-use mathlib.Core.Path.{◌≡◌, refl, sym, ap, ◌∙◌}
-use Prim.Native.Nat.{ℕ, ◌≤◌, ◌-◌, ◌+◌}
-use native.Mathlib.Omega.{arith}
+use mathlib.Core.Path.{◌≡◌}
+use Prim.Native.Nat.{◌≤◌, ◌-◌}
 use lib.ListN.{length, drop}
-use Rattle.slices.specs.Hash.{mixed, hash_from}
-use Rattle.slices.proofs.Hashed.{hash_step, hash_two, hash_end}
+use Rattle.slices.specs.Hash.{hash_from}
 use Rattle.slices.proofs.hash.Given as goal
 
 abbrev pub invariant-loop-i : goal.invariant-loop-i

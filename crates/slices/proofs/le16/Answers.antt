@@ -2,7 +2,6 @@ use Rattle.slices.specs.Bytes.{le16}
 use Rattle.slices.proofs.NumberLaws.{le16_past}
 use native.Mathlib.Omega.{arith}
 use mathlib.Core.Path.{sym}
-use borrow.Author.Rules.{rules}
 use Rattle.slices.proofs.le16.Goals as goal
 
 pub returns-then-s-at : goal.returns-then-s-at

@@ -1,6 +1,4 @@
-use borrow.Author.Rules.{rules}
-use native.Mathlib.Omega.{arith}
-use lib.ListN.{replicate, length-take}
+use lib.ListN.{replicate}
 use Rattle.slices.proofs.Writes.{move_through}
 use Rattle.slices.proofs.move_block.Goals as goal
 

@@ -1,8 +1,6 @@
-use mathlib.Core.Path.{◌≡◌, refl}
-use Prim.Native.Nat.{◌≤◌, ◌-◌}
+use mathlib.Core.Path.{refl}
+use Prim.Native.Nat.{◌-◌}
 use native.Mathlib.Omega.{arith}
-use lib.ListN.{length, take, drop}
-use Rattle.slices.specs.Bytes.{overwrite}
 use Rattle.slices.proofs.OverwriteLaws.{overwrite_none}
 use Rattle.slices.proofs.Writes.{move_down_next}
 use Rattle.slices.proofs.move_down.Goals as goal

@@ -1,8 +1,5 @@
-use mathlib.Core.Path.{◌≡◌, refl}
-use Prim.Native.Nat.{◌≤◌, ◌-◌}
+use Prim.Native.Nat.{◌-◌}
 use native.Mathlib.Omega.{arith}
-use lib.ListN.{length, take, drop}
-use Rattle.slices.specs.Bytes.{overwrite}
 use Rattle.slices.proofs.Writes.{move_up_next}
 use Rattle.slices.proofs.move_up.Goals as goal
 

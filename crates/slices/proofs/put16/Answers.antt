@@ -5,7 +5,6 @@ use native.Mathlib.Omega.{arith}
 use lib.ListN.{set, length-set}
 use Rattle.slices.specs.Bytes.{le16_bytes}
 use Rattle.slices.proofs.OverwriteLaws.{set_overwrites, overwrite_set}
-use borrow.Author.Rules.{rules}
 use Rattle.slices.proofs.put16.Goals as goal
 
 pub returns : goal.returns

@@ -6,15 +6,11 @@ use Rattle.names.specs.Name.{Variable}
 use Rattle.slices.proofs.OverwriteLaws.{joined}
 use Rattle.slices.specs.Chunks.{find}
 use Rattle.slices.specs.Bytes.{Bytes}
-use Rattle.limits.specs.Limits.{max_payload}
-use lib.Seq.{length-take-le}
-use lib.ListN.{length, take, replicate, length-append}
-use native.Mathlib.Omega.{arith}
-use Prim.Native.Nat.{◌+◌, ◌≤◌}
+use lib.ListN.{length, take, replicate}
+use Prim.Native.Nat.{◌+◌}
 use mathlib.Core.List.{◌++◌}
 use mathlib.Core.Bool.{true}
 use mathlib.Core.Path.{◌≡◌, sym, ap, ◌∙◌, subst}
-use borrow.Author.Rules.{rules}
 use Rattle.store.proofs.append.Goals as goal
 
 pub write-requires : goal.write-requires

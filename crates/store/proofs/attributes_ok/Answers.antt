@@ -1,5 +1,4 @@
 use Rattle.store.proofs.Tests.{attributes_nv, attributes_vol}
-use borrow.Author.Rules.{rules}
 use Rattle.store.proofs.attributes_ok.Goals as goal
 
 pub returns-then-nonvolatile : goal.returns-then-nonvolatile

@@ -1,6 +1,4 @@
-use borrow.Author.Tests.{not-true, not-false}
 use Rattle.store.proofs.Tests.{body_unnamed, body_named}
-use borrow.Author.Rules.{rules}
 use Rattle.store.proofs.body_ok.Goals as goal
 
 pub returns-then-not-is_terminated : goal.returns-then-not-is_terminated

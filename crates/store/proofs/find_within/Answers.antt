@@ -1,15 +1,11 @@
-use borrow.Author.Rules.{rules}
 use Rattle.store.proofs.Walk.{Here, here, ended, place_stop, place_here, place_again, other_here, resized, rest_at, length_here}
-use Rattle.store.specs.Store.{records_of, end_of, place_from, place_of}
 use Rattle.store.specs.Parts.{variable}
 use Rattle.store.specs.Record.{name_size, data_size, record_size, is_of}
 use Rattle.slices.specs.Bytes.{Bytes, le32}
-use lib.ListN.{length, take, drop, length-drop}
+use lib.ListN.{take, drop, length-drop}
 use native.Mathlib.Omega.{arith}
-use Prim.Native.Nat.{◌≤◌, ◌-◌, ◌+◌}
-use mathlib.Core.Path.{◌≡◌, refl, sym, ap, ◌∙◌}
+use mathlib.Core.Path.{◌≡◌, sym, ap, ◌∙◌}
 use mathlib.Core.Bool.{false}
-use mathlib.Core.Logic.{⊎_elim}
 use Rattle.store.proofs.find_within.Goals as goal
 use Rattle.store.proofs.find_within.Goals.{then-get32-first+else-is_of, else-get32-first}
 

@@ -1,15 +1,9 @@
-use borrow.Author.Rules.{rules}
-use Rattle.store.proofs.Walk.{Here, here, ended, place_stop, place_here, place_again, other_here, resized, rest_at, length_here}
 use Rattle.store.specs.Store.{records_of, end_of, place_from, place_of}
 use Rattle.store.specs.Parts.{variable}
-use Rattle.store.specs.Record.{name_size, data_size, record_size, is_of}
-use Rattle.slices.specs.Bytes.{Bytes, le32}
-use lib.ListN.{length, take, drop, length-drop}
-use native.Mathlib.Omega.{arith}
+use Rattle.store.specs.Record.{is_of}
+use lib.ListN.{length, drop}
 use Prim.Native.Nat.{◌≤◌, ◌-◌, ◌+◌}
-use mathlib.Core.Path.{◌≡◌, refl, sym, ap, ◌∙◌}
-use mathlib.Core.Bool.{false}
-use mathlib.Core.Logic.{⊎_elim}
+use mathlib.Core.Path.{◌≡◌}
 use Rattle.store.proofs.find_within.Given as goal
 
 abbrev pub invariant-loop-at : goal.invariant-loop-at

@@ -7,7 +7,6 @@ use Rattle.store.proofs.EncodeLaws.{length_encode}
 use Rattle.store.specs.Record.{record_size, encode_record}
 use native.Mathlib.Omega.{arith}
 use mathlib.Core.Path.{◌≡◌, sym, ap, ◌∙◌}
-use borrow.Author.Rules.{rules}
 use Rattle.store.proofs.has_room.Goals as goal
 
 pub overflow_sub-result : goal.overflow_sub-result

@@ -1,6 +1,5 @@
 use Rattle.store.proofs.Resize.{header_bytes_lem}
 use native.Mathlib.Omega.{arith}
-use borrow.Author.Rules.{rules}
 use Rattle.store.proofs.header.Goals as goal
 
 pub returns : goal.returns

@@ -1,5 +1,4 @@
 use Rattle.store.proofs.Tests.{header_is}
-use borrow.Author.Rules.{rules}
 use Rattle.store.proofs.header_ok.Goals as goal
 
 pub returns : goal.returns

@@ -1,6 +1,4 @@
 use Rattle.store.proofs.Tests.{other_name, same_name}
-use borrow.Author.Tests.{not-true, not-false}
-use borrow.Author.Rules.{rules}
 use Rattle.store.proofs.is_of.Goals as goal
 
 pub returns-then-not-same_name : goal.returns-then-not-same_name

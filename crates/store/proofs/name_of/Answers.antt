@@ -2,7 +2,6 @@ use Rattle.store.specs.Record.{name_of}
 use Rattle.slices.specs.Bytes.{part}
 use Prim.Native.Nat.{ℕ, ◌+◌}
 use mathlib.Core.Path.{ap}
-use borrow.Author.Rules.{rules}
 use Rattle.store.proofs.name_of.Goals as goal
 
 pub returns : goal.returns

@@ -2,10 +2,8 @@ use Rattle.store.proofs.PlaceLaws.{bounds_payload}
 use Rattle.store.specs.Parts.{record_in, payload_in}
 use Rattle.slices.specs.Bytes.{part}
 use lib.ListN.{length}
-use native.Mathlib.Omega.{arith}
 use Prim.Native.Nat.{◌≤◌}
 use mathlib.Core.Path.{◌≡◌}
-use borrow.Author.Rules.{rules}
 use Rattle.store.proofs.payload.Goals as goal
 
 pub returns : goal.returns

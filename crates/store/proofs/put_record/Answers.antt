@@ -1,7 +1,6 @@
 use Rattle.store.proofs.Resize.{record_writes}
 use Rattle.store.specs.Parts.{variable}
 use native.Mathlib.Omega.{arith}
-use borrow.Author.Rules.{rules}
 use Rattle.store.proofs.put_record.Goals as goal
 
 pub returns : goal.returns

@@ -1,8 +1,4 @@
-use mathlib.Core.Path.{sym}
-use lib.Seq.{length-take-le}
-use borrow.Author.Tests.{not-true, not-false}
 use Rattle.store.proofs.Tests.{length_no_room, length_no_header, length_cut, body_asks, length_whole, length_no_body}
-use borrow.Author.Rules.{rules}
 use Rattle.store.proofs.record_length.Goals as goal
 
 pub returns-then-t-lt-RECORD_HEADER : goal.returns-then-t-lt-RECORD_HEADER

@@ -6,7 +6,6 @@ use Rattle.store.specs.Store.{place_of}
 use Rattle.store.specs.Parts.{variable}
 use native.Mathlib.Omega.{arith}
 use mathlib.Core.Path.{◌≡◌, sym, ◌∙◌}
-use borrow.Author.Rules.{rules}
 use Rattle.store.proofs.remove.Goals as goal
 
 pub resize_record-requires : goal.resize_record-requires

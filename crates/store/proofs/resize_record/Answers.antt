@@ -1,6 +1,5 @@
 use Rattle.store.proofs.Resize.{resized_same, resized_up, resized_down}
 use native.Mathlib.Omega.{arith}
-use borrow.Author.Rules.{rules}
 use Rattle.store.proofs.resize_record.Goals as goal
 
 pub returns-then-new-old : goal.returns-then-new-old

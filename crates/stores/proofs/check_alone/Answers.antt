@@ -4,7 +4,6 @@ use Rattle.slices.specs.Chunks.{flat, chunks, chunks_from, used, distinct}
 use mathlib.Core.Bool.{true}
 use mathlib.Core.List.{[]}
 use mathlib.Core.Path.{refl, sym, ◌∙◌}
-use borrow.Author.Rules.{rules}
 use Rattle.stores.proofs.check_alone.Goals as goal
 
 pub returns-then-nv-gt-MAX_STORE : goal.returns-then-nv-gt-MAX_STORE

@@ -1,7 +1,6 @@
 use Rattle.store.proofs.PlaceLaws.{contains_place}
 use Rattle.store.specs.Parts.{is_found}
 use mathlib.Core.Path.{sym, ap, ◌∙◌}
-use borrow.Author.Rules.{rules}
 use Rattle.stores.proofs.has_within.Goals as goal
 
 pub returns : goal.returns

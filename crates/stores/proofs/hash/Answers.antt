@@ -1,5 +1,4 @@
 use Rattle.stores.proofs.Hashed.{hash_is}
-use borrow.Author.Rules.{rules}
 use Rattle.stores.proofs.hash.Goals as goal
 
 pub returns : goal.returns

@@ -1,5 +1,4 @@
 use Rattle.stores.proofs.Seen.{search_is}
-use borrow.Author.Rules.{rules}
 use Rattle.stores.proofs.is_repeated.Goals as goal
 
 pub returns : goal.returns

@@ -1,5 +1,4 @@
 use Rattle.stores.proofs.Located.{place_nv, place_vol}
-use borrow.Author.Rules.{rules}
 use Rattle.stores.proofs.locate.Goals as goal
 
 pub returns-in-At : goal.returns-in-At

@@ -1,4 +1,4 @@
-use Rattle.stores.proofs.Seen.{Seen, seen_start, ends, ends_filter, repeated, unseen_filter, seen_step, scanned_repeated, seen_used, key_at_lem, search_at}
+use Rattle.stores.proofs.Seen.{seen_start, ends, ends_filter, repeated, unseen_filter, seen_step, scanned_repeated, seen_used, key_at_lem, search_at}
 use Rattle.store.proofs.Walk.{rest_at}
 use Rattle.store.specs.Parts.{HeaderFits}
 use Rattle.store.specs.Store.{records_of}
@@ -7,14 +7,11 @@ use Rattle.store.specs.Record.{record_length}
 use Rattle.slices.proofs.ChunksLaws.{at_within}
 use Rattle.slices.proofs.PartLaws.{part_of}
 use Rattle.slices.specs.Bytes.{part}
-use lib.Seq.{length-take-le}
 use lib.ListN.{length, take, drop}
 use native.Mathlib.Omega.{arith}
-use Prim.Native.Nat.{ℕ, ◌≤◌, ◌-◌, ◌+◌}
+use Prim.Native.Nat.{ℕ, ◌≤◌, ◌+◌}
 use mathlib.Core.List.{◌++◌}
 use mathlib.Core.Path.{◌≡◌, sym, ap, ◌∙◌}
-use mathlib.Core.Logic.{⊎_elim}
-use borrow.Author.Rules.{rules}
 use Rattle.stores.proofs.scan.Goals as goal
 use Rattle.stores.proofs.scan.Goals.{else-v-f, then-v-f+else-is_repeated}
 

@@ -1,5 +1,4 @@
 use mathlib.Core.Path.{refl}
-use borrow.Author.Rules.{rules}
 use Rattle.switches.specs.Switches.{disable_answer}
 use Rattle.switches.specs.SwitchBytes.{disabled_bytes}
 use Rattle.rules.specs.Engine.Call.{disable}

@@ -1,5 +1,4 @@
 use mathlib.Core.Path.{refl}
-use borrow.Author.Rules.{rules}
 use Rattle.switches.specs.Switches.{lock_answer}
 use Rattle.switches.specs.SwitchBytes.{locked_bytes}
 use Rattle.rules.specs.Engine.Call.{lock}

@@ -1,12 +1,8 @@
-use Prim.Native.Nat.{ℕ, ◌<◌}
-use mathlib.Core.Path.{sym, ap, ◌∙◌}
-use mathlib.Core.Bool.{true}
+use Prim.Native.Nat.{◌<◌}
+use mathlib.Core.Path.{sym, ◌∙◌}
 use native.Mathlib.Omega.{arith}
-use borrow.Author.Rules.{rules}
 use Rattle.limits.specs.Limits.{max_entries}
 use Rattle.quarrels.proofs.QuarrelLaws.{found_places}
-use Rattle.varpolicy.specs.declared.Quarrelled.{Quarrelled}
-use Rattle.varpolicy.proofs.Answers.{quarrelled_is}
 use Rattle.varpolicy.proofs.varpolicy_quarrels.Goals as goal
 
 pub overflow_cast-result : goal.overflow_cast-result

@@ -1,5 +1,4 @@
 use Rattle.varpolicy.proofs.Readings.{ordered, status_numbered, read_exported}
-use borrow.Author.Rules.{rules}
 use Rattle.varpolicy.proofs.varpolicy_read_e10.Goals as goal
 
 pub overflow_sub-result : goal.overflow_sub-result
