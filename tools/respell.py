@@ -28,6 +28,9 @@ lock-bytes has-bs has-rt encode-lock name-ok name-size record-size records-with 
 # the same of lemmas that port.py had put into snake case
 SNAKE = "found_in same_end same_entries entry_length too_many too_long no_room store_ok".split()
 
+# bound variables that are renamed with them, since a later definition has the name
+BOUND = ["nonVolatile"]
+
 DEFINED = re.compile(r"^\s*(?:(?:abbrev|unfoldable|pub|axiom) )*([^\s:(){}=.]+) :(?: |$)")
 WORD = r"[A-Za-z0-9_'₀-₉-]"
 
@@ -50,7 +53,7 @@ def own_files(root):
 
 def names(root):
     """The old name of each definition, label, constructor and lemma that changes, with the new one."""
-    found = set()
+    found = set(BOUND)
     for path in own_files(root):
         with open(path, encoding="utf-8") as f:
             for line in f:

@@ -58,13 +58,12 @@ module _ {u w : Switches} (same : u ≡ w) where
       → numbered (step (state_of nv vol policy w) call) ≡ (status_alone n, state_of nv' vol' policy' w)
   status_at call = status_by (λ s. step s call)
 
-  pub set_at : {r : Written} (call : Call) (nv vol policy nv' vol' : Bytes) (a : SetAnswer)
-      → step (state_of nv vol policy u) call ≡ (with_report a.status a.report, state_of nv' vol' policy u)
-      → r ≡ record { status = status_number a.status; report = reported_of a.report }
-      → numbered (step (state_of nv vol policy w) call) ≡ (written_answer r, state_of nv' vol' policy w)
-  set_at {r = r} call nv vol policy nv' vol' a e k =
-      subst (λ t. numbered (step (state_of nv vol policy t) call) ≡ (written_answer r, state_of nv' vol' policy t)) same
-      (ap numbered e ∙ ap (λ x. (written_answer x, state_of nv' vol' policy u)) (sym k))
+  pub set_at : {n : ℕ} {p : Reported} (call : Call) (nv vol policy nv' vol' : Bytes) (a : SetAnswer)
+      → step (state_of nv vol policy u) call ≡ (with_report a.status a.report, state_of nv' vol' policy u) → n ≡ status_number a.status → p ≡ reported_of a.report
+      → numbered (step (state_of nv vol policy w) call) ≡ (written_answer (record { status = n; report = p }), state_of nv' vol' policy w)
+  set_at {n = n} {p = p} call nv vol policy nv' vol' a e k l =
+      subst (λ t. numbered (step (state_of nv vol policy t) call) ≡ (written_answer (record { status = n; report = p }), state_of nv' vol' policy t)) same
+      (ap numbered e ∙ ap₂ (λ m q. (written_answer (record { status = m; report = q }), state_of nv' vol' policy u)) (sym k) (sym l))
 
   pub dump_at : {n : ℕ} (call : Call) (nv vol policy : Bytes) (a : DumpAnswer) (b : Bytes)
       → step (state_of nv vol policy u) call ≡ (dump_answer a b, state_of nv vol policy u) → n ≡ status_number a.status
