@@ -20,7 +20,7 @@ use Rattle.engine.specs.declared.SetAnswer.{SetAnswer}
 use Rattle.engine.specs.declared.SettledAnswer.{SettledAnswer}
 use Rattle.engine.specs.Answers.{dump_answer, query_answer, settled_answer}
 use Rattle.varpolicy.specs.declared.Started.{Started}
-use Rattle.varpolicy.specs.declared.Written.{Written}
+use Rattle.varpolicy.specs.declared.Reported.{Reported}
 use Rattle.reader.specs.declared.Verdict as reader
 use Rattle.reader.specs.declared.Listing.{Listing}
 use Rattle.varpolicy.specs.declared.Quarrelled.{Quarrelled}
