@@ -15,7 +15,7 @@ pub fn program() -> PathBuf {
     let program =
         std::env::var_os("LIST_DUMP").map_or_else(|| root().join("crates/list_dump/out/list_dump"), PathBuf::from);
     let name = program.display();
-    assert!(program.is_file(), "{name} is missing: run `rt run` in crates/list_dump first");
+    assert!(program.is_file(), "{name} is missing: run `rust/archives list_dump` at the root of the repository first");
     program
 }
 
