@@ -1,4 +1,4 @@
-//! Runs crates/list_dump/out/list_dump, or the program that LIST_DUMP names, and compares what it writes with what the rules say.
+//! Runs target/bin/list_dump, or the program that LIST_DUMP names, and compares what it writes with what the rules say.
 
 mod dumps;
 mod lines;

@@ -12,8 +12,7 @@ pub fn root() -> PathBuf {
 }
 
 pub fn program() -> PathBuf {
-    let program =
-        std::env::var_os("LIST_DUMP").map_or_else(|| root().join("crates/list_dump/out/list_dump"), PathBuf::from);
+    let program = std::env::var_os("LIST_DUMP").map_or_else(|| root().join("target/bin/list_dump"), PathBuf::from);
     let name = program.display();
     assert!(program.is_file(), "{name} is missing: run `rust/archives list_dump` at the root of the repository first");
     program
