@@ -35,8 +35,9 @@ use Rattle.history.proofs.HistoryLaws.{granted_refused}
 use Rattle.demand3.specs.Machine.{outcome_by, kind_of, restart_of, closing_of, CanDumpInto, machine}
 use Rattle.demand3.proofs.MachineLaws.{Reached, laws}
 use Rattle.demand3.specs.Demand3.{powered_on, ProperFrom, entries_at, past_at}
-use Rattle.demand3.proofs.Demand3.{demand_3, first_part}
-use Rattle.demand3.proofs.Demand3 as list
+use Rattle.demand3.proofs.Demand3.{demand_3}
+use Rattle.demand3.proofs.WhereRebuilds.{first_part}
+use Rattle.demand3.proofs.WhereRebuilds as list
 
 -- ---- one call
 

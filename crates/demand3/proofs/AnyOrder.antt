@@ -32,7 +32,7 @@ use Rattle.demand3.proofs.UnambiguousLaws.{UnambiguousInBytes, unambiguous}
 use Rattle.demand3.specs.Demand3.{powered_on, ProperFrom, entries_at, past_at}
 use Rattle.demand3.specs.AnyOrder as claim
 use Rattle.demand3.specs.AnyOrder.{Checks, handed_out}
-use Rattle.demand3.proofs.Demand3 as list
+use Rattle.demand3.proofs.WhereRebuilds as list
 use Rattle.demand3.proofs.Demand3.{demand_3}
 
 -- ---- WHAT THE CHECKER'S ANSWER SAYS OF OTHER ORDERS

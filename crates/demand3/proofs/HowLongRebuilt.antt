@@ -18,7 +18,8 @@ use Rattle.history.specs.StandingOrder.{NoneRestarts}
 use Rattle.demand3.specs.Machine.{kind_of, machine}
 use Rattle.demand3.specs.Demand3.{powered_on, ProperFrom}
 use Rattle.demand3.specs.HowLong.{AsItWas}
-use Rattle.demand3.proofs.Demand3.{demand_3, first_part, append_calls}
+use Rattle.demand3.proofs.Demand3.{demand_3}
+use Rattle.demand3.proofs.WhereRebuilds.{first_part, append_calls}
 use Rattle.demand3.proofs.AfterExit.{end_history, record_by, switches_by}
 use Rattle.demand3.proofs.HowLong.{how_long_lem}
 

@@ -2,6 +2,7 @@ pub mod OrderLaws
 pub mod MachineLaws
 pub mod UnambiguousLaws
 pub mod Demand3
+pub mod WhereRebuilds
 pub mod StoredSizes
 pub mod OldEntriesLaws
 pub mod OldDumps

@@ -17,7 +17,8 @@ use Rattle.history.specs.AtEach.{AtEach}
 use Rattle.history.proofs.AtEach.{kept_to_end, at_each_first, at_each_history}
 use Rattle.demand3.specs.Machine.{machine}
 use Rattle.demand3.specs.Demand3.{powered_on}
-use Rattle.demand3.proofs.Demand3.{demand_3, first_part}
+use Rattle.demand3.proofs.Demand3.{demand_3}
+use Rattle.demand3.proofs.WhereRebuilds.{first_part}
 
 -- another order of the entries changes no variable
 sized_in_order : (e : Bytes) (v : Variable) (t : State) (w : Order machine) → Sized e v t → Sized e v (state_by machine w t)

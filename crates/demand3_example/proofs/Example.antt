@@ -33,7 +33,8 @@ use Rattle.history.specs.History.Kind.{dumps}
 use Rattle.history.specs.History.ItemOf.{call, own_dump, rebuild}
 use Rattle.demand3.specs.Machine.{outcome_by, kind_of, machine}
 use Rattle.demand3.specs.Demand3.{powered_on, ProperFrom}
-use Rattle.demand3.proofs.Demand3.{demand_3, append_calls, insert_dump, append_rebuild}
+use Rattle.demand3.proofs.Demand3.{demand_3}
+use Rattle.demand3.proofs.WhereRebuilds.{append_calls, insert_dump, append_rebuild}
 use Rattle.demand3.proofs.AnyOrder.{any_order, quarrel_no_order}
 
 -- to compute by the checker of a dump as well
