@@ -5,6 +5,11 @@ use Rattle.std.proofs.lemmas.Bool.{false≢true, eqb-false, not-true}
 use native.Mathlib.Omega.{arith}
 use Rattle.std.proofs.Math.Seq.{get_or-append_seam, take-append_seam}
 use Rattle.std.specs.Int.Bits.{bit_and, and_zero_l}
+use Rattle.std.specs.Int.{from_le_bytes, w16}
+use Rattle.std.specs.List.{fold, list_all, prefix_len}
+use Rattle.std.specs.Simd.{first_chunks}
+use Rattle.std.proofs.lemmas.List.Folds.{length-prefix_len}
+use lib.Seq.{drop-drop}
 use Rattle.limits.specs.Limits.{max_name_bytes, namespace_bytes}
 use Rattle.lists.specs.Lists.{All, nil, more, Among}
 use Rattle.lists.proofs.ListsLaws.{all_among, among_left, among_right}
@@ -81,6 +86,16 @@ units_end s i h = go (drop i s) (omega (arith, length-drop i s))
     go (a ∷ []) k = refl
     go (a ∷ b ∷ t) k = absurd (omega arith)
 
+-- of less than two bytes there is no unit, and of more the first two are the first one
+pub units_none : (s : Bytes) → length s < 2 → units s ≡ []
+units_none s h = units_end s 0 h
+
+pub units_read : {n : ℕ} (s : Bytes) → 2 ≤ length s → n ≡ from_le_bytes w16 (take 2 s) → units s ≡ n ∷ units (drop 2 s)
+unfolding units
+units_read [] h e = absurd (omega arith)
+units_read (a ∷ []) h e = absurd (omega arith)
+units_read (a ∷ b ∷ s) h e = rw e (ap (λ n. (a + n) ∷ units s) {x = 256 * b} {y = b * 256} (omega arith))
+
 pub each_end : (test : ℕ → Bool) (s : Bytes) (i : ℕ) → length s < i + 2 → each test (units (drop i s)) ≡ true
 unfolding each
 each_end test s i h = rw (units_end s i h)
@@ -99,6 +114,82 @@ module _ (s : Bytes) (i : ℕ) (h : i + 2 ≤ length s) where
 pub wildcards_end : (s : Bytes) (i : ℕ) → length s < i + 2 → wildcards (units (drop i s)) ≡ 0
 unfolding wildcards
 wildcards_end s i h = rw (units_end s i h)
+
+-- ---- what a chain over units gives
+
+-- a fold that goes on to their end
+pub fold_each : (test : ℕ → Bool) (us : List ℕ) → fold (λ ok u. ok && test u) true us ≡ each test us
+unfolding each ◌and◌
+fold_each test us = go true us
+  where
+    go : (ok : Bool) (us : List ℕ) → fold (λ ok u. ok && test u) ok us ≡ (ok and each test us)
+    go ok [] = sym (and_yes ok)
+    go ok (u ∷ us) = go (ok && test u) us ∙ rw and_eager (and_assoc ok (test u) (each test us))
+
+pub all_each : (test : ℕ → Bool) (us : List ℕ) → list_all test us ≡ each test us
+unfolding each
+all_each test [] = refl
+all_each test (u ∷ us) = rw (and_eager, all_each test us)
+
+units_cut : (k : ℕ) (s : Bytes) → units s ≡ units (take (2 * k) s) ++ units (drop (2 * k) s)
+unfolding units
+units_cut zero s = refl
+units_cut (suc k) [] = let n : 2 * suc k ≡ suc (suc (2 * k)) = omega arith in rw n
+units_cut (suc k) (a ∷ []) = let n : 2 * suc k ≡ suc (suc (2 * k)) = omega arith in rw n
+units_cut (suc k) (a ∷ b ∷ s) = let n : 2 * suc k ≡ suc (suc (2 * k)) = omega arith in rw n (ap (λ l. (a + 256 * b) ∷ l) (units_cut k s))
+
+each_append : (test : ℕ → Bool) (us vs : List ℕ) → each test (us ++ vs) ≡ (each test us and each test vs)
+unfolding each ◌and◌
+each_append test [] vs = refl
+each_append test (u ∷ us) vs = rw (each_append test us vs) (sym (and_assoc (test u) (each test us) (each test vs)))
+
+-- k blocks of eight units, and then what is behind them
+module _ (test : ℕ → Bool) where
+  abbrev blocks_pass : ℕ → Bytes → Bool
+  blocks_pass k s = list_all (λ b. each test (units b)) (first_chunks 16 k s)
+
+  each_blocks : (k : ℕ) (s : Bytes) → each test (units s) ≡ (blocks_pass k s and each test (units (drop (k * 16) s)))
+  unfolding ◌and◌
+  each_blocks zero s = refl
+  each_blocks (suc k) s =
+      let first : Bool = each test (units (take 16 s)) in
+      let n : 16 + k * 16 ≡ suc k * 16 = omega arith in
+      ap (each test) (units_cut 8 s) ∙ each_append test (units (take 16 s)) (units (drop 16 s))
+      ∙ ap (λ b. first and b) (each_blocks k (drop 16 s) ∙ ap (λ l. blocks_pass k (drop 16 s) and each test (units l)) (drop-drop (k * 16) 16 s))
+      ∙ sym (and_assoc first (blocks_pass k (drop 16 s)) (each test (units (drop (16 + k * 16) s))))
+      ∙ ap₂ (λ b j. b and each test (units (drop j s))) (sym (and_eager first (blocks_pass k (drop 16 s)))) n
+
+  pub blocks_yes : {x : Bool} (k : ℕ) (s : Bytes) → x ≡ blocks_pass k s → x ≡ true → each test (units s) ≡ each test (units (drop (k * 16) s))
+  unfolding ◌and◌
+  blocks_yes k s e t = each_blocks k s ∙ rw (sym e ∙ t)
+
+  pub blocks_no : {x : Bool} (k : ℕ) (s : Bytes) → x ≡ blocks_pass k s → x ≡ false → x ≡ each test (units s)
+  unfolding ◌and◌
+  blocks_no k s e f = f ∙ sym (each_blocks k s ∙ rw (sym e ∙ f))
+
+-- the blocks from the start on that pass a test may be left out where it tells that each unit in them passes
+module _ (test : ℕ → Bool) (P : Bytes → Bool) (tells : (b : Bytes) → P b ≡ true → each test (units b) ≡ true) where
+  abbrev first_to_fail : ℕ → Bytes → ℕ
+  first_to_fail k s = prefix_len P (first_chunks 16 k s)
+
+  from_first : (k : ℕ) (s : Bytes) → each test (units s) ≡ each test (units (drop (16 * first_to_fail k s) s))
+  unfolding ◌and◌
+  from_first zero s = refl
+  from_first (suc k) s = by (P (take 16 s)) refl (from_first k (drop 16 s))
+    where
+      others : ℕ
+      others = first_to_fail k (drop 16 s)
+
+      by : (b : Bool) → P (take 16 s) ≡ b → each test (units (drop 16 s)) ≡ each test (units (drop (16 * others) (drop 16 s)))
+          → each test (units s) ≡ each test (units (drop (16 * cond b (1 + others) 0) s))
+      by true t f =
+          let n : 16 + 16 * others ≡ 16 * (1 + others) = omega arith in
+          ap (each test) (units_cut 8 s) ∙ each_append test (units (take 16 s)) (units (drop 16 s)) ∙ ap (λ b. b and each test (units (drop 16 s))) (tells (take 16 s) t)
+          ∙ f ∙ ap (λ l. each test (units l)) (drop-drop (16 * others) 16 s) ∙ ap (λ j. each test (units (drop j s))) n
+      by false t f = refl
+
+  pub blocks_passed : {n : ℕ} (k : ℕ) (s : Bytes) → n ≡ length (take (first_to_fail k s) (first_chunks 16 k s)) → each test (units s) ≡ each test (units (drop (16 * n) s))
+  blocks_passed k s e = from_first k s ∙ ap (λ j. each test (units (drop (16 * j) s))) (sym (e ∙ length-prefix_len P (first_chunks 16 k s)))
 
 -- no more '#' than units
 pub wildcards_le : (us : List ℕ) → wildcards us ≤ length us
@@ -251,13 +342,11 @@ module _ (mask : ℕ) (none : bit_and number_sign mask ≡ 0) where
       go false p true q = same_bits number_sign (eqb-true u number_sign q) none
       go false p false q = refl
 
-  -- one turn of a loop over such units
-  pub plain_clear : {a : Bool} {u : ℕ} (s : Bytes) (i j : ℕ) → i + j + 2 ≤ length s → u ≡ le16 s (i + j) → (ok : Bool)
-      → (ok ≡ true → a ≡ each plain_unit (units (drop (i + j) s))) → (ok && not (eqb (bit_and u mask) 0)) ≡ true → a ≡ each plain_unit (units (drop (i + (j + 2)) s))
-  plain_clear s i j h v true f t =
-      let n : i + (j + 2) ≡ i + j + 2 = omega arith in
-      f refl ∙ rw n (each_miss s (i + j) h plain_unit (clear_plain (le16 s (i + j)) (rw v at t)))
-  plain_clear s i j h v false f t = absurd (false≢true t)
+  -- so are those of a block
+  pub clear_block : (us : List ℕ) → each (λ u. not (eqb (bit_and u mask) 0)) us ≡ true → each plain_unit us ≡ true
+  unfolding each
+  clear_block [] e = refl
+  clear_block (u ∷ us) e = and_intro _ _ (clear_plain u (and_left _ _ e)) (clear_block us (and_right _ _ e))
 
 -- the code asks for a unit that is zero or '#'
 pub plain_unless : {u : ℕ} (v : ℕ) {t : Bool} → u ≡ v → (eqb u 0 || eqb u number_sign) ≡ t → plain_unit v ≡ not t

@@ -1,6 +1,6 @@
 -- Names: 16-bit little-endian units; what a valid name is; how an entry's name is compared with a variable's.
 -- Assumes nothing: these are definitions.
-use Rattle.std.specs.Prelude.{ℕ, ◌+◌, ◌-◌, ◌*◌, ◌%◌, List, [], ◌∷◌, Bool, true, false, not, ◌&&◌, ◌||◌, cond, length, get_or, take, eqb, leb}
+use Rattle.std.specs.Prelude.{◌≡◌, ℕ, ◌+◌, ◌-◌, ◌*◌, ◌%◌, List, [], ◌∷◌, Bool, true, false, not, ◌&&◌, ◌||◌, cond, length, get_or, take, eqb, leb}
 use Rattle.limits.specs.Limits.{max_name_bytes, namespace_bytes}
 use Rattle.slices.specs.Test.{◌and◌}
 use Rattle.slices.specs.Bytes.{Bytes, pairwise}
@@ -94,3 +94,7 @@ signs_in signs s = signs || eqb (wildcards (units s)) 0
 -- a unit of a trigger's name: neither zero nor '#'
 abbrev pub plain_unit : ℕ → Bool
 plain_unit u = not (eqb u 0) && not (eqb u number_sign)
+
+-- what a test of units that may be called says of a result: where it computes t, the result is what t makes of the units
+abbrev pub OfTest : {F : Type 0} → (F → ℕ → Bool → Type 0) → F → Bool → ((ℕ → Bool) → Bool) → Type 0
+OfTest post f r all = (t : ℕ → Bool) → ((u : ℕ) (b : Bool) → post f u b → b ≡ t u) → r ≡ all t

@@ -6,7 +6,11 @@ ghost use Rattle.limits.specs.Limits.{namespace_bytes};
 ghost use Rattle.slices.specs.Test.{◌and◌};
 ghost use Rattle.slices.specs.Bytes.{le16, same};
 ghost use Rattle.names.specs.Tail.{unit_mask, word, mask_at, TailOf};
-ghost use Rattle.names.specs.Name.{units, each, no_zero, is_name, is_terminated, is_hex_digit, unit_matches, matches, wildcards, is_plain_terminated, name_length, closed, signs_in, plain_unit};
+ghost use Rattle.names.specs.Name.{units, each, no_zero, is_name, is_terminated, is_hex_digit, unit_matches, matches, wildcards, is_plain_terminated, name_length, closed, signs_in, plain_unit, OfTest};
+
+pub mod units;
+
+pub use units::Units;
 
 // The number of whole units.
 pub fn unit_count(s: &[u8]) -> usize
@@ -25,97 +29,41 @@ pub fn unit(s: &[u8], i: usize) -> u16
     low + 256 * high
 }
 
-// Whether none of the eight units from byte i on is zero. No exit before the end: it is compiled to one wide compare.
-fn eight_not_zero(s: &[u8], i: usize) -> bool
-    requires { i + 16 ≤ length s.now }
-    ensures { no_zero (units (drop i s.now)) ≡ (result and no_zero (units (drop (i + 16) s.now))) }
+// Whether each of the eight units of a block passes the test. No exit before the end: it is compiled to one wide compare.
+#[inline(always)]
+fn eight<F: Fn(u16) -> bool>(block: &[u8; 16], test: F) -> bool
+    requires { F.IsAlwaysCallable test }
+    ensures { OfTest F.post test result (λ t. each t (units block.now)) }
 {
-    let mut ok = true;
-    let mut j = 0;
-    while j < 16 {
-        ok = ok & (slices::get16(s, i + j) != 0);
-        j += 2;
-    }
-    ok
+    Units(block).fold(true, |ok, u| ok & test(u))
 }
 
-// Whether no unit is zero: for a few units.
-fn few_not_zero(s: &[u8]) -> bool
-    ensures { result ≡ no_zero (units s.now) }
-{
-    let mut i = 0;
-    while 2 <= s.len() - i {
-        if slices::get16(s, i) == 0 {
-            return false;
-        }
-        i += 2;
-    }
-    true
-}
-
-// Whether no unit is zero.
+// Whether no unit is zero: eight at a time, and then one by one.
 fn no_zero(s: &[u8]) -> bool
     ensures { result ≡ no_zero (units s.now) }
 {
-    let mut i = 0;
-    while 16 <= s.len() - i {
-        if !eight_not_zero(s, i) {
-            return false;
-        }
-        i += 16;
-    }
-    few_not_zero(&s[i..])
+    let (blocks, rest) = s.as_chunks::<16>();
+    blocks.iter().all(|block| eight(block, |u| u != 0)) && Units(rest).all(|u| u != 0)
 }
 
-// Whether each of the eight units from byte i on has a bit that '#' has not: then none is zero or '#'. As above, one wide compare.
-fn eight_clear(s: &[u8], i: usize) -> bool
-    requires { i + 16 ≤ length s.now }
-    ensures { result ≡ true → each plain_unit (units (drop i s.now)) ≡ each plain_unit (units (drop (i + 16) s.now)) }
-{
-    let mut ok = true;
-    let mut j = 0;
-    while j < 16 {
-        ok = ok & (slices::get16(s, i + j) & 0xFFDC != 0);
-        j += 2;
-    }
-    ok
-}
-
-// How many bytes from the start on, by sixteens, have only such units. What is behind them decides.
+// How many bytes from the start on, by sixteens, have only units with a bit that '#' has not: then none is zero or '#'. What is behind
+// them decides.
 fn clear_length(s: &[u8]) -> usize
     ensures within { result ≤ length s.now }
     ensures behind { each plain_unit (units s.now) ≡ each plain_unit (units (drop result s.now)) }
 {
-    let mut i = 0;
-    while 16 <= s.len() - i {
-        if !eight_clear(s, i) {
-            return i;
-        }
-        i += 16;
-    }
-    i
-}
-
-// Whether no unit is zero or '#', unit by unit.
-fn few_plain(s: &[u8]) -> bool
-    ensures { result ≡ each plain_unit (units s.now) }
-{
-    let mut i = 0;
-    while 2 <= s.len() - i {
-        let own = slices::get16(s, i);
-        if (own == 0) | (own == 0x23) {
-            return false;
-        }
-        i += 2;
-    }
-    true
+    let (blocks, _) = s.as_chunks::<16>();
+    let clear = blocks
+        .iter()
+        .take_while(|block| eight(*block, |u| u & 0xFFDC != 0));
+    16 * clear.count()
 }
 
 // Whether no unit is zero or '#', in one pass.
 fn plain_units(s: &[u8]) -> bool
     ensures { result ≡ each plain_unit (units s.now) }
 {
-    few_plain(&s[clear_length(s)..])
+    Units(&s[clear_length(s)..]).all(|u| (u != 0) & (u != 0x23))
 }
 
 // Whether so many bytes are 1 to 64 whole units.
