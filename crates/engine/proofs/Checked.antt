@@ -1,6 +1,6 @@
 -- The statuses of register and dump, by what the code found. Assumes nothing.
-use Prim.Native.Nat.{ℕ, suc, ◌+◌, ◌≤◌, ◌<◌}
-use mathlib.Core.Path.{◌≡◌, refl, ap, ◌∙◌}
+use Prim.Native.Nat.{suc, ◌+◌, ◌≤◌, ◌<◌}
+use mathlib.Core.Path.{◌≡◌, refl, sym, ap, ◌∙◌}
 use mathlib.Core.List.{List}
 use mathlib.Core.Bool.{Bool, true, false, cond}
 use native.Mathlib.Omega.{arith}
@@ -13,7 +13,7 @@ use Rattle.slices.specs.Bytes.{Bytes}
 use Rattle.slices.specs.Chunks.{flat, contains}
 use Rattle.entry.specs.Entry.{well_formed, entry_of, parse, same_target}
 use Rattle.entry.specs.declared.Entry.{Entry}
-use Rattle.entry.specs.declared.Parsed.TheVariants.{WellFormed, Malformed}
+use Rattle.std.specs.Prelude.{Option, Some, None, is_some, not}
 use Rattle.policy.specs.Policy.{policy_valid}
 use Rattle.status.specs.declared.Status.{Status}
 use Rattle.status.specs.declared.Status.TheVariants.{Success, InvalidParameter, Unsupported, BufferTooSmall, WriteProtected, OutOfResources, VolumeCorrupted, AlreadyStarted}
@@ -22,21 +22,19 @@ use Rattle.switches.specs.Switches.{unless_exited}
 use Rattle.rules.specs.Engine.{register_status, dump_status}
 
 -- what reading an entry tells
-pub parse_formed : (e : Bytes) (x : Entry) → parse e ≡ WellFormed x → well_formed e ≡ true
+parse_tells : (e : Bytes) → well_formed e ≡ is_some (parse e)
 unfolding parse
-parse_formed e x h = go (well_formed e) refl h
+parse_tells e = go (well_formed e)
   where
-    go : (b : Bool) → well_formed e ≡ b → cond b (WellFormed (entry_of e)) Malformed ≡ WellFormed x → well_formed e ≡ true
-    go true k l = k
-    go false k l = let z : ◌≡◌ {A = ℕ} 0 1 = cc in absurd (omega arith)
+    go : (b : Bool) → b ≡ is_some (cond b (Some (entry_of e)) None)
+    go true = refl
+    go false = refl
 
-pub parse_malformed : (e : Bytes) → parse e ≡ Malformed → well_formed e ≡ false
-unfolding parse
-parse_malformed e h = go (well_formed e) refl h
-  where
-    go : (b : Bool) → well_formed e ≡ b → cond b (WellFormed (entry_of e)) Malformed ≡ Malformed → well_formed e ≡ false
-    go true k l = let z : ◌≡◌ {A = ℕ} 0 1 = cc in absurd (omega arith)
-    go false k l = k
+pub parse_formed : (e : Bytes) {o : Option Entry} {t : Bool} → o ≡ parse e → is_some o ≡ not t → t ≡ false → well_formed e ≡ true
+parse_formed e p q k = parse_tells e ∙ ap is_some (sym p) ∙ q ∙ ap not k
+
+pub parse_malformed : (e : Bytes) {o : Option Entry} {t : Bool} → o ≡ parse e → is_some o ≡ not t → t ≡ true → well_formed e ≡ false
+parse_malformed e p q k = parse_tells e ∙ ap is_some (sym p) ∙ q ∙ ap not k
 
 -- a call that is lent the record, by the check
 pub lent_invalid : (p : Bytes) (n : Status) → policy_valid p ≡ false → cond (policy_valid p) n VolumeCorrupted ≡ VolumeCorrupted

@@ -17,7 +17,6 @@ ghost use Rattle.rules.specs.Engine.{state_of, step, only_status, hand_back, wit
 ghost use Rattle.rules.specs.Engine.Call.{power_on, restart, register, dump, lock, disable, exit, query, read, set, settled};
 ghost use Rattle.engine.specs.Answers.{dump_answer, query_answer, refused_reading, reading_at, reading_of, ReadStep, payload_place, settled_answer, not_settled};
 
-use entry::Parsed;
 use policy::PolicyCheck;
 use rules::Report;
 use set::Known;
@@ -163,10 +162,9 @@ pub fn register(policy: &mut [u8], switches: Switches, entry: &[u8]) -> Status
     if switches.locked {
         return Status::WriteProtected;
     }
-    let parsed = entry::parse(entry);
-    let Parsed::WellFormed(_) = parsed else {
+    if entry::parse(entry).is_none() {
         return Status::InvalidParameter;
-    };
+    }
     if policy::contains(policy, count, entry) {
         return Status::AlreadyStarted;
     }

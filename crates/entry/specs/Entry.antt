@@ -1,6 +1,6 @@
 -- The packed entry (RULES.md, 3): when its bytes are well formed, and what they say.
 -- Assumes nothing: these are definitions.
-use Rattle.std.specs.Prelude.{ℕ, ◌-◌, Bool, cond, ◌||◌, length, get_or, eqb, leb}
+use Rattle.std.specs.Prelude.{ℕ, ◌-◌, Bool, Option, Some, None, cond, ◌||◌, length, get_or, eqb, leb}
 use Rattle.std.specs.Int.Bits.{bit_and}
 use Rattle.limits.specs.Limits.{
   whole_namespace_rank,
@@ -25,8 +25,6 @@ use Rattle.names.specs.Name.{Variable, is_terminated, is_plain_terminated, units
 use Rattle.entry.specs.declared.LockRule.{LockRule}
 use Rattle.entry.specs.declared.LockRule.TheVariants.{NoLock, LockNow, LockOnCreate, LockOnVarState}
 use Rattle.entry.specs.declared.Entry.{Entry}
-use Rattle.entry.specs.declared.Parsed.{Parsed}
-use Rattle.entry.specs.declared.Parsed.TheVariants.{WellFormed, Malformed}
 
 -- the fields, at their places (RULES.md, 3.1)
 abbrev pub version : Bytes → ℕ
@@ -114,8 +112,9 @@ entry_of e =
       lock = lock_of e;
     }
 
-unfoldable pub parse : Bytes → Parsed
-parse e = cond (well_formed e) (WellFormed (entry_of e)) Malformed
+-- what a well-formed entry says
+unfoldable pub parse : Bytes → Option Entry
+parse e = cond (well_formed e) (Some (entry_of e)) None
 
 -- targets (RULES.md, 4.1): one namespace for both, and a pattern that is empty or matches the name unit by unit
 unfoldable pub targets : Bytes → Variable → Bool

@@ -35,12 +35,6 @@ pub struct Entry {
     pub lock: LockRule,
 }
 
-#[derive(Clone, Copy)]
-pub enum Parsed {
-    WellFormed(Entry),
-    Malformed,
-}
-
 // A whole header, Version, Size, the order of the two sizes, and no common bit.
 fn header_ok(e: &[u8]) -> bool
     ensures { result ≡ header_ok e.now }
@@ -153,13 +147,11 @@ pub fn entry_of(e: &[u8]) -> Entry
 }
 
 // A packed entry, checked and read.
-pub fn parse(e: &[u8]) -> Parsed
+#[tactic(auto, unfolding(crate::specs::Entry::parse))]
+pub fn parse(e: &[u8]) -> Option<Entry>
     ensures { result ≡ parse e.now }
 {
-    if well_formed(e) {
-        return Parsed::WellFormed(entry_of(e));
-    }
-    Parsed::Malformed
+    well_formed(e).then(|| entry_of(e))
 }
 
 // The bytes of a well-formed entry's name without its zero unit; of an empty name, none.

@@ -30,19 +30,19 @@ returns-then-switches-2 c =
     let valid : Checked (Policy) c.in-Valid.count c.in-Valid.used = check_valid _ _ _ (sym c.check-checked.ensures ∙ c.in-Valid.is) in
     register_refused _ _ _ (valid).valid c.if-switches.false WriteProtected refl (register_locked_lem _ _ _ c.if-switches-2.true)
 
-pub returns-in_default-parsed : goal.returns-in_default-parsed
-returns-in_default-parsed c =
+pub returns-then-is_none : goal.returns-then-is_none
+returns-then-is_none c =
     let Policy : Bytes = c.args.policy.now in
     let valid : Checked (Policy) c.in-Valid.count c.in-Valid.used = check_valid _ _ _ (sym c.check-checked.ensures ∙ c.in-Valid.is) in
     register_refused _ _ _ (valid).valid c.if-switches.false InvalidParameter refl
-    (register_malformed_lem _ _ _ c.if-switches-2.false (parse_malformed _ (sym c.parse-parsed.ensures ∙ c.in_default-parsed.is)))
+    (register_malformed_lem _ _ _ c.if-switches-2.false (parse_malformed _ c.parse.ensures c.is_none.ensures c.if-is_none.true))
 
 pub contains-requires : goal.contains-requires
 contains-requires c =
     let Policy : Bytes = c.args.policy.now in
     let Entry : Bytes = c.args.entry.now in
     let valid : Checked (Policy) c.in-Valid.count c.in-Valid.used = check_valid _ _ _ (sym c.check-checked.ensures ∙ c.in-Valid.is) in
-    let formed : well_formed (Entry) ≡ true = parse_formed _ _ (sym c.parse-parsed.ensures ∙ c.in-WellFormed.is) in
+    let formed : well_formed (Entry) ≡ true = parse_formed _ c.parse.ensures c.is_none.ensures c.if-is_none.false in
     ((valid).counted, formed)
 
 pub returns-then-contains : goal.returns-then-contains
@@ -50,7 +50,7 @@ returns-then-contains c =
     let Policy : Bytes = c.args.policy.now in
     let Entry : Bytes = c.args.entry.now in
     let valid : Checked (Policy) c.in-Valid.count c.in-Valid.used = check_valid _ _ _ (sym c.check-checked.ensures ∙ c.in-Valid.is) in
-    let formed : well_formed (Entry) ≡ true = parse_formed _ _ (sym c.parse-parsed.ensures ∙ c.in-WellFormed.is) in
+    let formed : well_formed (Entry) ≡ true = parse_formed _ c.parse.ensures c.is_none.ensures c.if-is_none.false in
     register_refused _ _ _ (valid).valid c.if-switches.false AlreadyStarted refl
     (register_repeated_lem _ _ _ c.if-switches-2.false (formed) (sym c.contains.ensures ∙ c.if-contains.true))
 
@@ -59,7 +59,7 @@ returns-then-count-ge-MAX_ENTRIES c =
     let Policy : Bytes = c.args.policy.now in
     let Entry : Bytes = c.args.entry.now in
     let valid : Checked (Policy) c.in-Valid.count c.in-Valid.used = check_valid _ _ _ (sym c.check-checked.ensures ∙ c.in-Valid.is) in
-    let formed : well_formed (Entry) ≡ true = parse_formed _ _ (sym c.parse-parsed.ensures ∙ c.in-WellFormed.is) in
+    let formed : well_formed (Entry) ≡ true = parse_formed _ c.parse.ensures c.is_none.ensures c.if-is_none.false in
     let new : contains (same_target (Entry)) (entries_of (Policy)) ≡ false = sym c.contains.ensures ∙ c.if-contains.false in
     let k = valid in
     let m : max_entries ≤ length (entries_of (Policy)) = omega (arith, k.counted, c.if-count-ge-MAX_ENTRIES.true) in
@@ -70,7 +70,7 @@ overflow_add-used c =
     let Policy : Bytes = c.args.policy.now in
     let Entry : Bytes = c.args.entry.now in
     let valid : Checked (Policy) c.in-Valid.count c.in-Valid.used = check_valid _ _ _ (sym c.check-checked.ensures ∙ c.in-Valid.is) in
-    let formed : well_formed (Entry) ≡ true = parse_formed _ _ (sym c.parse-parsed.ensures ∙ c.in-WellFormed.is) in
+    let formed : well_formed (Entry) ≡ true = parse_formed _ c.parse.ensures c.is_none.ensures c.if-is_none.false in
     let k = valid in
     omega (arith, k.summed, sizes_sum-within (Policy), policy_valid-length (Policy) k.valid, (sized (Entry) (formed)).most)
 
@@ -79,7 +79,7 @@ returns-then-used-entry-gt-POLICY_BYTES c =
     let Policy : Bytes = c.args.policy.now in
     let Entry : Bytes = c.args.entry.now in
     let valid : Checked (Policy) c.in-Valid.count c.in-Valid.used = check_valid _ _ _ (sym c.check-checked.ensures ∙ c.in-Valid.is) in
-    let formed : well_formed (Entry) ≡ true = parse_formed _ _ (sym c.parse-parsed.ensures ∙ c.in-WellFormed.is) in
+    let formed : well_formed (Entry) ≡ true = parse_formed _ c.parse.ensures c.is_none.ensures c.if-is_none.false in
     let new : contains (same_target (Entry)) (entries_of (Policy)) ≡ false = sym c.contains.ensures ∙ c.if-contains.false in
     let k = valid in
     let m : policy_bytes < length (flat (entries_of (Policy))) + length (Entry) = omega (arith, k.summed, sizes_sum-flat (Policy), c.if-used-entry-gt-POLICY_BYTES.true) in
@@ -97,7 +97,7 @@ returns c =
     let Policy : Bytes = c.args.policy.now in
     let Entry : Bytes = c.args.entry.now in
     let valid : Checked (Policy) c.in-Valid.count c.in-Valid.used = check_valid _ _ _ (sym c.check-checked.ensures ∙ c.in-Valid.is) in
-    let formed : well_formed (Entry) ≡ true = parse_formed _ _ (sym c.parse-parsed.ensures ∙ c.in-WellFormed.is) in
+    let formed : well_formed (Entry) ≡ true = parse_formed _ c.parse.ensures c.is_none.ensures c.if-is_none.false in
     let new : contains (same_target (Entry)) (entries_of (Policy)) ≡ false = sym c.contains.ensures ∙ c.if-contains.false in
     let k = valid in
     let m : length (entries_of (Policy)) < max_entries = omega (arith, k.counted, c.if-count-ge-MAX_ENTRIES.false) in
