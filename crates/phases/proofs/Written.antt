@@ -114,21 +114,21 @@ unfolding lockable named ◌and◌
 lockable_is namespace name n = rw n
 
 -- a dump into no room is answered 10 exactly where the record is not valid
-dump_number : (p x d : Bool) → status_number (cond p (cond x Unsupported (cond d Success BufferTooSmall)) VolumeCorrupted) ≡ 10 → p ≡ false
-dump_number true true d h = absurd (omega (arith, h))
-dump_number true false true h = absurd (omega (arith, h))
-dump_number true false false h = absurd (omega (arith, h))
-dump_number false x d h = refl
+dump_corrupted : (p x d : Bool) → cond p (cond x Unsupported (cond d Success BufferTooSmall)) VolumeCorrupted ≡ VolumeCorrupted → p ≡ false
+dump_corrupted true true d h = absurd (omega (arith, ap status_number h))
+dump_corrupted true false true h = absurd (omega (arith, ap status_number h))
+dump_corrupted true false false h = absurd (omega (arith, ap status_number h))
+dump_corrupted false x d h = refl
 
-module _ (policy buffer after : Bytes) (w : Switches) (r : DumpAnswer) (n : ℕ) (e : step (state_of [] [] policy w) (dump buffer) ≡ (dump_answer r after, state_of [] [] policy w)) (k : n ≡ status_number r.status) where
-  dump_status_lem : status_number (status (state_of [] [] policy w) (dump buffer)) ≡ n
-  dump_status_lem = ap status_number (sym (step_status (state_of [] [] policy w) (dump buffer)) ∙ ap (λ (x : Answer × State). x.0.status) e) ∙ sym k
+module _ (policy buffer after : Bytes) (w : Switches) (r : DumpAnswer) (e : step (state_of [] [] policy w) (dump buffer) ≡ (dump_answer r after, state_of [] [] policy w)) where
+  dump_status_lem : status (state_of [] [] policy w) (dump buffer) ≡ r.status
+  dump_status_lem = sym (step_status (state_of [] [] policy w) (dump buffer)) ∙ ap (λ (x : Answer × State). x.0.status) e
 
-  pub corrupted_name : n ≡ 10 → VolumeCorrupted ≡ cond (policy_valid policy) InvalidParameter VolumeCorrupted
+  pub corrupted_name : r.status ≡ VolumeCorrupted → VolumeCorrupted ≡ cond (policy_valid policy) InvalidParameter VolumeCorrupted
   unfolding dump_status
-  corrupted_name h = rw (dump_number (policy_valid policy) w.exited (leb (length (flat (entries_of policy))) (length buffer)) (dump_status_lem ∙ h))
+  corrupted_name h = rw (dump_corrupted (policy_valid policy) w.exited (leb (length (flat (entries_of policy))) (length buffer)) (dump_status_lem ∙ h))
 
-  pub refused_name : Not (n ≡ 10) → InvalidParameter ≡ cond (policy_valid policy) InvalidParameter VolumeCorrupted
+  pub refused_name : Not (r.status ≡ VolumeCorrupted) → InvalidParameter ≡ cond (policy_valid policy) InvalidParameter VolumeCorrupted
   refused_name h = go (policy_valid policy) refl
     where
       go : (p : Bool) → policy_valid policy ≡ p → InvalidParameter ≡ cond p InvalidParameter VolumeCorrupted

@@ -10,7 +10,8 @@ ghost use Rattle.slices.specs.Test.{◌and◌};
 ghost use Rattle.names.specs.Name.{variable, is_name, units, wildcards};
 ghost use Rattle.policy.specs.Policy.{policy_valid};
 ghost use Rattle.status.specs.declared.Status.TheVariants.{InvalidParameter, VolumeCorrupted};
-ghost use Rattle.rules.specs.Engine.{state_of, only_status, with_report};
+ghost use Rattle.rules.specs.Engine.{state_of, step, only_status, with_report};
+ghost use Rattle.rules.specs.Engine.Call.{register};
 ghost use Rattle.rules.specs.Phases.{flag_entry, lock_entry, phase_step};
 ghost use Rattle.rules.specs.Phases.PhaseCall.{phase_policy, write_once_policy, lock_variable, end_of_dxe, ready_to_boot, exit_flag};
 
@@ -56,13 +57,21 @@ fn flag_entry(namespace: [u8; 16]) -> [u8; 44]
     entry
 }
 
+// Registers the policy of a whole namespace of flags.
+fn register_flags(policy: &mut [u8], switches: Switches, namespace: [u8; 16]) -> Status
+    ensures { (nv vol : Bytes) → step (state_of nv vol policy.old switches) (register (flag_entry namespace))
+        ≡ (only_status result, state_of nv vol policy.new switches) }
+{
+    let entry = flag_entry(namespace);
+    engine::register(policy, switches, &entry)
+}
+
 // Registers the policy of the whole phase namespace. Statuses as of register; never INVALID_PARAMETER.
 pub fn phase_policy(policy: &mut [u8], switches: Switches, phase: [u8; 16]) -> Status
     ensures { (nv vol : Bytes) → phase_step (state_of nv vol policy.old switches) (phase_policy phase)
         ≡ (only_status result, state_of nv vol policy.new switches) }
 {
-    let entry = flag_entry(phase);
-    engine::register(policy, switches, &entry)
+    register_flags(policy, switches, phase)
 }
 
 // Registers the policy of the whole write-once namespace: the same, of another namespace.
@@ -70,8 +79,7 @@ pub fn write_once_policy(policy: &mut [u8], switches: Switches, namespace: [u8; 
     ensures { (nv vol : Bytes) → phase_step (state_of nv vol policy.old switches) (write_once_policy namespace)
         ≡ (only_status result, state_of nv vol policy.new switches) }
 {
-    let entry = flag_entry(namespace);
-    engine::register(policy, switches, &entry)
+    register_flags(policy, switches, namespace)
 }
 
 // Whether the name is one to lock: one that a set takes, and without '#'.
@@ -90,8 +98,7 @@ fn bad_name(policy: &[u8], switches: Switches) -> Status
 {
     let mut none = [0u8; 0];
     let answer = engine::dump(policy, switches, &mut none);
-    let status = answer.status;
-    if status::number(status) == 10 {
+    if answer.status == Status::VolumeCorrupted {
         return Status::VolumeCorrupted;
     }
     Status::InvalidParameter

@@ -492,7 +492,7 @@ pub fn decide<'a>(
         (request_of namespace.now name.now attributes payload.now) }
 {
     let by_request = check_request(switches.exited, name, attributes, payload);
-    if !status::is_success(by_request) {
+    if by_request != Status::Success {
         return Decided {
             decision: Decision::Refuse(by_request),
             report: no_report(),

@@ -1,6 +1,9 @@
 -- Laws of the statuses. Assumes nothing.
-use Rattle.std.specs.Prelude.{◌≡◌, refl, true, eqb}
+use Rattle.std.specs.Prelude.{◌≡◌, refl, Bool, true, not, eqb}
+use Rattle.std.proofs.Common.{sym, ap, ◌∙◌}
 use Rattle.std.proofs.lemmas.Bool.{false≢true}
+use denote.Enum.Bare.{sameb}
+use Rattle.status.specs.contracts.Status.{the_type}
 use Rattle.status.specs.declared.Status.{Status}
 use Rattle.status.specs.declared.Status.TheVariants.{Success, InvalidParameter, Unsupported, BufferTooSmall, WriteProtected, OutOfResources, VolumeCorrupted, NotFound, AlreadyStarted}
 use Rattle.status.specs.Status.{status_number, is_success}
@@ -28,3 +31,18 @@ zero_success OutOfResources = refl
 zero_success VolumeCorrupted = refl
 zero_success NotFound = refl
 zero_success AlreadyStarted = refl
+
+-- the code's != between a status and success
+differs : (n : Status) → not (not (sameb the_type n Success)) ≡ is_success n
+differs Success = refl
+differs InvalidParameter = refl
+differs Unsupported = refl
+differs BufferTooSmall = refl
+differs WriteProtected = refl
+differs OutOfResources = refl
+differs VolumeCorrupted = refl
+differs NotFound = refl
+differs AlreadyStarted = refl
+
+pub differs_success : (n : Status) {b : Bool} → b ≡ not (sameb the_type n Success) → is_success n ≡ not b
+differs_success n e = sym (differs n) ∙ ap not (sym e)

@@ -2,9 +2,9 @@
 #![tactic(auto)]
 
 ghost use Rattle.std.specs.Prelude.{◌≡◌};
-ghost use Rattle.status.specs.Status.{status_number, is_success};
+ghost use Rattle.status.specs.Status.{status_number};
 
-#[derive(Clone, Copy)]
+#[derive(Clone, Copy, PartialEq, Eq, Debug)]
 pub enum Status {
     Success,
     InvalidParameter,
@@ -18,35 +18,20 @@ pub enum Status {
 }
 
 // The number of a status.
-pub fn number(status: Status) -> u32
-    ensures { result ≡ status_number status }
-{
-    match status {
-        Status::Success => 0,
-        Status::InvalidParameter => 2,
-        Status::Unsupported => 3,
-        Status::BufferTooSmall => 5,
-        Status::WriteProtected => 8,
-        Status::OutOfResources => 9,
-        Status::VolumeCorrupted => 10,
-        Status::NotFound => 14,
-        Status::AlreadyStarted => 20,
-    }
-}
+impl From<Status> for u32 {
+    ghost from_gives = { λ s n. n ≡ status_number s };
 
-// Whether the call was done.
-pub fn is_success(status: Status) -> bool
-    ensures { result ≡ is_success status }
-{
-    match status {
-        Status::Success => true,
-        Status::InvalidParameter => false,
-        Status::Unsupported => false,
-        Status::BufferTooSmall => false,
-        Status::WriteProtected => false,
-        Status::OutOfResources => false,
-        Status::VolumeCorrupted => false,
-        Status::NotFound => false,
-        Status::AlreadyStarted => false,
+    fn from(status: Status) -> u32 {
+        match status {
+            Status::Success => 0,
+            Status::InvalidParameter => 2,
+            Status::Unsupported => 3,
+            Status::BufferTooSmall => 5,
+            Status::WriteProtected => 8,
+            Status::OutOfResources => 9,
+            Status::VolumeCorrupted => 10,
+            Status::NotFound => 14,
+            Status::AlreadyStarted => 20,
+        }
     }
 }

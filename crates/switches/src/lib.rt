@@ -2,8 +2,9 @@
 #![tactic(auto)]
 
 ghost use Rattle.std.specs.Prelude.{◌≡◌};
+ghost use Rattle.status.specs.declared.Status.TheVariants.{Success};
 ghost use Rattle.switches.specs.Switches.{lock_answer, disable_answer, exit_answer};
-ghost use Rattle.switches.specs.SwitchBytes.{gives_leave, switches_of, byte_of, bytes_of, locked_bytes, disabled_bytes, exited_bytes, bytes_answer};
+ghost use Rattle.switches.specs.SwitchBytes.{gives_leave, switches_of, bytes_of, locked_bytes, disabled_bytes, exited_bytes, bytes_answer};
 
 use status::Status;
 
@@ -22,33 +23,40 @@ pub struct SwitchAnswer {
     pub switches: Switches,
 }
 
+impl SwitchAnswer {
+    // A call that is done, and the switches that it leaves.
+    fn done(switches: Switches) -> SwitchAnswer
+        ensures { result ≡ record { status = Success; switches = switches } }
+    {
+        SwitchAnswer {
+            status: Status::Success,
+            switches,
+        }
+    }
+
+    // A call that is refused hands the switches back as they were.
+    fn refused(status: Status, switches: Switches) -> SwitchAnswer
+        ensures { result ≡ record { status = status; switches = switches } }
+    {
+        SwitchAnswer { status, switches }
+    }
+}
+
 // Locks the engine: no entry is registered until the next power-on or restart.
 // UNSUPPORTED after exit; WRITE_PROTECTED where it is locked already.
 pub fn lock(switches: Switches) -> SwitchAnswer
     ensures { result ≡ lock_answer switches }
 {
     if switches.exited {
-        return SwitchAnswer {
-            status: Status::Unsupported,
-            switches,
-        };
+        return SwitchAnswer::refused(Status::Unsupported, switches);
     }
     if switches.locked {
-        return SwitchAnswer {
-            status: Status::WriteProtected,
-            switches,
-        };
+        return SwitchAnswer::refused(Status::WriteProtected, switches);
     }
-    let locked = Switches {
-        enabled: switches.enabled,
+    SwitchAnswer::done(Switches {
         locked: true,
-        disabling_allowed: switches.disabling_allowed,
-        exited: switches.exited,
-    };
-    SwitchAnswer {
-        status: Status::Success,
-        switches: locked,
-    }
+        ..switches
+    })
 }
 
 // Disables the engine: sets are no longer held to the entries, until the next power-on or restart.
@@ -57,39 +65,18 @@ pub fn disable(switches: Switches) -> SwitchAnswer
     ensures { result ≡ disable_answer switches }
 {
     if switches.exited {
-        return SwitchAnswer {
-            status: Status::Unsupported,
-            switches,
-        };
+        return SwitchAnswer::refused(Status::Unsupported, switches);
     }
     if !switches.enabled {
-        return SwitchAnswer {
-            status: Status::AlreadyStarted,
-            switches,
-        };
+        return SwitchAnswer::refused(Status::AlreadyStarted, switches);
     }
-    if switches.locked {
-        return SwitchAnswer {
-            status: Status::WriteProtected,
-            switches,
-        };
+    if switches.locked || !switches.disabling_allowed {
+        return SwitchAnswer::refused(Status::WriteProtected, switches);
     }
-    if !switches.disabling_allowed {
-        return SwitchAnswer {
-            status: Status::WriteProtected,
-            switches,
-        };
-    }
-    let disabled = Switches {
+    SwitchAnswer::done(Switches {
         enabled: false,
-        locked: switches.locked,
-        disabling_allowed: switches.disabling_allowed,
-        exited: switches.exited,
-    };
-    SwitchAnswer {
-        status: Status::Success,
-        switches: disabled,
-    }
+        ..switches
+    })
 }
 
 // Tells the engine that the operating system starts: until the next power-on or restart, what RULES.md, 8.1, says of exited.
@@ -98,21 +85,12 @@ pub fn exit(switches: Switches) -> SwitchAnswer
     ensures { result ≡ exit_answer switches }
 {
     if switches.exited {
-        return SwitchAnswer {
-            status: Status::Unsupported,
-            switches,
-        };
+        return SwitchAnswer::refused(Status::Unsupported, switches);
     }
-    let exited = Switches {
-        enabled: switches.enabled,
-        locked: switches.locked,
-        disabling_allowed: switches.disabling_allowed,
+    SwitchAnswer::done(Switches {
         exited: true,
-    };
-    SwitchAnswer {
-        status: Status::Success,
-        switches: exited,
-    }
+        ..switches
+    })
 }
 
 // The switches as a caller keeps and lends them. Each of the 256 values of each byte has a meaning.
@@ -141,36 +119,30 @@ pub fn gives_leave(byte: u8) -> bool
 }
 
 // What the bytes say: `enabled`, `locked` and `exited` are set by any byte but 0, leave to disable is given by 1 alone.
-pub fn switches_of(bytes: SwitchBytes) -> Switches
-    ensures { result ≡ switches_of bytes }
-{
-    Switches {
-        enabled: bytes.enabled != 0,
-        locked: bytes.locked != 0,
-        disabling_allowed: gives_leave(bytes.disabling_allowed),
-        exited: bytes.exited != 0,
-    }
-}
+impl From<SwitchBytes> for Switches {
+    ghost from_gives = { λ b s. s ≡ switches_of b };
 
-// The byte of a switch that is handed back.
-fn byte_of(set: bool) -> u8
-    ensures { result ≡ byte_of set }
-{
-    if set {
-        return 1;
+    fn from(bytes: SwitchBytes) -> Switches {
+        Switches {
+            enabled: bytes.enabled != 0,
+            locked: bytes.locked != 0,
+            disabling_allowed: gives_leave(bytes.disabling_allowed),
+            exited: bytes.exited != 0,
+        }
     }
-    0
 }
 
 // The bytes of switches that are handed back: 1 if set, 0 if clear.
-pub fn bytes_of(switches: Switches) -> SwitchBytes
-    ensures { result ≡ bytes_of switches }
-{
-    SwitchBytes {
-        enabled: byte_of(switches.enabled),
-        locked: byte_of(switches.locked),
-        disabling_allowed: byte_of(switches.disabling_allowed),
-        exited: byte_of(switches.exited),
+impl From<Switches> for SwitchBytes {
+    ghost from_gives = { λ s b. b ≡ bytes_of s };
+
+    fn from(switches: Switches) -> SwitchBytes {
+        SwitchBytes {
+            enabled: u8::from(switches.enabled),
+            locked: u8::from(switches.locked),
+            disabling_allowed: u8::from(switches.disabling_allowed),
+            exited: u8::from(switches.exited),
+        }
     }
 }
 
@@ -178,12 +150,7 @@ pub fn bytes_of(switches: Switches) -> SwitchBytes
 pub fn locked_bytes(bytes: SwitchBytes) -> SwitchBytes
     ensures { result ≡ locked_bytes bytes }
 {
-    SwitchBytes {
-        enabled: bytes.enabled,
-        locked: 1,
-        disabling_allowed: bytes.disabling_allowed,
-        exited: bytes.exited,
-    }
+    SwitchBytes { locked: 1, ..bytes }
 }
 
 // The bytes with `enabled` clear.
@@ -192,9 +159,7 @@ pub fn disabled_bytes(bytes: SwitchBytes) -> SwitchBytes
 {
     SwitchBytes {
         enabled: 0,
-        locked: bytes.locked,
-        disabling_allowed: bytes.disabling_allowed,
-        exited: bytes.exited,
+        ..bytes
     }
 }
 
@@ -202,12 +167,7 @@ pub fn disabled_bytes(bytes: SwitchBytes) -> SwitchBytes
 pub fn exited_bytes(bytes: SwitchBytes) -> SwitchBytes
     ensures { result ≡ exited_bytes bytes }
 {
-    SwitchBytes {
-        enabled: bytes.enabled,
-        locked: bytes.locked,
-        disabling_allowed: bytes.disabling_allowed,
-        exited: 1,
-    }
+    SwitchBytes { exited: 1, ..bytes }
 }
 
 // The answer of a call on lent bytes: they are to be written only beside SUCCESS.
@@ -215,8 +175,8 @@ pub fn bytes_answer(status: Status, new: SwitchBytes) -> BytesAnswer
     ensures { result ≡ bytes_answer status new }
 {
     BytesAnswer {
-        granted: status::is_success(status),
-        status: status::number(status),
+        granted: status == Status::Success,
+        status: u32::from(status),
         switches: new,
     }
 }

@@ -1,19 +1,19 @@
 -- Lock, disable and exit on lent bytes: what the call by value answers, and that what it answers and leaves is what the contract says. Of any call on the
 -- switches alone: `f` is what a step with it does, and `new` writes the byte that the call moves.
---     answered     a function that calls the engine on the switches of the bytes answers by `by_f`
 --     does         what `by_f` answers, and the bytes that it leaves, are as `Does` says
---     leaves       the same of whatever answers as `by_f` does, by whether it is granted
+--     leaves       the same of what the function answers and leaves that is handed the engine's call
 -- Assumes nothing.
 use Prim.Native.Nat.{ℕ}
-use mathlib.Core.Path.{◌≡◌, sym, ap, ap₂, ◌∙◌, subst, subst⁻¹}
+use mathlib.Core.Path.{◌≡◌, sym, ap, ap₂, ◌∙◌, subst⁻¹}
 use mathlib.Core.List.{[]}
-use mathlib.Core.Bool.{Bool, cond}
+use mathlib.Core.Bool.{cond}
 use lib.Dec.{eqb}
 use Rattle.slices.specs.Bytes.{Bytes}
 use Rattle.switches.specs.declared.Switches.{Switches}
 use Rattle.switches.specs.declared.SwitchAnswer.{SwitchAnswer}
 use Rattle.switches.specs.declared.SwitchBytes.{SwitchBytes}
 use Rattle.switches.specs.declared.BytesAnswer.{BytesAnswer}
+use Rattle.status.specs.Status.{status_number, is_success}
 use Rattle.switches.specs.SwitchBytes.{switches_of, bytes_answer, left_by}
 use Rattle.switches.proofs.SwitchBytesLaws.{left_at_zero}
 use Rattle.rules.specs.Engine.{Call, state_of, only_status, step}
@@ -30,12 +30,6 @@ module _ (call : Call) (f : Switches → SwitchAnswer) (new : SwitchBytes → Sw
   abbrev by_f : SwitchBytes → BytesAnswer
   by_f b = bytes_answer (f (switches_of b)).status (new b)
 
-  pub answered : {r : BytesAnswer} {a : SwitchAnswer} {u : Switches} {v : SwitchBytes} (b : SwitchBytes) → u ≡ switches_of b
-      → ((nv vol policy : Bytes) → step (state_of nv vol policy u) call ≡ (only_status a.status, state_of nv vol policy a.switches))
-      → v ≡ new b → r ≡ bytes_answer a.status v → r ≡ by_f b
-  answered {u = u} b same e k h =
-      h ∙ ap₂ bytes_answer (ap (λ x. x.0.status) (sym (e [] [] []) ∙ known u [] [] []) ∙ ap (λ w. (f w).status) same) k
-
   pub does : ((b : SwitchBytes) → switches_of (left_by (by_f b) b) ≡ (f (switches_of b)).switches)
       → (b : SwitchBytes) → Does call new b (by_f b).status (left_by (by_f b) b)
   does left b = (
@@ -43,9 +37,13 @@ module _ (call : Call) (f : Switches → SwitchAnswer) (new : SwitchBytes → Sw
     left_at_zero (f (switches_of b)).status (new b) b,
   )
 
-  -- the same of what a call answers that is `by_f`: granted or not, it leaves what it leaves
+  -- the same of any answer a of the call, and of what is written by it
   pub leaves : ((b : SwitchBytes) → switches_of (left_by (by_f b) b) ≡ (f (switches_of b)).switches)
-      → (b : SwitchBytes) {r : BytesAnswer} → r ≡ by_f b → (g : Bool) → r.granted ≡ g → Does call new b r.status (cond g r.switches b)
-  leaves left b {r} e g h =
-      subst (λ (d : Bool). Does call new b r.status (cond d r.switches b)) h
-      (subst⁻¹ (λ (q : BytesAnswer). Does call new b q.status (left_by q b)) e (does left b))
+      → (b : SwitchBytes) {n : ℕ} {u w : SwitchBytes} (a : SwitchAnswer)
+      → ((nv vol policy : Bytes) → step (state_of nv vol policy (switches_of b)) call ≡ (only_status a.status, state_of nv vol policy a.switches))
+      → w ≡ new b → n ≡ status_number a.status → u ≡ cond (is_success a.status) w b → Does call new b n u
+  leaves left b {n} {u} {w} a e k m h =
+      let same : a.status ≡ (f (switches_of b)).status = ap (λ x. x.0.status) (sym (e [] [] []) ∙ known (switches_of b) [] [] []) in
+      let number : n ≡ (by_f b).status = m ∙ ap status_number same in
+      let written : u ≡ left_by (by_f b) b = h ∙ ap₂ (λ s x. cond (is_success s) x b) same k in
+      subst⁻¹ (λ (o : ℕ). Does call new b o u) number (subst⁻¹ (λ (v : SwitchBytes). Does call new b (by_f b).status v) written (does left b))

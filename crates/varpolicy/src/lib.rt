@@ -9,9 +9,11 @@ ghost use Rattle.std.specs.Prelude.{◌≡◌, cond, eqb, length};
 ghost use Rattle.slices.specs.Bytes.{Bytes};
 ghost use Rattle.names.specs.Name.{variable};
 ghost use Rattle.status.specs.declared.Status.TheVariants.{Success};
-ghost use Rattle.status.specs.Status.{status_number};
+ghost use Rattle.status.specs.Status.{status_number, is_success};
 ghost use Rattle.switches.specs.declared.Switches.{Switches};
-ghost use Rattle.switches.specs.SwitchBytes.{gives_leave, switches_of, bytes_of, locked_bytes, disabled_bytes, exited_bytes, lock_bytes, disable_bytes, exit_bytes};
+ghost use Rattle.switches.specs.declared.SwitchAnswer.{SwitchAnswer};
+ghost use Rattle.switches.specs.declared.SwitchBytes.{SwitchBytes};
+ghost use Rattle.switches.specs.SwitchBytes.{gives_leave, switches_of, bytes_of, locked_bytes, disabled_bytes, exited_bytes};
 ghost use Rattle.rules.specs.Engine.{state_of, step};
 ghost use Rattle.rules.specs.Engine.Call.{power_on, restart, register, dump, lock, disable, exit, query, set, settled};
 ghost use Rattle.rules.specs.Set.{request_of};
@@ -22,14 +24,14 @@ ghost use Rattle.engine.specs.Answers.{reading_of};
 ghost use Rattle.reader.specs.Reader.{fresh, feed_status, after_feed, verdict_in, listing_in};
 ghost use Rattle.varpolicy.specs.Exports.{numbered, status_alone, started_answer, standing, dumped_answer, queried_answer, read_of, NumberedRead, reported_of, written_answer, is_settled_answer, no_pair, quarrelled, reader_verdict_of, reader_entry_of};
 
-use engine::SetAnswer;
+use engine::{DumpAnswer, QueryAnswer, Reading, SetAnswer, SettledAnswer};
 use quarrels::Verdict;
 use reader::Listing;
 use rules::{Ground, Report};
-use status::{Status, number};
+use status::Status;
 use switches::{
-    BytesAnswer, SwitchAnswer, SwitchBytes, bytes_answer, bytes_of, disabled_bytes, exited_bytes,
-    gives_leave, locked_bytes, switches_of,
+    SwitchAnswer, SwitchBytes, Switches, bytes_answer, disabled_bytes, exited_bytes, gives_leave,
+    locked_bytes,
 };
 
 // What a power-on or restart answers. Each byte of the switches is 0 or 1.
@@ -40,6 +42,17 @@ pub struct Started {
     pub switches: SwitchBytes,
 }
 
+impl From<SwitchAnswer> for Started {
+    ghost from_gives = { λ a r. r ≡ record { status = status_number a.status; switches = bytes_of a.switches } };
+
+    fn from(answer: SwitchAnswer) -> Started {
+        Started {
+            status: u32::from(answer.status),
+            switches: SwitchBytes::from(answer.switches),
+        }
+    }
+}
+
 // What a dump answers: beside 0 the length written, beside 5 the length needed.
 #[repr(C)]
 #[derive(Clone, Copy)]
@@ -48,12 +61,34 @@ pub struct Dumped {
     pub length: usize,
 }
 
+impl From<DumpAnswer> for Dumped {
+    ghost from_gives = { λ a r. r ≡ record { status = status_number a.status; length = a.length } };
+
+    fn from(answer: DumpAnswer) -> Dumped {
+        Dumped {
+            status: u32::from(answer.status),
+            length: answer.length,
+        }
+    }
+}
+
 // What a query answers.
 #[repr(C)]
 #[derive(Clone, Copy)]
 pub struct Queried {
     pub status: u32,
     pub enabled: bool,
+}
+
+impl From<QueryAnswer> for Queried {
+    ghost from_gives = { λ a r. r ≡ record { status = status_number a.status; enabled = a.enabled } };
+
+    fn from(answer: QueryAnswer) -> Queried {
+        Queried {
+            status: u32::from(answer.status),
+            enabled: answer.enabled,
+        }
+    }
 }
 
 // What a read answers: the attributes, and where the payload stands in the store that non_volatile names.
@@ -65,6 +100,21 @@ pub struct Read {
     pub non_volatile: bool,
     pub offset: usize,
     pub length: usize,
+}
+
+// No reading ends before it begins, but a conversion takes any.
+impl From<Reading> for Read {
+    ghost from_gives = { λ a r. r ≡ read_of a };
+
+    fn from(reading: Reading) -> Read {
+        Read {
+            status: u32::from(reading.status),
+            attributes: reading.attributes,
+            non_volatile: reading.nonvolatile,
+            offset: reading.from,
+            length: reading.to.saturating_sub(reading.from),
+        }
+    }
 }
 
 // What step 4 said against a set (RULES.md, 10.10), in numbers: the ground is 0 for none, 1 for size, 2 for attributes, 3 for a lock.
@@ -87,12 +137,34 @@ pub struct Written {
     pub report: Reported,
 }
 
+impl From<SetAnswer> for Written {
+    ghost from_gives = { λ a r. r ≡ record { status = status_number a.status; report = reported_of a.report } };
+
+    fn from(answer: SetAnswer) -> Written {
+        Written {
+            status: u32::from(answer.status),
+            report: numbered_report(answer.report),
+        }
+    }
+}
+
 // What settled answers (RULES.md, 10.14).
 #[repr(C)]
 #[derive(Clone, Copy)]
 pub struct Settled {
     pub status: u32,
     pub settled: bool,
+}
+
+impl From<SettledAnswer> for Settled {
+    ghost from_gives = { λ a r. r ≡ record { status = status_number a.status; settled = a.settled } };
+
+    fn from(answer: SettledAnswer) -> Settled {
+        Settled {
+            status: u32::from(answer.status),
+            settled: answer.settled,
+        }
+    }
 }
 
 // What the check of a dump answers (RULES.md, 10.11): whether two entries quarrel, their places counted from 0, and the bytes of the name.
@@ -118,6 +190,20 @@ pub struct ReaderVerdict {
     pub bytes: u32,
 }
 
+impl From<reader::Verdict> for ReaderVerdict {
+    ghost from_gives = { λ v r. r ≡ reader_verdict_of v };
+
+    fn from(verdict: reader::Verdict) -> ReaderVerdict {
+        ReaderVerdict {
+            status: u32::from(Status::Success),
+            whole: verdict.whole,
+            ended: verdict.ended,
+            entries: verdict.entries,
+            bytes: verdict.bytes,
+        }
+    }
+}
+
 // What it tells of a good entry: its Size, its lock type and its rank.
 #[repr(C)]
 #[derive(Clone, Copy)]
@@ -126,18 +212,6 @@ pub struct ReaderEntry {
     pub size: u32,
     pub lock: u32,
     pub rank: u32,
-}
-
-// A start's answer with the number of its status, and the switches in bytes.
-fn numbered_start(answer: SwitchAnswer) -> Started
-    ensures { result ≡ record { status = status_number answer.status; switches = bytes_of answer.switches } }
-{
-    let status = answer.status;
-    let switches = answer.switches;
-    Started {
-        status: number(status),
-        switches: bytes_of(switches),
-    }
 }
 
 // Power-on: wipes the volatile store and the policy record, and hands back the engine's switches. Disabling is allowed by 1, and
@@ -152,7 +226,7 @@ pub extern "C" fn varpolicy_power_on_e10(
     ensures { (w : Switches) → numbered (step (state_of nv.now vol.old policy.old w) (power_on (gives_leave disabling_allowed)))
         ≡ (started_answer result, state_of nv.now vol.new policy.new (standing result w)) }
 {
-    numbered_start(engine::power_on(nv, vol, policy, gives_leave(disabling_allowed)))
+    Started::from(engine::power_on(nv, vol, policy, gives_leave(disabling_allowed)))
 }
 
 // Restart: as power-on, over stores that it leaves as they are.
@@ -166,7 +240,7 @@ pub extern "C" fn varpolicy_restart_e10(
     ensures { (w : Switches) → numbered (step (state_of nv.now vol.now policy.old w) (restart (gives_leave disabling_allowed)))
         ≡ (started_answer result, state_of nv.now vol.now policy.new (standing result w)) }
 {
-    numbered_start(engine::restart(nv, vol, policy, gives_leave(disabling_allowed)))
+    Started::from(engine::restart(nv, vol, policy, gives_leave(disabling_allowed)))
 }
 
 // Register: the packed entry stands behind the others.
@@ -179,7 +253,7 @@ pub extern "C" fn varpolicy_register_e10(
     ensures { (nv vol : Bytes) → numbered (step (state_of nv vol policy.old (switches_of switches)) (register entry.now))
         ≡ (status_alone result, state_of nv vol policy.new (switches_of switches)) }
 {
-    number(engine::register(policy, switches_of(switches), entry))
+    u32::from(engine::register(policy, Switches::from(switches), entry))
 }
 
 // Dump: the entries, in the order registered, at the start of the buffer.
@@ -192,21 +266,27 @@ pub extern "C" fn varpolicy_dump_e10(
     ensures { (nv vol : Bytes) → numbered (step (state_of nv vol policy.now (switches_of switches)) (dump buffer.old))
         ≡ (dumped_answer result buffer.new, state_of nv vol policy.now (switches_of switches)) }
 {
-    let answer = engine::dump(policy, switches_of(switches), buffer);
-    let status = answer.status;
-    Dumped {
-        status: number(status),
-        length: answer.length,
-    }
+    Dumped::from(engine::dump(policy, Switches::from(switches), buffer))
 }
 
-// Lock on the bytes of the switches, by value: what is to be written is `locked` alone.
-fn lock_bytes(bytes: SwitchBytes) -> BytesAnswer
-    ensures { result ≡ lock_bytes bytes }
+// A call on lent switches: what `call` answers on the switches that the bytes say, and the bytes that `new` makes of them written where it is granted.
+// Refused, nothing is stored.
+fn on_switches<C: FnOnce(Switches) -> SwitchAnswer, N: FnOnce(SwitchBytes) -> SwitchBytes>(
+    switches: &mut SwitchBytes,
+    call: C,
+    new: N,
+) -> u32
+    requires callable { C.IsAlwaysCallable call }
+    requires writable { N.IsAlwaysCallable new }
+    ensures { (a : SwitchAnswer) × (b : SwitchBytes) × C.post call (switches_of switches.old) a × N.post new switches.old b
+        × (result ≡ status_number a.status) × (switches.new ≡ cond (is_success a.status) b switches.old) }
 {
-    let answer = engine::lock(switches_of(bytes));
-    let status = answer.status;
-    bytes_answer(status, locked_bytes(bytes))
+    let answer = call(Switches::from(*switches));
+    let told = bytes_answer(answer.status, new(*switches));
+    if told.granted {
+        *switches = told.switches;
+    }
+    told.status
 }
 
 // Lock, on lent switches. Beside 0 the byte `locked` is 1 and the other three are as they were; beside any other status all four
@@ -218,20 +298,7 @@ pub extern "C" fn varpolicy_lock_e10(switches: &mut SwitchBytes) -> u32
         ≡ (status_alone result, state_of nv vol policy (switches_of switches.new)))
         × (switches.new ≡ cond (eqb result 0) (locked_bytes switches.old) switches.old) }
 {
-    let answer = lock_bytes(*switches);
-    if answer.granted {
-        *switches = answer.switches;
-    }
-    answer.status
-}
-
-// Disable on the bytes of the switches, by value: what is to be written is `enabled` alone.
-fn disable_bytes(bytes: SwitchBytes) -> BytesAnswer
-    ensures { result ≡ disable_bytes bytes }
-{
-    let answer = engine::disable(switches_of(bytes));
-    let status = answer.status;
-    bytes_answer(status, disabled_bytes(bytes))
+    on_switches(switches, engine::lock, locked_bytes)
 }
 
 // Disable, on lent switches. Beside 0 the byte `enabled` is 0 and the other three are as they were; beside any other status all four
@@ -242,20 +309,7 @@ pub extern "C" fn varpolicy_disable_e10(switches: &mut SwitchBytes) -> u32
         ≡ (status_alone result, state_of nv vol policy (switches_of switches.new)))
         × (switches.new ≡ cond (eqb result 0) (disabled_bytes switches.old) switches.old) }
 {
-    let answer = disable_bytes(*switches);
-    if answer.granted {
-        *switches = answer.switches;
-    }
-    answer.status
-}
-
-// Exit on the bytes of the switches, by value: what is to be written is `exited` alone.
-fn exit_bytes(bytes: SwitchBytes) -> BytesAnswer
-    ensures { result ≡ exit_bytes bytes }
-{
-    let answer = engine::exit(switches_of(bytes));
-    let status = answer.status;
-    bytes_answer(status, exited_bytes(bytes))
+    on_switches(switches, engine::disable, disabled_bytes)
 }
 
 // Exit, on lent switches. Beside 0 the byte `exited` is 1 and the other three are as they were; beside any other status all four
@@ -266,11 +320,7 @@ pub extern "C" fn varpolicy_exit(switches: &mut SwitchBytes) -> u32
         ≡ (status_alone result, state_of nv vol policy (switches_of switches.new)))
         × (switches.new ≡ cond (eqb result 0) (exited_bytes switches.old) switches.old) }
 {
-    let answer = exit_bytes(*switches);
-    if answer.granted {
-        *switches = answer.switches;
-    }
-    answer.status
+    on_switches(switches, engine::exit, exited_bytes)
 }
 
 // Query: the enabled switch.
@@ -279,12 +329,7 @@ pub extern "C" fn varpolicy_query_e10(switches: SwitchBytes) -> Queried
     ensures { (nv vol policy : Bytes) → numbered (step (state_of nv vol policy (switches_of switches)) query)
         ≡ (queried_answer result, state_of nv vol policy (switches_of switches)) }
 {
-    let answer = engine::query(switches_of(switches));
-    let status = answer.status;
-    Queried {
-        status: number(status),
-        enabled: answer.enabled,
-    }
+    Queried::from(engine::query(Switches::from(switches)))
 }
 
 // Read: the variable's attributes, and where its payload stands.
@@ -300,15 +345,8 @@ pub extern "C" fn varpolicy_read_e10(
     ensures answers { (policy : Bytes)
         → NumberedRead (state_of nv.now vol.now policy (switches_of switches)) (variable namespace.now name.now) result }
 {
-    let reading = engine::read(nv, vol, switches_of(switches), *namespace, name);
-    let status = reading.status;
-    Read {
-        status: number(status),
-        attributes: reading.attributes,
-        non_volatile: reading.nonvolatile,
-        offset: reading.from,
-        length: reading.to - reading.from,
-    }
+    let reading = engine::read(nv, vol, Switches::from(switches), *namespace, name);
+    Read::from(reading)
 }
 
 // The number of a ground.
@@ -338,18 +376,6 @@ fn numbered_report(report: Report) -> Reported
     }
 }
 
-// A set's answer in numbers.
-fn numbered_set(answer: SetAnswer) -> Written
-    ensures { result ≡ record { status = status_number answer.status; report = reported_of answer.report } }
-{
-    let status = answer.status;
-    let report = answer.report;
-    Written {
-        status: number(status),
-        report: numbered_report(report),
-    }
-}
-
 // Set: creates, rewrites, appends to or deletes the variable, and reports what step 4 said. Its answer was the status alone before E1.
 #[unsafe(no_mangle)]
 pub extern "C" fn varpolicy_set_e10(
@@ -366,11 +392,11 @@ pub extern "C" fn varpolicy_set_e10(
         (set (request_of namespace.now name.now attributes payload.now)))
         ≡ (written_answer result, state_of nv.new vol.new policy.now (switches_of switches)) }
 {
-    numbered_set(engine::set(
+    Written::from(engine::set(
         nv,
         vol,
         policy,
-        switches_of(switches),
+        Switches::from(switches),
         *namespace,
         name,
         attributes,
@@ -388,7 +414,7 @@ pub extern "C" fn varpolicy_phase_policy(
     ensures { (nv vol : Bytes) → numbered (phase_step (state_of nv vol policy.old (switches_of switches)) (phase_policy phase.now))
         ≡ (status_alone result, state_of nv vol policy.new (switches_of switches)) }
 {
-    number(phases::phase_policy(policy, switches_of(switches), *phase))
+    u32::from(phases::phase_policy(policy, Switches::from(switches), *phase))
 }
 
 // Write-once policy: the same of the write-once namespace.
@@ -401,7 +427,7 @@ pub extern "C" fn varpolicy_write_once_policy(
     ensures { (nv vol : Bytes) → numbered (phase_step (state_of nv vol policy.old (switches_of switches)) (write_once_policy namespace.now))
         ≡ (status_alone result, state_of nv vol policy.new (switches_of switches)) }
 {
-    number(phases::write_once_policy(policy, switches_of(switches), *namespace))
+    u32::from(phases::write_once_policy(policy, Switches::from(switches), *namespace))
 }
 
 // The older lock: registers an entry by which one variable is locked while "EOD" of the phase namespace holds 01. A bad name, or one with '#', is 2 behind 10 alone.
@@ -416,7 +442,7 @@ pub extern "C" fn varpolicy_lock_variable(
     ensures { (nv vol : Bytes) → numbered (phase_step (state_of nv vol policy.old (switches_of switches)) (lock_variable phase.now (variable namespace.now name.now)))
         ≡ (status_alone result, state_of nv vol policy.new (switches_of switches)) }
 {
-    number(phases::lock_variable(policy, switches_of(switches), *phase, *namespace, name))
+    u32::from(phases::lock_variable(policy, Switches::from(switches), *phase, *namespace, name))
 }
 
 // End of DXE: creates the flag "EOD" of the phase namespace. Status and report as of set.
@@ -431,7 +457,7 @@ pub extern "C" fn varpolicy_end_of_dxe(
     ensures { numbered (phase_step (state_of nv.old vol.old policy.now (switches_of switches)) (end_of_dxe phase.now))
         ≡ (written_answer result, state_of nv.new vol.new policy.now (switches_of switches)) }
 {
-    numbered_set(phases::end_of_dxe(nv, vol, policy, switches_of(switches), *phase))
+    Written::from(phases::end_of_dxe(nv, vol, policy, Switches::from(switches), *phase))
 }
 
 // Ready to boot: the same with "RTB".
@@ -446,7 +472,7 @@ pub extern "C" fn varpolicy_ready_to_boot(
     ensures { numbered (phase_step (state_of nv.old vol.old policy.now (switches_of switches)) (ready_to_boot phase.now))
         ≡ (written_answer result, state_of nv.new vol.new policy.now (switches_of switches)) }
 {
-    numbered_set(phases::ready_to_boot(nv, vol, policy, switches_of(switches), *phase))
+    Written::from(phases::ready_to_boot(nv, vol, policy, Switches::from(switches), *phase))
 }
 
 // Exit flag: the same with a name that the caller gives.
@@ -462,7 +488,7 @@ pub extern "C" fn varpolicy_exit_flag(
     ensures { numbered (phase_step (state_of nv.old vol.old policy.now (switches_of switches)) (exit_flag phase.now name.now))
         ≡ (written_answer result, state_of nv.new vol.new policy.now (switches_of switches)) }
 {
-    numbered_set(phases::exit_flag(nv, vol, policy, switches_of(switches), *phase, name))
+    Written::from(phases::exit_flag(nv, vol, policy, Switches::from(switches), *phase, name))
 }
 
 // Settled: if so, and the engine is enabled and locked, the variable's lock holds until the next power-on or restart. The switches are not asked.
@@ -477,12 +503,7 @@ pub extern "C" fn varpolicy_settled<'a>(
     ensures { (w : Switches) → numbered (step (state_of nv.now vol.now policy.now w) (settled (variable namespace.now name.now)))
         ≡ (is_settled_answer result, state_of nv.now vol.now policy.now w) }
 {
-    let answer = engine::settled(nv, vol, policy, *namespace, name);
-    let status = answer.status;
-    Settled {
-        status: number(status),
-        settled: answer.settled,
-    }
+    Settled::from(engine::settled(nv, vol, policy, *namespace, name))
 }
 
 // The answer without a pair.
@@ -490,7 +511,7 @@ fn no_pair(status: Status) -> Quarrelled
     ensures { result ≡ no_pair status }
 {
     Quarrelled {
-        status: number(status),
+        status: u32::from(status),
         found: false,
         earlier: 0,
         later: 0,
@@ -512,7 +533,7 @@ pub extern "C" fn varpolicy_quarrels(dump: &[u8], name: &mut [u8; 128]) -> Quarr
             later,
             length,
         } => Quarrelled {
-            status: number(Status::Success),
+            status: u32::from(Status::Success),
             found: true,
             earlier: earlier as u32,
             later: later as u32,
@@ -530,7 +551,7 @@ pub extern "C" fn varpolicy_reader_start(reader: &mut [u8; reader::READER_BYTES]
     ensures after { reader.new ≡ fresh reader.old }
 {
     reader::start(reader);
-    number(Status::Success)
+    u32::from(Status::Success)
 }
 
 // Feed: the piece is judged together with what arrived before it. 0, or 2 for one that has no byte or more than MAX_PIECE.
@@ -542,7 +563,7 @@ pub extern "C" fn varpolicy_reader_feed(
     ensures answer { result ≡ status_number (feed_status piece.now) }
     ensures after { reader.new ≡ after_feed reader.old piece.now }
 {
-    number(reader::feed(reader, piece))
+    u32::from(reader::feed(reader, piece))
 }
 
 // Verdict: what the reader says of the bytes that arrived. 0.
@@ -550,14 +571,7 @@ pub extern "C" fn varpolicy_reader_feed(
 pub extern "C" fn varpolicy_reader_verdict(reader: &[u8; reader::READER_BYTES]) -> ReaderVerdict
     ensures { result ≡ reader_verdict_of (verdict_in reader.now) }
 {
-    let verdict = reader::verdict_of(reader);
-    ReaderVerdict {
-        status: number(Status::Success),
-        whole: verdict.whole,
-        ended: verdict.ended,
-        entries: verdict.entries,
-        bytes: verdict.bytes,
-    }
+    ReaderVerdict::from(reader::verdict_of(reader))
 }
 
 // Entry: what the reader tells of the entry that begins at that byte of the dump, within the good ones. 0, or 14 where none does.
@@ -570,13 +584,13 @@ pub extern "C" fn varpolicy_reader_entry(
 {
     match reader::listing_at(reader, at) {
         Listing::NoEntry => ReaderEntry {
-            status: number(Status::NotFound),
+            status: u32::from(Status::NotFound),
             size: 0,
             lock: 0,
             rank: 0,
         },
         Listing::Entry { size, lock, rank } => ReaderEntry {
-            status: number(Status::Success),
+            status: u32::from(Status::Success),
             size,
             lock,
             rank,

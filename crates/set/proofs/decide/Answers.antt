@@ -8,14 +8,15 @@ use Rattle.slices.specs.Bytes.{Bytes}
 use Rattle.set.specs.Decided.{decided_by}
 use Rattle.set.proofs.Decisions.{spoken_ground, decided_silent, silent_report, decided_blocked, ground_in}
 use Rattle.status.specs.Status.{is_success}
+use Rattle.status.proofs.StatusLaws.{differs_success}
 use Rattle.switches.specs.declared.Switches.{Switches}
 use mathlib.Core.Bool.{true, false}
 use mathlib.Core.List.{List}
 use mathlib.Core.Path.{◌≡◌, refl, sym, ap, ◌∙◌}
 use Rattle.set.proofs.decide.Goals as goal
 
-pub returns-then-not-is_success : goal.returns-then-not-is_success
-returns-then-not-is_success c =
+pub returns-then-ne : goal.returns-then-ne
+returns-then-ne c =
     let Asked : Request = request_of c.args.namespace.now c.args.name.now c.args.attributes c.args.payload.now in
     let Entries : List Bytes = entries_of c.args.policy.now in
     let Lent : Switches = c.args.switches in
@@ -23,14 +24,14 @@ returns-then-not-is_success c =
     let Vol : Bytes = c.args.vol.now in
     let checked : c.check_request-by_request.result ≡ request_status (Lent).exited (Asked) = c.check_request-by_request.ensures _ c.requires.1.located.namespace in
     decided_silent (Entries) (Lent) (NV) (Vol) (Asked) _ (ap (λ p. record { decision = Refuse c.check_request-by_request.result; report = p }) c.no_report.ensures)
-    (sym (decision_refused _ _ _ _ _ _ (sym (checked)) (sym c.is_success.ensures ∙ c.if-not-is_success.true))) refl
+    (sym (decision_refused _ _ _ _ _ _ (sym (checked)) (differs_success _ c.if-ne.ensures))) refl
 
 pub decide_write-decision-requires : goal.decide_write-decision-requires
 decide_write-decision-requires c =
     let Asked : Request = request_of c.args.namespace.now c.args.name.now c.args.attributes c.args.payload.now in
     let Lent : Switches = c.args.switches in
     let checked : c.check_request-by_request.result ≡ request_status (Lent).exited (Asked) = c.check_request-by_request.ensures _ c.requires.1.located.namespace in
-    let taken : is_success (request_status (Lent).exited (Asked)) ≡ true = sym (c.is_success.ensures ∙ ap is_success (checked)) ∙ c.if-not-is_success.false in
+    let taken : is_success (request_status (Lent).exited (Asked)) ≡ true = sym (ap is_success (checked)) ∙ differs_success _ c.if-ne.ensures in
     (c.requires.0, c.requires.1.located, taken_named _ (Asked) (taken))
 
 pub returns-in-NoGround : goal.returns-in-NoGround
@@ -41,7 +42,7 @@ returns-in-NoGround c =
     let NV : Bytes = c.args.nv.now in
     let Vol : Bytes = c.args.vol.now in
     let checked : c.check_request-by_request.result ≡ request_status (Lent).exited (Asked) = c.check_request-by_request.ensures _ c.requires.1.located.namespace in
-    let taken : is_success (request_status (Lent).exited (Asked)) ≡ true = sym (c.is_success.ensures ∙ ap is_success (checked)) ∙ c.if-not-is_success.false in
+    let taken : is_success (request_status (Lent).exited (Asked)) ≡ true = sym (ap is_success (checked)) ∙ differs_success _ c.if-ne.ensures in
     let speaks : (g : Ground) → c.report-said.result.ground ≡ g
     → spoken_ground (Entries) (Lent) (NV) (Vol) (Asked) ≡ g = λ g e. sym (ground_in (Entries) (Lent) (NV) (Vol) (Asked) c.report-said.ensures) ∙ e in
     let q = speaks NoGround c.in-NoGround.is in
@@ -57,7 +58,7 @@ returns-in-SizeGround c =
     let NV : Bytes = c.args.nv.now in
     let Vol : Bytes = c.args.vol.now in
     let checked : c.check_request-by_request.result ≡ request_status (Lent).exited (Asked) = c.check_request-by_request.ensures _ c.requires.1.located.namespace in
-    let taken : is_success (request_status (Lent).exited (Asked)) ≡ true = sym (c.is_success.ensures ∙ ap is_success (checked)) ∙ c.if-not-is_success.false in
+    let taken : is_success (request_status (Lent).exited (Asked)) ≡ true = sym (ap is_success (checked)) ∙ differs_success _ c.if-ne.ensures in
     let speaks : (g : Ground) → c.report-said.result.ground ≡ g
     → spoken_ground (Entries) (Lent) (NV) (Vol) (Asked) ≡ g = λ g e. sym (ground_in (Entries) (Lent) (NV) (Vol) (Asked) c.report-said.ensures) ∙ e in
     let blocked : (g : Ground) → c.report-said.result.ground ≡ g → is_success (ground_status g) ≡ false
@@ -72,7 +73,7 @@ returns-in-AttributeGround c =
     let NV : Bytes = c.args.nv.now in
     let Vol : Bytes = c.args.vol.now in
     let checked : c.check_request-by_request.result ≡ request_status (Lent).exited (Asked) = c.check_request-by_request.ensures _ c.requires.1.located.namespace in
-    let taken : is_success (request_status (Lent).exited (Asked)) ≡ true = sym (c.is_success.ensures ∙ ap is_success (checked)) ∙ c.if-not-is_success.false in
+    let taken : is_success (request_status (Lent).exited (Asked)) ≡ true = sym (ap is_success (checked)) ∙ differs_success _ c.if-ne.ensures in
     let speaks : (g : Ground) → c.report-said.result.ground ≡ g
     → spoken_ground (Entries) (Lent) (NV) (Vol) (Asked) ≡ g = λ g e. sym (ground_in (Entries) (Lent) (NV) (Vol) (Asked) c.report-said.ensures) ∙ e in
     let blocked : (g : Ground) → c.report-said.result.ground ≡ g → is_success (ground_status g) ≡ false
@@ -87,7 +88,7 @@ returns-in-LockGround c =
     let NV : Bytes = c.args.nv.now in
     let Vol : Bytes = c.args.vol.now in
     let checked : c.check_request-by_request.result ≡ request_status (Lent).exited (Asked) = c.check_request-by_request.ensures _ c.requires.1.located.namespace in
-    let taken : is_success (request_status (Lent).exited (Asked)) ≡ true = sym (c.is_success.ensures ∙ ap is_success (checked)) ∙ c.if-not-is_success.false in
+    let taken : is_success (request_status (Lent).exited (Asked)) ≡ true = sym (ap is_success (checked)) ∙ differs_success _ c.if-ne.ensures in
     let speaks : (g : Ground) → c.report-said.result.ground ≡ g
     → spoken_ground (Entries) (Lent) (NV) (Vol) (Asked) ≡ g = λ g e. sym (ground_in (Entries) (Lent) (NV) (Vol) (Asked) c.report-said.ensures) ∙ e in
     let blocked : (g : Ground) → c.report-said.result.ground ≡ g → is_success (ground_status g) ≡ false

@@ -1,5 +1,4 @@
 use mathlib.Core.Path.{refl}
-use mathlib.Core.Bool.{true, false}
 use Rattle.switches.specs.Switches.{lock_answer}
 use Rattle.switches.specs.SwitchBytes.{locked_bytes}
 use Rattle.switches.proofs.SwitchBytesLaws.{lock_left}
@@ -8,8 +7,7 @@ use Rattle.engine.proofs.Registered.{lock_step_lem}
 use Rattle.varpolicy.proofs.Lent.{leaves}
 use Rattle.varpolicy.proofs.varpolicy_lock_e10.Goals as goal
 
-pub returns-then-answer : goal.returns-then-answer
-returns-then-answer c = leaves lock lock_answer locked_bytes (λ w. lock_step_lem w refl) lock_left c.args.switches.now c.lock_bytes-answer.ensures true c.if-answer.true
-
-pub returns-else-answer : goal.returns-else-answer
-returns-else-answer c = leaves lock lock_answer locked_bytes (λ w. lock_step_lem w refl) lock_left c.args.switches.now c.lock_bytes-answer.ensures false c.if-answer.false
+pub returns : goal.returns
+returns c =
+    let told = c.on_switches.ensures in
+    leaves lock lock_answer locked_bytes (λ w. lock_step_lem w refl) lock_left c.args.switches.now told.0 told.2.1 told.3.1 told.4 told.5
