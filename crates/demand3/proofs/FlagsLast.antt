@@ -1,7 +1,7 @@
 -- HOW LONG FLAGS AND THE OLDER LOCK LAST (RULES.md, 12.10), over lists of the engine's calls and those of phases, in which no start is granted, with the engine enabled and locked:
 -- a flag is neither changed nor deleted once it is there (`flag_lasts`, `flag_lasts_created`); a variable with the older lock is not refused for a lock while "EOD" is absent
 -- (`lock_waits_on`), and not changed once it holds 01 (`lock_lasts`, `lock_lasts_from`). All but `lock_waits_on` are corollaries of `how_long_lem`. Assumes nothing.
-use Rattle.std.specs.Prelude.{◌≡◌, refl, List, [], ◌∷◌, true, length}
+use Rattle.std.specs.Prelude.{◌≡◌, refl, Some, List, [], ◌∷◌, true, length}
 use Rattle.std.proofs.Common.{ap, ◌∙◌}
 use Rattle.std.proofs.Math.Path.{subst⁻¹}
 use Rattle.std.proofs.lemmas.Bool.{false≢true}
@@ -78,7 +78,7 @@ entries_stay (c ∷ cs) s h g =
 -- NO SET OF IT IS REFUSED FOR A LOCK at any moment at which "EOD" is absent
 pub lock_waits_on : (s : State) (phase : Bytes) (v : Variable) → length phase ≡ 16 → lockable v ≡ true → EnabledLocked s → ChosenFor s v (lock_entry phase v)
     → (cs : List AnyCall) → NoneRestarts phase_machine s cs → Absent (end phase_machine s cs) (flag_variable phase end_of_dxe_name)
-    → (r : Request) → r.variable ≡ v → (report : Report) → Answered (end phase_machine s cs) r report → Not (report.ground ≡ LockGround)
+    → (r : Request) → r.variable ≡ v → (report : Report) → Answered (end phase_machine s cs) r report → Not (report.ground ≡ Some LockGround)
 lock_waits_on s phase v p l h c cs g =
     let t = end phase_machine s cs in
     let q : t.policy ≡ s.policy = ap (λ x. x.policy) (ends_made cs s) ∙ entries_stay (made_by cs) s h (made_goes_on cs s g) in

@@ -1,5 +1,5 @@
 -- The rules' engine has the laws that the general part of demand 3 asks of a machine: `laws`. Assumes nothing.
-use Rattle.std.specs.Prelude.{ℕ, suc, ◌+◌, ◌≤◌, ◌≡◌, Bool, cond, length, take}
+use Rattle.std.specs.Prelude.{ℕ, suc, ◌+◌, ◌≤◌, ◌≡◌, Some, Bool, cond, length, take}
 use Rattle.std.proofs.Math.Path.{refl, sym, ap, subst⁻¹}
 use Rattle.std.proofs.Common.{ap₂, ◌∙◌, subst, arith, length-append, le-leb}
 use mathlib.Core.List.Permᴰ
@@ -27,7 +27,7 @@ use Rattle.status.specs.Status.{is_success}
 use Rattle.switches.specs.declared.Switches.{Switches}
 use Rattle.switches.specs.Switches.{fresh_switches, unless_exited}
 use Rattle.rules.specs.declared.Ground.{Ground}
-use Rattle.rules.specs.declared.Ground.TheVariants.{NoGround, SizeGround, AttributeGround, LockGround}
+use Rattle.rules.specs.declared.Ground.TheVariants.{SizeGround, AttributeGround, LockGround}
 use Rattle.rules.specs.declared.Decision.{Decision}
 use Rattle.rules.specs.declared.Decision.TheVariants.{Refuse, Block, Delete, Keep, Store}
 use Rattle.rules.specs.declared.Report.{Report}
@@ -123,9 +123,8 @@ module _ (s : State) (w : Sound s) (o : List Bytes) where
     decides_same r = rw (valid_o l.perm, w.policy, decision_same r)
 
     -- the report of the entry e, at its place in es and in o
-    moved : (g : Ground) (e : Bytes) (a : ℕ) → StandsAt es e → some (report_for g (place_of o e) e a) ≡ report_in es o (some (report_for g (place_of es e) e a))
+    moved : (g : Ground) (e : Bytes) (a : ℕ) → StandsAt es e → some (report_for (Some g) (place_of o e) e a) ≡ report_in es o (some (report_for (Some g) (place_of es e) e a))
     unfolding report_for
-    moved NoGround e a k = refl
     moved SizeGround e a k = rw k.is
     moved AttributeGround e a k = rw k.is
     moved LockGround e a k = rw k.is

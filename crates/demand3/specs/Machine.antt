@@ -1,7 +1,8 @@
 -- The rules' engine as the machine that demand 3 is about: its states, calls, answers and `step` are the rules' own. Here is
 -- what the words "granted", "registration", "dump", "entry", "targets", "rank" and "rebuild" are of it, and what another order
 -- of the entries changes. Assumes nothing: these are definitions.
-use Rattle.std.specs.Prelude.{ℕ, ◌≤◌, ◌≡◌, List, [], ◌∷◌, ◌++◌, Bool, true, false, cond, length, get_or, take}
+use Rattle.std.specs.Prelude.{ℕ, ◌≤◌, ◌≡◌, Some, None, List, [], ◌∷◌, ◌++◌, Bool, true, false, cond, length, get_or, take}
+use Rattle.std.specs.Prelude as std
 use Rattle.std.proofs.Math.Option.{Option, none, some}
 use Rattle.lists.specs.Lists.{over}
 use Rattle.slices.specs.Bytes.{Bytes}
@@ -11,7 +12,7 @@ use Rattle.policy.specs.Policy.{entries_of, sizes_sum}
 use Rattle.policy.specs.Choice.{place_of}
 use Rattle.status.specs.Status.{is_success}
 use Rattle.rules.specs.declared.Ground.{Ground}
-use Rattle.rules.specs.declared.Ground.TheVariants.{NoGround, SizeGround, AttributeGround, LockGround}
+use Rattle.rules.specs.declared.Ground.TheVariants.{SizeGround, AttributeGround, LockGround}
 use Rattle.rules.specs.declared.Report.{Report}
 use Rattle.rules.specs.Report.{report_of}
 use Rattle.rules.specs.Engine.{State, Answer, Call, state_of, step}
@@ -49,11 +50,11 @@ in_buffer dumps o b = over o b
 in_buffer keeps o b = b
 
 -- and, in the report of a set that has a ground, the place: of the entry that has it among the entries es, its place in the order o
-abbrev pub place_in : Ground → List Bytes → List Bytes → ℕ → ℕ
-place_in NoGround es o k = k
-place_in SizeGround es o k = place_of o (get_or es k [])
-place_in AttributeGround es o k = place_of o (get_or es k [])
-place_in LockGround es o k = place_of o (get_or es k [])
+abbrev pub place_in : std.Option Ground → List Bytes → List Bytes → ℕ → ℕ
+place_in None es o k = k
+place_in (Some SizeGround) es o k = place_of o (get_or es k [])
+place_in (Some AttributeGround) es o k = place_of o (get_or es k [])
+place_in (Some LockGround) es o k = place_of o (get_or es k [])
 
 abbrev pub report_in : List Bytes → List Bytes → Option Report → Option Report
 report_in es o none = none

@@ -1,6 +1,6 @@
 -- A history with rebuilds, computed by the rules: what each of its calls answers, that it is one of the lists that the claim
 -- is about, and what the claim then says of it.
-use Rattle.std.specs.Prelude.{ℕ, zero, suc, ◌≡◌, refl, Bool, true, false, take, replicate}
+use Rattle.std.specs.Prelude.{ℕ, zero, suc, ◌≡◌, refl, Some, Bool, true, false, take, replicate}
 use Rattle.std.proofs.Common.{ap, ◌∙◌, inl, inr, arith}
 use mathlib.Core.List.{List, [], ◌∷◌, ◌++◌, map, Permᴰ}
 use Rattle.std.proofs.Math.Option.{Option, none, some}
@@ -232,9 +232,9 @@ pub record Answers : Type 0 where
   pub dumped_last : bytes_of 17 answers_got ≡ e₃ ++ (4 ∷ [])
   -- the report of the first refused set: a lock, by the entry at place 0 with one '#'. That of the set of "AA": in the other order the
   -- same entry stands at place 1; without the rebuilds at place 0
-  pub reported : report_at 2 answers_got ≡ some (report_of LockGround 0 1 0 0 0)
-  pub reported_other : report_at 9 answers_got ≡ some (report_of LockGround 1 1 0 0 0)
-  pub reported_plain : report_at 9 answers_without ≡ some (report_of LockGround 0 1 0 0 0)
+  pub reported : report_at 2 answers_got ≡ some (report_of (Some LockGround) 0 1 0 0 0)
+  pub reported_other : report_at 9 answers_got ≡ some (report_of (Some LockGround) 1 1 0 0 0)
+  pub reported_plain : report_at 9 answers_without ≡ some (report_of (Some LockGround) 0 1 0 0 0)
 
 pub answered : Answers
 unfolding rules_opened

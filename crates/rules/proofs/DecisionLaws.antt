@@ -1,5 +1,6 @@
 -- What is decided of a set, step by step, and what each decision says of its request. Assumes nothing.
-use Rattle.std.specs.Prelude.{ℕ, ◌≤◌, ◌≡◌, [], ◌∷◌, Bool, true, not, ◌||◌, cond, length, ltb}
+use Rattle.std.specs.Prelude.{ℕ, ◌≤◌, ◌≡◌, Some, None, is_some, [], ◌∷◌, Bool, true, not, ◌||◌, cond, length, ltb}
+use Rattle.std.specs.Prelude as std
 use Rattle.std.proofs.Math.Path.{refl}
 use Rattle.std.proofs.Common.{sym, ap, subst, ◌∙◌, true≢false, arith, ltb-false}
 use Rattle.std.proofs.Math.Bool.{false}
@@ -16,11 +17,17 @@ use Rattle.status.specs.declared.Status.{Status}
 use Rattle.status.specs.declared.Status.TheVariants.{Success, InvalidParameter, Unsupported, WriteProtected, OutOfResources, NotFound}
 use Rattle.status.specs.Status.{is_success, status_number}
 use Rattle.rules.specs.declared.Ground.{Ground}
-use Rattle.rules.specs.declared.Ground.TheVariants.{NoGround, SizeGround, AttributeGround, LockGround}
+use Rattle.rules.specs.declared.Ground.TheVariants.{SizeGround, AttributeGround, LockGround}
 use Rattle.rules.specs.declared.Decision.{Decision}
 use Rattle.rules.specs.declared.Decision.TheVariants.{Refuse, Block, Delete, Keep, Store}
 use Rattle.rules.specs.Stored.{Stored}
 use Rattle.rules.specs.Set.{Request, exists, is_empty, bad_request, unsupported_bit, needs_bs, needs_runtime, request_status, ground_status, ground_by, is_deletion, shown, exit_protects, other_attributes, is_empty_append, payload_after, record_after, store_of, write_decision, refuse_or, block_or, decision, decision_status}
+
+-- every ground answers a refusal
+pub bars : (g : Ground) → is_success (ground_status g) ≡ false
+bars SizeGround = refl
+bars AttributeGround = refl
+bars LockGround = refl
 
 -- ---- the decision, by where its steps end
 
@@ -31,19 +38,13 @@ module _ (exited : Bool) (speaking : Option Bytes) (nv vol : Bytes) (r : Request
   decision_refused n e h = rw (e, h)
 
   -- at step 4
-  pub decision_blocked : (g : Ground) → is_success (request_status exited r) ≡ true → ground_by speaking (lookup nv vol) r ≡ g → is_success (ground_status g) ≡ false
+  pub decision_blocked : (g : Ground) → is_success (request_status exited r) ≡ true → ground_by speaking (lookup nv vol) r ≡ Some g
       → decision exited speaking nv vol r ≡ Block g
   unfolding decision
-  decision_blocked g h e b = rw (h, e) (go g b)
-    where
-      go : (g : Ground) → is_success (ground_status g) ≡ false → block_or g (write_decision exited nv vol (lookup nv vol r.variable) r) ≡ Block g
-      go NoGround b = absurd (true≢false b)
-      go SizeGround b = refl
-      go AttributeGround b = refl
-      go LockGround b = refl
+  decision_blocked g h e = rw (h, e)
 
   -- at steps 5 to 9
-  pub decision_written : is_success (request_status exited r) ≡ true → ground_by speaking (lookup nv vol) r ≡ NoGround
+  pub decision_written : is_success (request_status exited r) ≡ true → ground_by speaking (lookup nv vol) r ≡ None
       → decision exited speaking nv vol r ≡ write_decision exited nv vol (lookup nv vol r.variable) r
   unfolding decision
   decision_written h e = rw (h, e)
@@ -153,18 +154,18 @@ written exited nv vol found r = go _ _ _ _ _ _ _ refl refl refl refl refl refl r
     go false x p false false false false dd xx pp oo ee bb mm = no_room dd oo ee bb mm
 
 -- the ground of step 4 that a decision is by
-abbrev pub blocked_by : Decision → Ground
-blocked_by (Refuse n) = NoGround
-blocked_by (Block g) = g
-blocked_by Delete = NoGround
-blocked_by Keep = NoGround
-blocked_by Store = NoGround
+abbrev pub blocked_by : Decision → std.Option Ground
+blocked_by (Refuse n) = None
+blocked_by (Block g) = Some g
+blocked_by Delete = None
+blocked_by Keep = None
+blocked_by Store = None
 
 -- none at steps 5 to 9
-pub write_unblocked : (exited : Bool) (nv vol : Bytes) (found : Option Bytes) (r : Request) → blocked_by (write_decision exited nv vol found r) ≡ NoGround
+pub write_unblocked : (exited : Bool) (nv vol : Bytes) (found : Option Bytes) (r : Request) → blocked_by (write_decision exited nv vol found r) ≡ None
 write_unblocked exited nv vol found r = go (written exited nv vol found r)
   where
-    go : {d : Decision} → Written exited nv vol found r d → blocked_by d ≡ NoGround
+    go : {d : Decision} → Written exited nv vol found r d → blocked_by d ≡ None
     go (deleted d x p) = refl
     go (protected d x p) = refl
     go (absent d x) = refl
@@ -255,11 +256,9 @@ module _ (nv vol : Bytes) (found : Option Bytes) (r : Request) where
         room = m;
       }
 
-  block_facts : (g : Ground) (d : Decision) → Facts d → Facts (block_or g d)
-  block_facts NoGround d f = f
-  block_facts SizeGround d f = refl
-  block_facts AttributeGround d f = refl
-  block_facts LockGround d f = refl
+  block_facts : (o : std.Option Ground) (d : Decision) → Facts d → Facts (block_or o d)
+  block_facts None d f = f
+  block_facts (Some g) d f = bars g
 
   refuse_facts : (n : Status) (d : Decision) → (is_success n ≡ true → Facts d) → Facts (refuse_or n d)
   refuse_facts n d f = go (is_success n) refl
@@ -296,21 +295,17 @@ granted_decision exited speaking nv vol r h = go (decision exited speaking nv vo
 -- a set is blocked where steps 1 to 3 pass and the entry that speaks gives the ground
 pub record Blocked (exited : Bool) (speaking : Option Bytes) (nv vol : Bytes) (r : Request) (g : Ground) : Type 0 where
   pub asked : is_success (request_status exited r) ≡ true
-  pub ground : ground_by speaking (lookup nv vol) r ≡ g
-  pub bars : is_success (ground_status g) ≡ false
+  pub ground : ground_by speaking (lookup nv vol) r ≡ Some g
 
 pub blocked_facts : (exited : Bool) (speaking : Option Bytes) (nv vol : Bytes) (r : Request) (g : Ground) → decision exited speaking nv vol r ≡ Block g → Blocked exited speaking nv vol r g
 unfolding decision
-blocked_facts exited speaking nv vol r g e =
-    go (is_success (request_status exited r)) (ground_by speaking (lookup nv vol) r) refl refl e (subst (Facts nv vol (lookup nv vol r.variable) r) e (facts exited speaking nv vol r))
+blocked_facts exited speaking nv vol r g e = go (is_success (request_status exited r)) (ground_by speaking (lookup nv vol) r) refl refl e
   where
-    none_bars : NoGround ≡ g → is_success (ground_status g) ≡ false → Blocked exited speaking nv vol r g
-    none_bars e f = absurd (true≢false (ap (λ x. is_success (ground_status x)) e ∙ f))
+    unblocked : None ≡ Some g → Blocked exited speaking nv vol r g
+    unblocked e = absurd (false≢true (ap is_some e))
 
-    go : (b : Bool) (h : Ground) → is_success (request_status exited r) ≡ b → ground_by speaking (lookup nv vol) r ≡ h
-        → cond b (block_or h (write_decision exited nv vol (lookup nv vol r.variable) r)) (Refuse (request_status exited r)) ≡ Block g → is_success (ground_status g) ≡ false → Blocked exited speaking nv vol r g
-    go false h q k e f = none_bars (ap blocked_by e) f
-    go true NoGround q k e f = none_bars (sym (write_unblocked exited nv vol (lookup nv vol r.variable) r) ∙ ap blocked_by e) f
-    go true SizeGround q k e f = record { asked = q; ground = k ∙ ap blocked_by e; bars = f }
-    go true AttributeGround q k e f = record { asked = q; ground = k ∙ ap blocked_by e; bars = f }
-    go true LockGround q k e f = record { asked = q; ground = k ∙ ap blocked_by e; bars = f }
+    go : (b : Bool) (o : std.Option Ground) → is_success (request_status exited r) ≡ b → ground_by speaking (lookup nv vol) r ≡ o
+        → cond b (block_or o (write_decision exited nv vol (lookup nv vol r.variable) r)) (Refuse (request_status exited r)) ≡ Block g → Blocked exited speaking nv vol r g
+    go false o q k e = unblocked (ap blocked_by e)
+    go true None q k e = unblocked (sym (write_unblocked exited nv vol (lookup nv vol r.variable) r) ∙ ap blocked_by e)
+    go true (Some h) q k e = record { asked = q; ground = k ∙ ap blocked_by e }

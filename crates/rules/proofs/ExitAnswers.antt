@@ -1,6 +1,7 @@
 -- What exit changes in the answers and effects of calls, and that it changes nothing else: beside each call after exit stands the same call in the state
 -- before it. With `before_exit` (ExitLaws.antt) the latter is a call of the edition before. Assumes nothing.
-use Rattle.std.specs.Prelude.{ℕ, ◌≡◌, ◌↔◌}
+use Rattle.std.specs.Prelude.{ℕ, ◌≡◌, ◌↔◌, Some, None}
+use Rattle.std.specs.Prelude as std
 use Rattle.std.proofs.Math.Path.{refl, sym, ap, ap₂}
 use Rattle.std.proofs.Common.{subst, ◌∙◌, true≢false, arith}
 use Rattle.std.proofs.Math.Bool.{Bool, true, false, cond}
@@ -20,14 +21,13 @@ use Rattle.status.specs.Status.{is_success}
 use Rattle.switches.specs.declared.Switches.{Switches}
 use Rattle.switches.specs.Switches.{fresh_switches, refused_switches}
 use Rattle.rules.specs.declared.Ground.{Ground}
-use Rattle.rules.specs.declared.Ground.TheVariants.{NoGround, SizeGround, AttributeGround, LockGround}
 use Rattle.rules.specs.declared.Decision.{Decision}
 use Rattle.rules.specs.declared.Decision.TheVariants.{Refuse, Delete}
-use Rattle.rules.specs.Set.{Request, exists, is_deletion, bad_request, unsupported_bit, needs_bs, needs_runtime, request_status, ground_status, ground_by, shown, exit_protects, delete_decision, write_decision, refuse_or, block_or, decision, decision_status, decision_store}
+use Rattle.rules.specs.Set.{Request, exists, is_deletion, bad_request, unsupported_bit, needs_bs, needs_runtime, request_status, ground_by, shown, exit_protects, delete_decision, write_decision, refuse_or, block_or, decision, decision_status, decision_store}
 use Rattle.rules.specs.Report.{no_report, decision_report}
 use Rattle.rules.specs.Engine.{State, Call, state_of, speaking, decision_by, decision_in, set_decision, with_report, read_status, status, given, refusal, answer, effect, after, step}
 use Rattle.rules.specs.Engine.Call.{power_on, restart, register, dump, lock, disable, exit, query, read, set, settled}
-use Rattle.rules.proofs.DecisionLaws.{decision_refused, decision_blocked, decision_written}
+use Rattle.rules.proofs.DecisionLaws.{bars, decision_refused, decision_blocked, decision_written}
 use Rattle.rules.proofs.EngineLaws.{step_status, answer_reported, kept}
 use Rattle.rules.proofs.StateLaws.{set_passed}
 use Rattle.rules.proofs.ExitLaws.{is_start}
@@ -122,22 +122,21 @@ module _ (speaks : Option Bytes) (nv vol : Bytes) (r : Request) where
 
   -- a ground of step 4 stands before step 5
   blocked_same : is_deletion r.attributes r.payload ≡ true → is_success (request_status false r) ≡ true
-      → is_success (ground_status (ground_by speaks (lookup nv vol) r)) ≡ false → decision true speaks nv vol r ≡ decision false speaks nv vol r
-  blocked_same d k g =
-      decision_blocked true speaks nv vol r _ (ap is_success (taken_same r (deletion_unasked true r.attributes r.payload d)) ∙ k) refl g
-      ∙ sym (decision_blocked false speaks nv vol r _ k refl g)
+      → (g : Ground) → ground_by speaks (lookup nv vol) r ≡ Some g → decision true speaks nv vol r ≡ decision false speaks nv vol r
+  blocked_same d k g e =
+      decision_blocked true speaks nv vol r g (ap is_success (taken_same r (deletion_unasked true r.attributes r.payload d)) ∙ k) e
+      ∙ sym (decision_blocked false speaks nv vol r g k e)
 
   -- before exit a deletion of a variable that exists is refused at steps 1 to 4 alone
   refused_ground : (q : Bytes) → stands ≡ some q → is_deletion r.attributes r.payload ≡ true → is_success (request_status false r) ≡ true
-      → is_success (decision_status (decision false speaks nv vol r)) ≡ false → is_success (ground_status (ground_by speaks (lookup nv vol) r)) ≡ false
+      → is_success (decision_status (decision false speaks nv vol r)) ≡ false → (g : Ground) × (ground_by speaks (lookup nv vol) r ≡ Some g)
   unfolding decision write_decision exists shown exit_protects ◌and◌
-  refused_ground q e d k h = go (ground_by speaks (lookup nv vol) r) (rw (k, d, e) at h)
+  refused_ground q e d k h = go (ground_by speaks (lookup nv vol) r) refl (rw (k, d, e) at h)
     where
-      go : (g : Ground) → is_success (decision_status (block_or g Delete)) ≡ false → is_success (ground_status g) ≡ false
-      go NoGround f = f
-      go SizeGround f = f
-      go AttributeGround f = f
-      go LockGround f = f
+      go : (o : std.Option Ground) → ground_by speaks (lookup nv vol) r ≡ o → is_success (decision_status (block_or o Delete)) ≡ false
+          → (g : Ground) × (ground_by speaks (lookup nv vol) r ≡ Some g)
+      go None i f = absurd (true≢false f)
+      go (Some g) i f = (g, i)
 
   -- a deletion that is refused before exit
   refused_decided : is_deletion r.attributes r.payload ≡ true → is_success (decision_status (decision false speaks nv vol r)) ≡ false
@@ -147,18 +146,16 @@ module _ (speaks : Option Bytes) (nv vol : Bytes) (r : Request) where
       go : (o : Option Bytes) → stands ≡ o → (b : Bool) → is_success (request_status false r) ≡ b → decision true speaks nv vol r ≡ decision false speaks nv vol r
       go o e false k = early_decided k
       go none e true k = deletion_decided d (absent_same e)
-      go (some q) e true k = blocked_same d k (refused_ground q e d k h)
+      go (some q) e true k = let w = refused_ground q e d k h in blocked_same d k w.0 w.1
 
 -- a decision that answers 0 has passed steps 1 to 4
-passes : (n : Status) (g : Ground) (d : Decision) → is_success (decision_status (refuse_or n (block_or g d))) ≡ true → (is_success n ≡ true) × (g ≡ NoGround)
-passes n g d h = go (is_success n) refl g h
+passes : (n : Status) (o : std.Option Ground) (d : Decision) → is_success (decision_status (refuse_or n (block_or o d))) ≡ true → (is_success n ≡ true) × (o ≡ None)
+passes n o d h = go (is_success n) refl o h
   where
-    go : (b : Bool) → is_success n ≡ b → (g : Ground) → is_success (decision_status (cond b (block_or g d) (Refuse n))) ≡ true → (is_success n ≡ true) × (g ≡ NoGround)
-    go true e NoGround f = (e, refl)
-    go true e SizeGround f = absurd (false≢true f)
-    go true e AttributeGround f = absurd (false≢true f)
-    go true e LockGround f = absurd (false≢true f)
-    go false e g f = absurd (false≢true (sym e ∙ f))
+    go : (b : Bool) → is_success n ≡ b → (o : std.Option Ground) → is_success (decision_status (cond b (block_or o d) (Refuse n))) ≡ true → (is_success n ≡ true) × (o ≡ None)
+    go true e None f = (e, refl)
+    go true e (Some g) f = absurd (false≢true (sym (bars g) ∙ f))
+    go false e o f = absurd (false≢true (sym e ∙ f))
 
 -- ---- a set
 
@@ -237,7 +234,7 @@ module _ (s : State) (x : Exited s) (r : Request) where
   record Passed : Type 0 where
     whole : intact ≡ true
     asked : is_success (request_status true r) ≡ true
-    silent : ground_by speaker (lookup s.nv s.vol) r ≡ NoGround
+    silent : ground_by speaker (lookup s.nv s.vol) r ≡ None
 
   passed_before : is_deletion r.attributes r.payload ≡ true → is_success (step (without_exit s) (set r)).0.status ≡ true → Passed
   unfolding decision_by decision

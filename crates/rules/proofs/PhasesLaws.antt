@@ -3,7 +3,8 @@
 -- the entries target (`lock_targets`, `flag_targets`). In one state: a flag that is there is settled (`flag_settled`), and a variable with the older lock once "EOD" holds 01 (`lock_settled`); without
 -- "EOD" no set of it is refused for a lock (`lock_waits`), and for nothing else ever at step 4 (`lock_alone`); what a flag's call leaves (`flag_created`), and that there is none after exit
 -- (`no_flag_after_exit`). Assumes nothing.
-use Rattle.std.specs.Prelude.{ℕ, suc, ◌+◌, ◌≤◌, ◌≡◌, List, [], ◌∷◌, ◌++◌, Bool, true, false, not, ◌||◌, cond, ◌↔◌, ◌⊎◌, get_or, leb}
+use Rattle.std.specs.Prelude.{ℕ, suc, ◌+◌, ◌≤◌, ◌≡◌, Some, None, List, [], ◌∷◌, ◌++◌, Bool, true, false, not, ◌||◌, cond, ◌↔◌, ◌⊎◌, get_or, leb}
+use Rattle.std.specs.Prelude as std
 use Rattle.std.proofs.Common.{zero-le, subst, ◌∙◌, true≢false, inl, inr, arith, length-append, lit≤, lit<}
 use Rattle.std.proofs.Math.Path.{refl, sym, ap, subst⁻¹}
 use Rattle.std.proofs.lemmas.Bool.{false≢true}
@@ -36,7 +37,7 @@ use Rattle.store.proofs.EncodeLaws.{fields_storable}
 use Rattle.stores.specs.Pair.{sound, lookup}
 use Rattle.stores.proofs.PairLaws.{looked}
 use Rattle.rules.specs.declared.Ground.{Ground}
-use Rattle.rules.specs.declared.Ground.TheVariants.{NoGround, SizeGround, AttributeGround, LockGround}
+use Rattle.rules.specs.declared.Ground.TheVariants.{SizeGround, AttributeGround, LockGround}
 use Rattle.rules.specs.declared.Decision.{Decision}
 use Rattle.rules.specs.declared.Decision.TheVariants.{Refuse, Block, Delete, Keep, Store}
 use Rattle.rules.specs.declared.Report.{Report}
@@ -417,7 +418,7 @@ pub flag_settled : (s : State) (namespace : Bytes) (v : Variable) (q : Bytes) �
 flag_settled s namespace v q n c f = is_chain s (Settled.created (flag_entry namespace) q c (flag_type namespace n) f) max_links zero-le
 
 -- a ground that is a lock comes of an entry that locks
-locks_by : {d z a k : Bool} {g : Ground} → Spoken d z a k g → g ≡ LockGround → k ≡ true
+locks_by : {d z a k : Bool} {g : std.Option Ground} → Spoken d z a k g → g ≡ Some LockGround → k ≡ true
 locks_by (by_size e f) h = let n = ap ground_number h in absurd (omega (arith, n))
 locks_by (by_attributes e f i) h = let n = ap ground_number h in absurd (omega (arith, n))
 locks_by (by_lock w i) h = i
@@ -444,9 +445,9 @@ module _ (s : State) (phase : Bytes) (v : Variable) (p : length phase ≡ 16) (l
   gives_own r own w = let k : some w.entry ≡ some (lock_entry phase v) = sym w.choice ∙ ap (chosen (entries_of s.policy)) own ∙ for_chosen s c in cc
 
   -- WITHOUT "EOD" NO SET OF IT IS REFUSED FOR A LOCK
-  pub lock_waits : Absent s (flag_variable phase end_of_dxe_name) → (r : Request) → r.variable ≡ v → (report : Report) → Answered s r report → Not (report.ground ≡ LockGround)
+  pub lock_waits : Absent s (flag_variable phase end_of_dxe_name) → (r : Request) → r.variable ≡ v → (report : Report) → Answered s r report → Not (report.ground ≡ Some LockGround)
   lock_waits a r own report h g =
-      let w = (ground_exactly s r report LockGround h (λ z. let k = ap ground_number z in omega (arith, k))).0 g in
+      let w = (ground_exactly s r report LockGround h).0 g in
       let k = locks_by (spoken_of s r w.entry) w.gives in
       lock_open a ((tells_locks s ((tells_sound s.nv s.vol).0 w.stores) (lock_entry phase v) (lock_formed phase v p l) v).0
       (subst (λ e. locks e (lookup s.nv s.vol) v ≡ true) (gives_own r own w) (subst (λ u. locks w.entry (lookup s.nv s.vol) u ≡ true) own k)))
@@ -485,23 +486,23 @@ module _ (s : State) (phase : Bytes) (v : Variable) (p : length phase ≡ 16) (l
       and_intro _ _ (eq-eqb _ _ (ap (λ x. bit_and x a) m ∙ and_zero_l a ∙ sym m)) (eq-eqb _ _ (ap (λ x. bit_and x a) n ∙ and_zero_l a))
 
   -- IT GIVES NO GROUND BUT ITS LOCK
-  pub lock_alone : (r : Request) → r.variable ≡ v → (report : Report) → Answered s r report → (report.ground ≡ NoGround) ⊎ (report.ground ≡ LockGround)
+  pub lock_alone : (r : Request) → r.variable ≡ v → (report : Report) → Answered s r report → (report.ground ≡ None) ⊎ (report.ground ≡ Some LockGround)
   lock_alone r own report h = go report.ground refl
     where
-      given : (g : Ground) → (g ≡ NoGround → ⊥) → report.ground ≡ g → GroundGiven s r g
-      given g x e = (ground_exactly s r report g h x).0 e
+      given : (g : Ground) → report.ground ≡ Some g → GroundGiven s r g
+      given g e = (ground_exactly s r report g h).0 e
 
-      go : (g : Ground) → report.ground ≡ g → (report.ground ≡ NoGround) ⊎ (report.ground ≡ LockGround)
-      go NoGround e = inl e
-      go SizeGround e =
-          let w = given SizeGround (λ z. let k = ap ground_number z in omega (arith, k)) e in
+      go : (o : std.Option Ground) → report.ground ≡ o → (report.ground ≡ None) ⊎ (report.ground ≡ Some LockGround)
+      go None e = inl e
+      go (Some SizeGround) e =
+          let w = given SizeGround e in
           let k = size_says (ground_of w.entry (lookup s.nv s.vol) r) (spoken_of s r w.entry) (ap is_size w.gives) in
           absurd (false≢true (sym k.1 ∙ ap (λ x. size_allowed x (length_after (lookup s.nv s.vol r.variable) r)) (gives_own r own w) ∙ any_size _ (payload_most r w)))
-      go AttributeGround e =
-          let w = given AttributeGround (λ z. let k = ap ground_number z in omega (arith, k)) e in
+      go (Some AttributeGround) e =
+          let w = given AttributeGround e in
           let k = attribute_says (ground_of w.entry (lookup s.nv s.vol) r) (spoken_of s r w.entry) (ap is_attribute w.gives) in
           absurd (false≢true (sym k.1 ∙ ap (λ x. attributes_allowed x r.attributes) (gives_own r own w) ∙ any_attributes r.attributes))
-      go LockGround e = inr e
+      go (Some LockGround) e = inr e
 
 -- ---- a flag is created
 

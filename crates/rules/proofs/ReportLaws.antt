@@ -1,6 +1,7 @@
 -- The report of a set and its status never disagree; the entry at the reported place is the chosen one; what each ground says of it.
 -- Assumes nothing.
-use Rattle.std.specs.Prelude.{ℕ, zero, suc, ◌^◌, ◌<◌, ◌≡◌, List, [], ◌∷◌, Bool, not, ◌||◌, ◌⊎◌, ◌↔◌, length, get_or}
+use Rattle.std.specs.Prelude.{ℕ, zero, suc, ◌^◌, ◌<◌, ◌≡◌, Some, None, is_some, unwrap_or, List, [], ◌∷◌, Bool, not, ◌||◌, ◌⊎◌, ◌↔◌, length, get_or}
+use Rattle.std.specs.Prelude as std
 use Rattle.std.proofs.Math.Path.{refl, sym, subst⁻¹}
 use Rattle.std.proofs.Common.{ap, subst, ◌∙◌, inl, inr, arith, lit<, eq-eqb, eqb-true}
 use Rattle.std.proofs.Math.Bool.{true, false, cond, true≢false}
@@ -31,12 +32,12 @@ use Rattle.status.specs.declared.Status.{Status}
 use Rattle.status.specs.declared.Status.TheVariants.{WriteProtected, VolumeCorrupted}
 use Rattle.status.specs.Status.{is_success, status_number}
 use Rattle.rules.specs.declared.Ground.{Ground}
-use Rattle.rules.specs.declared.Ground.TheVariants.{NoGround, SizeGround, AttributeGround, LockGround}
+use Rattle.rules.specs.declared.Ground.TheVariants.{SizeGround, AttributeGround, LockGround}
 use Rattle.rules.specs.declared.Decision.{Decision}
 use Rattle.rules.specs.declared.Decision.TheVariants.{Refuse, Block, Delete, Keep, Store}
 use Rattle.rules.specs.declared.Report.{Report}
 use Rattle.rules.specs.Set.{Request, request_status, ground_status, ground_of, ground_by, is_deletion, length_after, attributes_allowed, unsupported_bit, write_decision, block_or, decision, decision_status}
-use Rattle.rules.proofs.DecisionLaws.{supported, early_unlocked, ProtectedDeletion, protected_refused, late_locked, blocked_by, write_unblocked, decision_blocked, decision_written, blocked_facts}
+use Rattle.rules.proofs.DecisionLaws.{bars, supported, early_unlocked, ProtectedDeletion, protected_refused, late_locked, blocked_by, write_unblocked, decision_blocked, decision_written, blocked_facts}
 use Rattle.rules.specs.Report.{no_report, report_for, report_by, decision_report}
 use Rattle.rules.specs.Engine.{State, speaking, decision_by, decision_in, set_decision, status, with_report, set_report, step}
 use Rattle.rules.specs.Engine.Call.{set}
@@ -49,24 +50,12 @@ use Rattle.rules.proofs.SetGroundsLaws.{is_size, is_attribute, size_says, attrib
 -- ---- which decision, and so which report
 
 -- a decision that is by no ground of step 4 has a report without one
-pub unblocked_report : (d : Decision) (es : List Bytes) (o : Option Bytes) (a : ℕ) → blocked_by d ≡ NoGround → decision_report d es o a ≡ no_report
-unfolding report_for
+pub unblocked_report : (d : Decision) (es : List Bytes) (o : Option Bytes) (a : ℕ) → blocked_by d ≡ None → decision_report d es o a ≡ no_report
 unblocked_report (Refuse n) es o a h = refl
-unblocked_report (Block g) es none a h = refl
-unblocked_report (Block g) es (some e) a h = rw h
+unblocked_report (Block g) es o a h = absurd (true≢false (ap is_some h))
 unblocked_report Delete es o a h = refl
 unblocked_report Keep es o a h = refl
 unblocked_report Store es o a h = refl
-
--- every ground but none answers a refusal
-bars : (g : Ground) → (g ≡ NoGround → ⊥) → is_success (ground_status g) ≡ false
-bars NoGround h = absurd (h refl)
-bars SizeGround h = refl
-bars AttributeGround h = refl
-bars LockGround h = refl
-
-barring : (g : Ground) → is_success (ground_status g) ≡ false → g ≡ NoGround → ⊥
-barring g f e = true≢false (sym (ap (λ x. is_success (ground_status x)) e) ∙ f)
 
 module _ (s : State) (r : Request) where
   abbrev entries : List Bytes
@@ -84,14 +73,13 @@ module _ (s : State) (r : Request) where
     pub enabled : s.switches.enabled ≡ true
     pub entry : Bytes
     pub choice : chosen entries r.variable ≡ some entry
-    pub gives : ground_of entry (lookup s.nv s.vol) r ≡ g
-    pub some : g ≡ NoGround → ⊥
+    pub gives : ground_of entry (lookup s.nv s.vol) r ≡ Some g
 
-  who : (g : Ground) (b : Bool) (o : Option Bytes) → ground_by (speaking b o) (lookup s.nv s.vol) r ≡ g → is_success (ground_status g) ≡ false
-      → (e : Bytes) × (b ≡ true) × (o ≡ some e) × (ground_of e (lookup s.nv s.vol) r ≡ g)
-  who g true (some e) k f = (e, refl, refl, k)
-  who g true none k f = absurd (true≢false (ap (λ x. is_success (ground_status x)) k ∙ f))
-  who g false o k f = absurd (true≢false (ap (λ x. is_success (ground_status x)) k ∙ f))
+  who : (g : Ground) (b : Bool) (o : Option Bytes) → ground_by (speaking b o) (lookup s.nv s.vol) r ≡ Some g
+      → (e : Bytes) × (b ≡ true) × (o ≡ some e) × (ground_of e (lookup s.nv s.vol) r ≡ Some g)
+  who g true (some e) k = (e, refl, refl, k)
+  who g true none k = absurd (false≢true (ap is_some k))
+  who g false o k = absurd (false≢true (ap is_some k))
 
   not_blocked : (n : Status) (g : Ground) → Refuse n ≡ Block g → ⊥
   not_blocked n g e = let z : ◌≡◌ {A = ℕ} 0 1 = cc in omega arith
@@ -105,16 +93,16 @@ module _ (s : State) (r : Request) where
       go true false h k e = absurd (not_blocked VolumeCorrupted g e)
       go true true h k e =
           let f = blocked_facts _ _ s.nv s.vol r g e in
-          let w = who g s.switches.enabled (chosen entries r.variable) f.ground f.bars in
-          record { stores = h; policy = k; asked = f.asked; enabled = w.1; entry = w.0; choice = w.2; gives = w.3; some = barring g f.bars }
+          let w = who g s.switches.enabled (chosen entries r.variable) f.ground in
+          record { stores = h; policy = k; asked = f.asked; enabled = w.1; entry = w.0; choice = w.2; gives = w.3 }
 
   given_decides : (g : Ground) → GroundGiven g → set_decision s r ≡ Block g
   unfolding decision_by ◌and◌
-  given_decides g w = rw (w.stores, w.policy) (decision_blocked _ _ s.nv s.vol r g w.asked (rw (w.enabled, w.choice) w.gives) (bars g w.some))
+  given_decides g w = rw (w.stores, w.policy) (decision_blocked _ _ s.nv s.vol r g w.asked (rw (w.enabled, w.choice) w.gives))
 
   -- the report of the entry that gives the ground
   abbrev pub given_report : (g : Ground) → GroundGiven g → Report
-  given_report g w = report_for g (place_of entries w.entry) w.entry r.attributes
+  given_report g w = report_for (Some g) (place_of entries w.entry) w.entry r.attributes
 
   -- A GROUND THAT SPEAKS IS ANSWERED WITH ITS STATUS AND REPORTED
   pub given_answers : (g : Ground) (w : GroundGiven g) → (step s (set r)).0 ≡ with_report (ground_status g) (given_report g w)
@@ -129,7 +117,7 @@ module _ (s : State) (r : Request) where
         → Agree (request_status s.switches.exited r) no_report
     by_ground : (g : Ground) (w : GroundGiven g) → Agree (ground_status g) (given_report g w)
     late : (sound s.nv s.vol and policy_valid s.policy) ≡ true → is_success (request_status s.switches.exited r) ≡ true
-        → ground_by (speaking s.switches.enabled (chosen entries r.variable)) (lookup s.nv s.vol) r ≡ NoGround
+        → ground_by (speaking s.switches.enabled (chosen entries r.variable)) (lookup s.nv s.vol) r ≡ None
         → Agree (decision_status later) no_report
 
   reported : Agree (status s (set r)) (set_report s r)
@@ -139,20 +127,18 @@ module _ (s : State) (r : Request) where
       asks : Status
       asks = request_status s.switches.exited r
 
-      barred : (g : Ground) → GroundGiven g → Agree (ground_status g) (report_by g entries (chosen entries r.variable) r.attributes)
-      barred g w = subst⁻¹ (λ o. Agree (ground_status g) (report_by g entries o r.attributes)) w.choice (by_ground g w)
+      barred : (g : Ground) → GroundGiven g → Agree (ground_status g) (report_by (Some g) entries (chosen entries r.variable) r.attributes)
+      barred g w = subst⁻¹ (λ o. Agree (ground_status g) (report_by (Some g) entries o r.attributes)) w.choice (by_ground g w)
 
-      go : (b q : Bool) (h : Ground) → (sound s.nv s.vol and policy_valid s.policy) ≡ b → is_success asks ≡ q
+      go : (b q : Bool) (h : std.Option Ground) → (sound s.nv s.vol and policy_valid s.policy) ≡ b → is_success asks ≡ q
           → ground_by (speaking s.switches.enabled (chosen entries r.variable)) (lookup s.nv s.vol) r ≡ h
           → ((g : Ground) → cond b (cond q (block_or h later) (Refuse asks)) (Refuse VolumeCorrupted) ≡ Block g → GroundGiven g)
           → Agree (decision_status (cond b (cond q (block_or h later) (Refuse asks)) (Refuse VolumeCorrupted)))
           (decision_report (cond b (cond q (block_or h later) (Refuse asks)) (Refuse VolumeCorrupted)) entries (chosen entries r.variable) r.attributes)
       go false q h i j k f = corrupted i
       go true false h i j k f = early i j
-      go true true NoGround i j k f = subst⁻¹ (Agree (decision_status later)) (unblocked_report later entries _ r.attributes (write_unblocked s.switches.exited s.nv s.vol _ r)) (late i j k)
-      go true true SizeGround i j k f = barred SizeGround (f SizeGround refl)
-      go true true AttributeGround i j k f = barred AttributeGround (f AttributeGround refl)
-      go true true LockGround i j k f = barred LockGround (f LockGround refl)
+      go true true None i j k f = subst⁻¹ (Agree (decision_status later)) (unblocked_report later entries _ r.attributes (write_unblocked s.switches.exited s.nv s.vol _ r)) (late i j k)
+      go true true (Some g) i j k f = barred g (f g refl)
 
 -- REPORT AND STATUS NEVER DISAGREE
 pub report_and_status : (s : State) (r : Request) → ((step s (set r)).0 ≡ with_report (status s (set r)) (set_report s r)) × Agree s r (status s (set r)) (set_report s r)
@@ -165,25 +151,24 @@ report_and_status s r = (answer_reported s r (status s (set r)), reported s r)
 abbrev pub Answered : State → Request → Report → Type 0
 Answered s r p = (step s (set r)).0.report ≡ some p
 
--- it is for the ground g
-pub ground_for : (g : Ground) (k : ℕ) (e : Bytes) (a : ℕ) → (report_for g k e a).ground ≡ g
+-- it is for the ground, if there is one
+pub ground_for : (o : std.Option Ground) (k : ℕ) (e : Bytes) (a : ℕ) → (report_for o k e a).ground ≡ o
 unfolding report_for
-ground_for NoGround k e a = refl
-ground_for SizeGround k e a = refl
-ground_for AttributeGround k e a = refl
-ground_for LockGround k e a = refl
+ground_for None k e a = refl
+ground_for (Some SizeGround) k e a = refl
+ground_for (Some AttributeGround) k e a = refl
+ground_for (Some LockGround) k e a = refl
 
 -- and names the place k and the rank of the entry e
 record Made (k : ℕ) (e : Bytes) (p : Report) : Type 0 where
   place : p.place ≡ k
   rank : p.rank ≡ rank e
 
-made : (g : Ground) (k : ℕ) (e : Bytes) (a : ℕ) → (g ≡ NoGround → ⊥) → Made k e (report_for g k e a)
+made : (g : Ground) (k : ℕ) (e : Bytes) (a : ℕ) → Made k e (report_for (Some g) k e a)
 unfolding report_for
-made NoGround k e a h = absurd (h refl)
-made SizeGround k e a h = record { place = refl; rank = refl }
-made AttributeGround k e a h = record { place = refl; rank = refl }
-made LockGround k e a h = record { place = refl; rank = refl }
+made SizeGround k e a = record { place = refl; rank = refl }
+made AttributeGround k e a = record { place = refl; rank = refl }
+made LockGround k e a = record { place = refl; rank = refl }
 
 module _ (s : State) (r : Request) where
   answered_is : (p : Report) → Answered s r p → set_report s r ≡ p
@@ -193,19 +178,19 @@ module _ (s : State) (r : Request) where
       go e = cc
 
   -- the ground in a report is given
-  told_given : {n : Status} {p : Report} (g : Ground) → (g ≡ NoGround → ⊥) → Agree s r n p → p.ground ≡ g → GroundGiven s r g
-  told_given g h (corrupted i) e = absurd (h (sym e))
-  told_given g h (early i j) e = absurd (h (sym e))
-  told_given g h (by_ground k w) e = subst (GroundGiven s r) (sym (ground_for k _ w.entry r.attributes) ∙ e) w
-  told_given g h (late i j k) e = absurd (h (sym e))
+  told_given : {n : Status} {p : Report} (g : Ground) → Agree s r n p → p.ground ≡ Some g → GroundGiven s r g
+  told_given g (corrupted i) e = absurd (false≢true (ap is_some e))
+  told_given g (early i j) e = absurd (false≢true (ap is_some e))
+  told_given g (by_ground k w) e = subst (GroundGiven s r) (ap (λ o. unwrap_or o g) (sym (ground_for (Some k) _ w.entry r.attributes) ∙ e)) w
+  told_given g (late i j k) e = absurd (false≢true (ap is_some e))
 
   -- A GROUND IS REPORTED EXACTLY WHERE THE CHOSEN ENTRY GIVES IT, steps 1 to 3 passed and the engine enabled
-  pub ground_exactly : (p : Report) (g : Ground) → Answered s r p → (g ≡ NoGround → ⊥) → (p.ground ≡ g) ↔ GroundGiven s r g
-  ground_exactly p g a h = (
-    (λ e. told_given g h (report_and_status s r).1 (ap (λ q. q.ground) (answered_is p a) ∙ e)),
+  pub ground_exactly : (p : Report) (g : Ground) → Answered s r p → (p.ground ≡ Some g) ↔ GroundGiven s r g
+  ground_exactly p g a = (
+    (λ e. told_given g (report_and_status s r).1 (ap (λ q. q.ground) (answered_is p a) ∙ e)),
     λ w.
         ap (λ q. q.ground) (sym (answered_is p a) ∙ answered_is (given_report s r g w) (ap (λ x. x.report) (given_answers s r g w)))
-        ∙ ground_for g _ w.entry r.attributes,
+        ∙ ground_for (Some g) _ w.entry r.attributes,
   )
 
   -- its report is then that of the entry
@@ -224,7 +209,7 @@ module _ (s : State) (r : Request) where
 
 -- the entry e, which gives the ground g, is named: at its place, with its rank
 pub record Names (es : List Bytes) (e : Bytes) (g : Ground) (p : Report) : Type 0 where
-  pub ground : p.ground ≡ g
+  pub ground : p.ground ≡ Some g
   pub within : p.place < length es
   pub there : get_or es p.place [] ≡ e
   pub rank : p.rank ≡ rank e
@@ -233,10 +218,10 @@ pub record Names (es : List Bytes) (e : Bytes) (g : Ground) (p : Report) : Type 
 pub names_chosen : (s : State) (r : Request) (p : Report) (g : Ground) → Answered s r p → (w : GroundGiven s r g) → Names (entries_of s.policy) w.entry g p
 names_chosen s r p g a w =
     let es = entries_of s.policy in
-    let m = made g (place_of es w.entry) w.entry r.attributes w.some in
+    let m = made g (place_of es w.entry) w.entry r.attributes in
     let k = chosen_stands s r g w in
     subst⁻¹ (Names es w.entry g) (given_report_lem s r p g a w) (record {
-      ground = ground_for g _ w.entry r.attributes;
+      ground = ground_for (Some g) _ w.entry r.attributes;
       within = subst⁻¹ (λ (i : ℕ). i < length es) m.place k.within;
       there = ap (λ (i : ℕ). get_or es i []) m.place ∙ k.is;
       rank = m.rank;
@@ -249,17 +234,17 @@ granted_silent s r h = ap (λ a. a.report) (report_and_status s r).0 ∙ ap some
     go : {n : Status} {p : Report} → Agree s r n p → is_success n ≡ true → p ≡ no_report
     go (corrupted i) e = refl
     go (early i j) e = refl
-    go (by_ground g w) e = absurd (false≢true (sym (bars g w.some) ∙ e))
+    go (by_ground g w) e = absurd (false≢true (sym (bars g) ∙ e))
     go (late i j k) e = refl
 
 -- WITHOUT A GROUND EVERY NUMBER IS ZERO
-pub no_ground_zeros : (s : State) (r : Request) (p : Report) → Answered s r p → p.ground ≡ NoGround → p ≡ no_report
+pub no_ground_zeros : (s : State) (r : Request) (p : Report) → Answered s r p → p.ground ≡ None → p ≡ no_report
 no_ground_zeros s r p a e = sym (answered_is s r p a) ∙ go (report_and_status s r).1 (ap (λ q. q.ground) (answered_is s r p a) ∙ e)
   where
-    go : {n : Status} {q : Report} → Agree s r n q → q.ground ≡ NoGround → q ≡ no_report
+    go : {n : Status} {q : Report} → Agree s r n q → q.ground ≡ None → q ≡ no_report
     go (corrupted i) h = refl
     go (early i j) h = refl
-    go (by_ground g w) h = absurd (w.some (sym (ground_for g _ w.entry r.attributes) ∙ h))
+    go (by_ground g w) h = absurd (true≢false (ap is_some (sym (ground_for (Some g) _ w.entry r.attributes) ∙ h)))
     go (late i j k) h = refl
 
 -- A SET ANSWERS 8 EXACTLY WHERE A LOCK IS REPORTED, or where nothing of step 4 or before speaks against a deletion after exit of a volatile variable
@@ -268,7 +253,7 @@ module _ (s : State) (r : Request) where
   pub record Protected : Type 0 where
     pub intact : (sound s.nv s.vol and policy_valid s.policy) ≡ true
     pub asked : is_success (request_status s.switches.exited r) ≡ true
-    pub silent : ground_by (speaking s.switches.enabled (chosen (entries_of s.policy) r.variable)) (lookup s.nv s.vol) r ≡ NoGround
+    pub silent : ground_by (speaking s.switches.enabled (chosen (entries_of s.policy) r.variable)) (lookup s.nv s.vol) r ≡ None
     pub deletes : Deletion r
     pub exited : Exited s
     pub held : Bytes
@@ -291,7 +276,7 @@ module _ (s : State) (r : Request) where
       unseen (inr h) = h.1.without (subst (λ q. RT (attributes_of q)) (one_record s r.variable w.held h.0 w.stands h.1.stands) w.rt)
 
   tested_protected : (sound s.nv s.vol and policy_valid s.policy) ≡ true → is_success (request_status s.switches.exited r) ≡ true
-      → ground_by (speaking s.switches.enabled (chosen (entries_of s.policy) r.variable)) (lookup s.nv s.vol) r ≡ NoGround
+      → ground_by (speaking s.switches.enabled (chosen (entries_of s.policy) r.variable)) (lookup s.nv s.vol) r ≡ None
       → ProtectedDeletion s.switches.exited (lookup s.nv s.vol r.variable) r → Protected
   tested_protected i j g w =
       let k = (tells_sound s.nv s.vol).0 (and_left _ _ i) in
@@ -322,7 +307,6 @@ module _ (s : State) (r : Request) where
       ∙ protected_refused s.switches.exited s.nv s.vol (lookup s.nv s.vol r.variable) r (protected_tests w)))
 
   eight_by : (g : Ground) → GroundGiven s r g → ground_status g ≡ WriteProtected → GroundGiven s r LockGround
-  eight_by NoGround w e = absurd (w.some refl)
   eight_by SizeGround w e = absurd (let k = ap status_number e in omega (arith, k))
   eight_by AttributeGround w e = absurd (let k = ap status_number e in omega (arith, k))
   eight_by LockGround w e = w
@@ -333,17 +317,17 @@ module _ (s : State) (r : Request) where
   eight_cases (by_ground g w) e = inl (eight_by g w e)
   eight_cases (late i j k) e = inr (tested_protected i j k (late_locked s.switches.exited s.nv s.vol _ r e))
 
-  pub lock_exactly : (p : Report) → Answered s r p → ((step s (set r)).0.status ≡ WriteProtected) ↔ ((p.ground ≡ LockGround) ⊎ Protected)
+  pub lock_exactly : (p : Report) → Answered s r p → ((step s (set r)).0.status ≡ WriteProtected) ↔ ((p.ground ≡ Some LockGround) ⊎ Protected)
   lock_exactly p a = (λ h. to (eight_cases (report_and_status s r).1 (sym (step_status s (set r)) ∙ h)), back)
     where
-      told : (p.ground ≡ LockGround) ↔ GroundGiven s r LockGround
-      told = ground_exactly s r p LockGround a (barring LockGround refl)
+      told : (p.ground ≡ Some LockGround) ↔ GroundGiven s r LockGround
+      told = ground_exactly s r p LockGround a
 
-      to : GroundGiven s r LockGround ⊎ Protected → (p.ground ≡ LockGround) ⊎ Protected
+      to : GroundGiven s r LockGround ⊎ Protected → (p.ground ≡ Some LockGround) ⊎ Protected
       to (inl w) = inl (told.1 w)
       to (inr w) = inr w
 
-      back : (p.ground ≡ LockGround) ⊎ Protected → (step s (set r)).0.status ≡ WriteProtected
+      back : (p.ground ≡ Some LockGround) ⊎ Protected → (step s (set r)).0.status ≡ WriteProtected
       back (inl e) = ap (λ b. b.status) (given_answers s r LockGround (told.0 e))
       back (inr w) = protected_answers w
 
@@ -358,21 +342,21 @@ module _ (s : State) (r : Request) where
 
 -- BEFORE EXIT a set answers 8 exactly where a lock is reported
 pub lock_before_exit : (s : State) (r : Request) (p : Report) → Answered s r p → s.switches.exited ≡ false
-    → ((step s (set r)).0.status ≡ WriteProtected) ↔ (p.ground ≡ LockGround)
+    → ((step s (set r)).0.status ≡ WriteProtected) ↔ (p.ground ≡ Some LockGround)
 lock_before_exit s r p a x = ((λ h. to ((lock_exactly s r p a).0 h)), λ e. (lock_exactly s r p a).1 (inl e))
   where
-    to : (p.ground ≡ LockGround) ⊎ Protected s r → p.ground ≡ LockGround
+    to : (p.ground ≡ Some LockGround) ⊎ Protected s r → p.ground ≡ Some LockGround
     to (inl e) = e
     to (inr w) = absurd (true≢false (sym w.exited ∙ x))
 
 -- ---- size
 
 -- SIZE REPORTED: the request is no deletion, and the length that is measured is outside
-pub size_outside : (s : State) (r : Request) (p : Report) → Answered s r p → p.ground ≡ SizeGround
+pub size_outside : (s : State) (r : Request) (p : Report) → Answered s r p → p.ground ≡ Some SizeGround
     → (w : GroundGiven s r SizeGround) × (is_deletion r.attributes r.payload ≡ false)
     × ((length_after (lookup s.nv s.vol r.variable) r < min_size w.entry) ⊎ (max_size w.entry < length_after (lookup s.nv s.vol r.variable) r))
 size_outside s r p a e =
-    let w = (ground_exactly s r p SizeGround a (barring SizeGround refl)).0 e in
+    let w = (ground_exactly s r p SizeGround a).0 e in
     let q = size_says _ (spoken_of s r w.entry) (ap is_size w.gives) in
     (w, q.0, (tells_size w.entry (length_after (lookup s.nv s.vol r.variable) r)).0 (ap not q.1))
 
@@ -423,9 +407,9 @@ module _ (s : State) (r : Request) (w : GroundGiven s r AttributeGround) where
       record { some = k; lowest = l; is = lowest_offends must cant r.attributes l; first = lowest_first must cant r.attributes }
 
 -- ATTRIBUTES REPORTED: the request is no deletion, and offends in the bits that are told. Of a policy record that is bytes, as every lent one is
-pub attributes_offend : (s : State) (r : Request) (p : Report) → AreBytes s.policy → Answered s r p → p.ground ≡ AttributeGround
+pub attributes_offend : (s : State) (r : Request) (p : Report) → AreBytes s.policy → Answered s r p → p.ground ≡ Some AttributeGround
     → (w : GroundGiven s r AttributeGround) × (is_deletion r.attributes r.payload ≡ false) × Offends w.entry r.attributes p
 attributes_offend s r p b a e =
-    let w = (ground_exactly s r p AttributeGround a (barring AttributeGround refl)).0 e in
+    let w = (ground_exactly s r p AttributeGround a).0 e in
     let q = attribute_says _ (spoken_of s r w.entry) (ap is_attribute w.gives) in
     (w, q.0, subst⁻¹ (Offends w.entry r.attributes) (given_report_lem s r p AttributeGround a w) (offending s r w b q.1))

@@ -1,5 +1,7 @@
 -- The computed status of a set and its grounds agree. Assumes nothing.
-use Rattle.std.specs.Prelude.{ℕ, ◌+◌, ◌-◌, ◌*◌, ◌%◌, ◌/◌, ◌≤◌, ◌<◌, ◌≡◌, List, [], ◌∷◌, ◌++◌, Bool, not, ◌||◌, ◌⊎◌, ◌↔◌, ltb}
+use Rattle.std.specs.Prelude.{ℕ, ◌+◌, ◌-◌, ◌*◌, ◌%◌, ◌/◌, ◌≤◌, ◌<◌, ◌≡◌, List, [], ◌∷◌, ◌++◌, Bool, not, ◌||◌, ◌⊎◌, ◌↔◌, Some, None, ltb}
+use Rattle.std.specs.Prelude as std
+use Rattle.std.specs.Option.{option_or}
 use Rattle.std.proofs.Math.Path.{refl, ap, subst⁻¹}
 use Rattle.std.proofs.Common.{sym, subst, ◌∙◌, true≢false, inl, inr, length-append, lit<, mod-eq_of_lt}
 use Rattle.std.proofs.Math.Bool.{true, false, cond}
@@ -29,10 +31,10 @@ use Rattle.store.specs.Store.{records_of, has_room}
 use Rattle.stores.specs.Pair.{sound, lookup}
 use Rattle.status.specs.declared.Status.TheVariants.{Success, InvalidParameter, Unsupported, WriteProtected, OutOfResources, VolumeCorrupted, NotFound}
 use Rattle.rules.specs.declared.Ground.{Ground}
-use Rattle.rules.specs.declared.Ground.TheVariants.{NoGround, SizeGround, AttributeGround, LockGround}
+use Rattle.rules.specs.declared.Ground.TheVariants.{SizeGround, AttributeGround, LockGround}
 use Rattle.rules.specs.declared.Decision.{Decision}
 use Rattle.rules.specs.declared.Decision.TheVariants.{Refuse, Delete, Keep, Store}
-use Rattle.rules.specs.Set.{Request, Lookup, or_ground, exists, bad_request, unsupported_bit, needs_bs, needs_runtime, request_status, holds_value, rule_locks, locks, is_deletion, shown, exit_protects, size_allowed, attributes_allowed, request_ground, ground_of, ground_by, other_attributes, is_empty_append, payload_after, length_after, record_after, store_of, write_decision, refuse_or, block_or, decision, decision_status}
+use Rattle.rules.specs.Set.{Request, Lookup, exists, bad_request, unsupported_bit, needs_bs, needs_runtime, request_status, holds_value, rule_locks, locks, is_deletion, shown, exit_protects, size_allowed, attributes_allowed, request_ground, ground_of, ground_by, other_attributes, is_empty_append, payload_after, length_after, record_after, store_of, write_decision, refuse_or, block_or, decision, decision_status}
 use Rattle.rules.proofs.DecisionLaws.{blocked_by, write_unblocked}
 use Rattle.rules.specs.Engine.{State, speaking, decision_by, set_decision, status}
 use Rattle.rules.specs.Engine.Call.{set}
@@ -45,23 +47,23 @@ use Rattle.rules.proofs.OrderedLaws.{Row, row, first_of, first_place, NoneBefore
 
 -- ---- the tests in their order
 
-abbrev pub is_size : Ground → Bool
-is_size NoGround = false
-is_size SizeGround = true
-is_size AttributeGround = false
-is_size LockGround = false
+abbrev pub is_size : std.Option Ground → Bool
+is_size None = false
+is_size (Some SizeGround) = true
+is_size (Some AttributeGround) = false
+is_size (Some LockGround) = false
 
-abbrev pub is_attribute : Ground → Bool
-is_attribute NoGround = false
-is_attribute SizeGround = false
-is_attribute AttributeGround = true
-is_attribute LockGround = false
+abbrev pub is_attribute : std.Option Ground → Bool
+is_attribute None = false
+is_attribute (Some SizeGround) = false
+is_attribute (Some AttributeGround) = true
+is_attribute (Some LockGround) = false
 
-abbrev is_lock : Ground → Bool
-is_lock NoGround = false
-is_lock SizeGround = false
-is_lock AttributeGround = false
-is_lock LockGround = true
+abbrev is_lock : std.Option Ground → Bool
+is_lock None = false
+is_lock (Some SizeGround) = false
+is_lock (Some AttributeGround) = false
+is_lock (Some LockGround) = true
 
 abbrev write_rows : Bool → Bool → Bool → Bool → Bool → Bool → Bool → List Row
 write_rows deletion seen protected other nothing long room =
@@ -81,14 +83,14 @@ write_chain false x p false false true m = refl
 write_chain false x p false false false true = refl
 write_chain false x p false false false false = refl
 
-abbrev ground_rows : Ground → List Row → List Row
+abbrev ground_rows : std.Option Ground → List Row → List Row
 ground_rows g rows = row 41 (is_size g) InvalidParameter ∷ row 42 (is_attribute g) InvalidParameter ∷ row 43 (is_lock g) WriteProtected ∷ rows
 
-ground_chain : (g : Ground) (d : Decision) (rows : List Row) → decision_status d ≡ first_of rows → decision_status (block_or g d) ≡ first_of (ground_rows g rows)
-ground_chain NoGround d rows e = e
-ground_chain SizeGround d rows e = refl
-ground_chain AttributeGround d rows e = refl
-ground_chain LockGround d rows e = refl
+ground_chain : (g : std.Option Ground) (d : Decision) (rows : List Row) → decision_status d ≡ first_of rows → decision_status (block_or g d) ≡ first_of (ground_rows g rows)
+ground_chain None d rows e = e
+ground_chain (Some SizeGround) d rows e = refl
+ground_chain (Some AttributeGround) d rows e = refl
+ground_chain (Some LockGround) d rows e = refl
 
 abbrev all_rows : Bool → Bool → Bool → Bool → Bool → Bool → Bool → List Row → List Row
 all_rows sound valid named long unsupported needs runtime rows =
@@ -111,11 +113,11 @@ all_chain true true true false false false false d rows e = e
 -- ---- at which place the steps end
 
 -- the place of a ground of step 4, and any other without one
-abbrev pub EndsAt : Ground → ℕ → Type 0
-EndsAt NoGround p = Not ((41 ≤ p) × (p ≤ 43))
-EndsAt SizeGround p = p ≡ 41
-EndsAt AttributeGround p = p ≡ 42
-EndsAt LockGround p = p ≡ 43
+abbrev pub EndsAt : std.Option Ground → ℕ → Type 0
+EndsAt None p = Not ((41 ≤ p) × (p ≤ 43))
+EndsAt (Some SizeGround) p = p ≡ 41
+EndsAt (Some AttributeGround) p = p ≡ 42
+EndsAt (Some LockGround) p = p ≡ 43
 
 write_place : (d x p o e l m : Bool) → 43 < first_place (write_rows d x p o e l m)
 unfolding ◌and◌
@@ -128,16 +130,16 @@ write_place false x p false false true m = lit< tt
 write_place false x p false false false true = lit< tt
 write_place false x p false false false false = lit< tt
 
-ground_ends : (g : Ground) (d : Decision) (rows : List Row) → blocked_by d ≡ NoGround → 43 < first_place rows → EndsAt (blocked_by (block_or g d)) (first_place (ground_rows g rows))
-ground_ends NoGround d rows e l = subst⁻¹ (λ g. EndsAt g (first_place rows)) e (λ w. let h = w.1 in omega arith)
-ground_ends SizeGround d rows e l = refl
-ground_ends AttributeGround d rows e l = refl
-ground_ends LockGround d rows e l = refl
+ground_ends : (g : std.Option Ground) (d : Decision) (rows : List Row) → blocked_by d ≡ None → 43 < first_place rows → EndsAt (blocked_by (block_or g d)) (first_place (ground_rows g rows))
+ground_ends None d rows e l = subst⁻¹ (λ g. EndsAt g (first_place rows)) e (λ w. let h = w.1 in omega arith)
+ground_ends (Some SizeGround) d rows e l = refl
+ground_ends (Some AttributeGround) d rows e l = refl
+ground_ends (Some LockGround) d rows e l = refl
 
-before_4 : (p : ℕ) → p < 41 → EndsAt NoGround p
+before_4 : (p : ℕ) → p < 41 → EndsAt None p
 before_4 p l w = let h = w.0 in omega arith
 
-all_ends : (s v n l u b x : Bool) (g : Ground) (d : Decision) (rows : List Row) → blocked_by d ≡ NoGround → 43 < first_place rows
+all_ends : (s v n l u b x : Bool) (g : std.Option Ground) (d : Decision) (rows : List Row) → blocked_by d ≡ None → 43 < first_place rows
     → EndsAt (blocked_by (cond (s and v) (refuse_or (cond (not n || l) InvalidParameter (cond u Unsupported (cond b InvalidParameter (cond x InvalidParameter Success)))) (block_or g d)) (Refuse VolumeCorrupted)))
     (first_place (all_rows s v n l u b x (ground_rows g rows)))
 unfolding ◌and◌
@@ -153,13 +155,13 @@ all_ends true true true false false false false g d rows e f = ground_ends g d r
 -- ---- step 4
 
 -- which ground speaks: a deletion or not, size and attributes allowed or not, locked or not
-pub data Spoken (d z a l : Bool) : Ground → Type 0 where
-  by_size : d ≡ false → z ≡ false → Spoken d z a l SizeGround
-  by_attributes : d ≡ false → z ≡ true → a ≡ false → Spoken d z a l AttributeGround
-  by_lock : (d ≡ false → (z ≡ true) × (a ≡ true)) → l ≡ true → Spoken d z a l LockGround
-  by_none : (d ≡ false → (z ≡ true) × (a ≡ true)) → l ≡ false → Spoken d z a l NoGround
+pub data Spoken (d z a l : Bool) : std.Option Ground → Type 0 where
+  by_size : d ≡ false → z ≡ false → Spoken d z a l (Some SizeGround)
+  by_attributes : d ≡ false → z ≡ true → a ≡ false → Spoken d z a l (Some AttributeGround)
+  by_lock : (d ≡ false → (z ≡ true) × (a ≡ true)) → l ≡ true → Spoken d z a l (Some LockGround)
+  by_none : (d ≡ false → (z ≡ true) × (a ≡ true)) → l ≡ false → Spoken d z a l None
 
-spoken : (d z a l : Bool) → Spoken d z a l (or_ground (cond d NoGround (cond z (cond a NoGround AttributeGround) SizeGround)) (cond l LockGround NoGround))
+spoken : (d z a l : Bool) → Spoken d z a l (option_or (cond d None (cond z (cond a None (Some AttributeGround)) (Some SizeGround))) (cond l (Some LockGround) None))
 spoken true z a true = by_lock (λ h. absurd (true≢false h)) refl
 spoken true z a false = by_none (λ h. absurd (true≢false h)) refl
 spoken false false a l = by_size refl refl
@@ -168,38 +170,38 @@ spoken false true true true = by_lock (λ h. (refl, refl)) refl
 spoken false true true false = by_none (λ h. (refl, refl)) refl
 
 module _ {d z a l : Bool} where
-  pub size_says : (g : Ground) → Spoken d z a l g → is_size g ≡ true → (d ≡ false) × (z ≡ false)
+  pub size_says : (g : std.Option Ground) → Spoken d z a l g → is_size g ≡ true → (d ≡ false) × (z ≡ false)
   size_says g (by_size e f) h = (e, f)
   size_says g (by_attributes e f i) h = absurd (false≢true h)
   size_says g (by_lock w i) h = absurd (false≢true h)
   size_says g (by_none w i) h = absurd (false≢true h)
 
-  pub attribute_says : (g : Ground) → Spoken d z a l g → is_attribute g ≡ true → (d ≡ false) × (a ≡ false)
+  pub attribute_says : (g : std.Option Ground) → Spoken d z a l g → is_attribute g ≡ true → (d ≡ false) × (a ≡ false)
   attribute_says g (by_size e f) h = absurd (false≢true h)
   attribute_says g (by_attributes e f i) h = (e, i)
   attribute_says g (by_lock w i) h = absurd (false≢true h)
   attribute_says g (by_none w i) h = absurd (false≢true h)
 
-  lock_says : (g : Ground) → Spoken d z a l g → is_lock g ≡ true → l ≡ true
+  lock_says : (g : std.Option Ground) → Spoken d z a l g → is_lock g ≡ true → l ≡ true
   lock_says g (by_size e f) h = absurd (false≢true h)
   lock_says g (by_attributes e f i) h = absurd (false≢true h)
   lock_says g (by_lock w i) h = i
   lock_says g (by_none w i) h = absurd (false≢true h)
 
   -- and what there is where its grounds do not speak
-  no_size : (g : Ground) → Spoken d z a l g → is_size g ≡ false → d ≡ false → z ≡ true
+  no_size : (g : std.Option Ground) → Spoken d z a l g → is_size g ≡ false → d ≡ false → z ≡ true
   no_size g (by_size e f) h k = absurd (true≢false h)
   no_size g (by_attributes e f i) h k = f
   no_size g (by_lock w i) h k = (w k).0
   no_size g (by_none w i) h k = (w k).0
 
-  no_attribute : (g : Ground) → Spoken d z a l g → is_size g ≡ false → is_attribute g ≡ false → d ≡ false → a ≡ true
+  no_attribute : (g : std.Option Ground) → Spoken d z a l g → is_size g ≡ false → is_attribute g ≡ false → d ≡ false → a ≡ true
   no_attribute g (by_size e f) h j k = absurd (true≢false h)
   no_attribute g (by_attributes e f i) h j k = absurd (true≢false j)
   no_attribute g (by_lock w i) h j k = (w k).1
   no_attribute g (by_none w i) h j k = (w k).1
 
-  no_lock : (g : Ground) → Spoken d z a l g → is_size g ≡ false → is_attribute g ≡ false → is_lock g ≡ false → l ≡ false
+  no_lock : (g : std.Option Ground) → Spoken d z a l g → is_size g ≡ false → is_attribute g ≡ false → is_lock g ≡ false → l ≡ false
   no_lock g (by_size e f) h j k = absurd (true≢false h)
   no_lock g (by_attributes e f i) h j k = absurd (true≢false j)
   no_lock g (by_lock w i) h j k = absurd (true≢false k)
@@ -404,7 +406,7 @@ module _ (s : State) (r : Request) where
   abbrev pub chosen_entry : Option Bytes
   chosen_entry = speaking s.switches.enabled (chosen (entries_of s.policy) r.variable)
 
-  abbrev spoken_ground : Ground
+  abbrev spoken_ground : std.Option Ground
   spoken_ground = ground_by chosen_entry (lookup s.nv s.vol) r
 
   abbrev standing : Option Bytes
@@ -458,7 +460,7 @@ module _ (s : State) (r : Request) where
       go true h c = record { enabled = h; entries = entries_of s.policy; listed = l; choice = chosen_is (entries_of s.policy) r.variable e c }
       go false h c = absurd (none_some e c)
 
-  asked : (test : Ground → Bool) → test NoGround ≡ false → test spoken_ground ≡ true
+  asked : (test : std.Option Ground → Bool) → test None ≡ false → test spoken_ground ≡ true
       → (e : Bytes) × (chosen_entry ≡ some e) × (test (ground_of e (lookup s.nv s.vol) r) ≡ true)
   asked test f = go chosen_entry refl
     where
@@ -483,7 +485,7 @@ module _ (s : State) (r : Request) where
     set_short : 10 < p → length r.payload ≤ max_payload
     set_short l = let h = tells_off _ (tells_lt max_payload (length r.payload)) (n 3 l) in omega arith
 
-    ground_off : (test : Ground → Bool) → test spoken_ground ≡ false → (e : Bytes) → Enforced s r e → test (ground_of e (lookup s.nv s.vol) r) ≡ false
+    ground_off : (test : std.Option Ground → Bool) → test spoken_ground ≡ false → (e : Bytes) → Enforced s r e → test (ground_of e (lookup s.nv s.vol) r) ≡ false
     ground_off test h e w = subst (λ o. test (ground_by o (lookup s.nv s.vol) r) ≡ false) (enforced_entry e w) h
 
     not_deletion : Not (Deletion r) → is_deletion r.attributes r.payload ≡ false

@@ -1,6 +1,6 @@
 -- The computed report of a set and the one of Effects.antt agree: the computed one is one of them, and there is no other. Assumes nothing.
 use Prim.Native.Nat.{ℕ, zero, suc, ◌+◌, ◌/◌, ◌%◌, ◌≤◌}
-use Rattle.std.specs.Prelude.{◌≡◌, List, Bool, ◌&&◌, cond, length}
+use Rattle.std.specs.Prelude.{◌≡◌, Some, None, List, Bool, ◌&&◌, cond, length}
 use Rattle.std.proofs.Math.Path.{refl, subst, subst⁻¹}
 use Rattle.std.proofs.Common.{sym, ap, ap₂, ◌∙◌, inl, inr}
 use Rattle.std.proofs.Math.Bool.{true, false}
@@ -16,7 +16,7 @@ use Rattle.bits.specs.Bits.{is_set, how_many, least, is_missing, is_prohibited, 
 use Rattle.bits.proofs.BitsLaws.{many_last, least_most, least_under, least_passes}
 use Rattle.status.specs.declared.Status.{Status}
 use Rattle.rules.specs.declared.Ground.{Ground}
-use Rattle.rules.specs.declared.Ground.TheVariants.{NoGround, SizeGround, AttributeGround, LockGround}
+use Rattle.rules.specs.declared.Ground.TheVariants.{SizeGround, AttributeGround, LockGround}
 use Rattle.rules.specs.declared.Decision.{Decision}
 use Rattle.rules.specs.declared.Decision.TheVariants.{Refuse, Block, Delete, Keep, Store}
 use Rattle.rules.specs.declared.Report.{Report}
@@ -119,9 +119,8 @@ module _ (s : State) (r : Request) where
   tells_prohibited : (e : Bytes) (i : ℕ) → Tells (is_prohibited (attributes_cant_have e) r.attributes i) (Prohibited e r i)
   tells_prohibited e i = tells_both _ _ (tells_set i (attributes_cant_have e)) (tells_set i r.attributes)
 
-  spoken_reports : {n : Status} (g : Ground) (w : GroundGiven s r g) (at : ℕ) → FirstAt s (set r) at n → EndsAt g at → Reports s r n (report_for g (place_of entries w.entry) w.entry r.attributes)
+  spoken_reports : {n : Status} (g : Ground) (w : GroundGiven s r g) (at : ℕ) → FirstAt s (set r) at n → EndsAt (Some g) at → Reports s r n (report_for (Some g) (place_of entries w.entry) w.entry r.attributes)
   unfolding report_for missing_bits prohibited_bits lowest_bit
-  spoken_reports NoGround w at f e = silent at f e
   spoken_reports {n} SizeGround w at f e = by_size (subst (λ k. FirstAt s (set r) k n) e f) (speaks SizeGround w)
   spoken_reports {n} AttributeGround w at f e =
       by_attributes (subst (λ k. FirstAt s (set r) k n) e f) (speaks AttributeGround w)
@@ -144,26 +143,26 @@ module _ (s : State) (r : Request) where
 
   -- ---- and the only one
 
-  one_spoken : {n m : Status} (at : ℕ) → FirstAt s (set r) at n → EndsAt NoGround at → (p : ℕ) → 41 ≤ p → p ≤ 43 → FirstAt s (set r) p m → ⊥
+  one_spoken : {n m : Status} (at : ℕ) → FirstAt s (set r) at n → EndsAt None at → (p : ℕ) → 41 ≤ p → p ≤ 43 → FirstAt s (set r) p m → ⊥
   one_spoken {n} {m} at f e p l h g = e (subst⁻¹ (λ k. (41 ≤ k) × (k ≤ 43)) (one_place s (set r) at p n m f g) (l, h))
 
   differ : {n m : Status} (j k : ℕ) → FirstAt s (set r) j n → FirstAt s (set r) k m → (j ≡ k → ⊥) → ⊥
   differ {n} {m} j k f g d = d (one_place s (set r) j k n m f g)
 
-  same_spoken : (g : Ground) {j k m n : ℕ} → Speaks s r j m → Speaks s r k n → report_of g j m 0 0 0 ≡ report_of g k n 0 0 0
-  same_spoken g a b = ap₂ (λ x y. report_of g x y 0 0 0) (one_place_of a b) (one_rank a b)
+  same_spoken : (g : Ground) {j k m n : ℕ} → Speaks s r j m → Speaks s r k n → report_of (Some g) j m 0 0 0 ≡ report_of (Some g) k n 0 0 0
+  same_spoken g a b = ap₂ (λ x y. report_of (Some g) x y 0 0 0) (one_place_of a b) (one_rank a b)
 
   same_attributes : {j k m n x₁ x₂ y₁ y₂ z₁ z₂ : ℕ} (a : Speaks s r j m) (b : Speaks s r k n)
       → Count (Missing a.entry r) 32 x₁ → Count (Prohibited a.entry r) 32 y₁ → Lowest (Offending a.entry r) 32 z₁
       → Count (Missing b.entry r) 32 x₂ → Count (Prohibited b.entry r) 32 y₂ → Lowest (Offending b.entry r) 32 z₂
-      → report_of AttributeGround j m x₁ y₁ z₁ ≡ report_of AttributeGround k n x₂ y₂ z₂
+      → report_of (Some AttributeGround) j m x₁ y₁ z₁ ≡ report_of (Some AttributeGround) k n x₂ y₂ z₂
   same_attributes {k = k} {n = n} {x₁ = x₁} {x₂ = x₂} {y₁ = y₁} {y₂ = y₂} {z₁ = z₁} {z₂ = z₂} a b c d l c' d' l' =
       let e = sym (one_entry a b) in
-      ap₂ (λ x y. report_of AttributeGround x y x₁ y₁ z₁) (one_place_of a b) (one_rank a b)
-      ∙ ap₂ (λ x y. report_of AttributeGround k n x y z₁)
+      ap₂ (λ x y. report_of (Some AttributeGround) x y x₁ y₁ z₁) (one_place_of a b) (one_rank a b)
+      ∙ ap₂ (λ x y. report_of (Some AttributeGround) k n x y z₁)
       (one_count (Missing a.entry r) 32 x₁ x₂ c (subst (λ x. Count (Missing x r) 32 x₂) e c'))
       (one_count (Prohibited a.entry r) 32 y₁ y₂ d (subst (λ x. Count (Prohibited x r) 32 y₂) e d'))
-      ∙ ap (λ z. report_of AttributeGround k n x₂ y₂ z) (one_lowest (Offending a.entry r) 32 z₁ z₂ l (subst (λ x. Lowest (Offending x r) 32 z₂) e l'))
+      ∙ ap (λ z. report_of (Some AttributeGround) k n x₂ y₂ z) (one_lowest (Offending a.entry r) 32 z₁ z₂ l (subst (λ x. Lowest (Offending x r) 32 z₂) e l'))
 
   pub one_report : {n m : Status} (p q : Report) → Reports s r n p → Reports s r m q → p ≡ q
   one_report p q (silent j f e) (silent k g h) = refl

@@ -1,7 +1,7 @@
 -- What stands beside a status, and what a call leaves, said a second time: the answers and the states afterwards, case by case. Which
 -- status it is, `Answers` says; the report of a set goes by where the first ground stands. Engine.antt computes the same (EffectsLaws.antt), so a reader may believe either.
 -- Assumes nothing: these are definitions.
-use Rattle.std.specs.Prelude.{ℕ, suc, ◌≤◌, ◌<◌, ◌≡◌, List, [], ◌∷◌, ◌++◌, Bool, true, false, ◌⊎◌, ◌↔◌, length, drop, replicate}
+use Rattle.std.specs.Prelude.{ℕ, suc, ◌≤◌, ◌<◌, ◌≡◌, Some, None, List, [], ◌∷◌, ◌++◌, Bool, true, false, ◌⊎◌, ◌↔◌, length, drop, replicate}
 use Rattle.std.proofs.Math.Option.{none, some}
 use Rattle.limits.specs.Limits.{policy_bytes, max_links}
 use Rattle.lists.specs.Lists.{Among}
@@ -13,7 +13,7 @@ use Rattle.store.specs.Record.{attributes_of, payload_of, variable_of}
 use Rattle.status.specs.declared.Status.{Status}
 use Rattle.status.specs.declared.Status.TheVariants.{Success, BufferTooSmall}
 use Rattle.switches.specs.declared.Switches.{Switches}
-use Rattle.rules.specs.declared.Ground.TheVariants.{NoGround, SizeGround, AttributeGround, LockGround}
+use Rattle.rules.specs.declared.Ground.TheVariants.{SizeGround, AttributeGround, LockGround}
 use Rattle.rules.specs.declared.Report.{Report}
 use Rattle.rules.specs.Set.{Request}
 use Rattle.rules.specs.Report.{report_of}
@@ -65,12 +65,12 @@ pub record Speaks (s : State) (r : Request) (k rank : ℕ) : Type 0 where
 -- by where the first ground that applies stands in the order of a set: at 41 it is the size, at 42 attributes, at 43 the lock, and elsewhere no
 -- ground of step 4
 pub data Reports (s : State) (r : Request) (n : Status) : Report → Type 0 where
-  silent : (at : ℕ) → FirstAt s (set r) at n → Not ((41 ≤ at) × (at ≤ 43)) → Reports s r n (report_of NoGround 0 0 0 0 0)
-  by_size : {k rank : ℕ} → FirstAt s (set r) 41 n → Speaks s r k rank → Reports s r n (report_of SizeGround k rank 0 0 0)
+  silent : (at : ℕ) → FirstAt s (set r) at n → Not ((41 ≤ at) × (at ≤ 43)) → Reports s r n (report_of None 0 0 0 0 0)
+  by_size : {k rank : ℕ} → FirstAt s (set r) 41 n → Speaks s r k rank → Reports s r n (report_of (Some SizeGround) k rank 0 0 0)
   by_attributes : {k rank missing prohibited lowest : ℕ} → FirstAt s (set r) 42 n → (w : Speaks s r k rank)
       → Count (Missing w.entry r) 32 missing → Count (Prohibited w.entry r) 32 prohibited → Lowest (Offending w.entry r) 32 lowest
-      → Reports s r n (report_of AttributeGround k rank missing prohibited lowest)
-  by_lock : {k rank : ℕ} → FirstAt s (set r) 43 n → Speaks s r k rank → Reports s r n (report_of LockGround k rank 0 0 0)
+      → Reports s r n (report_of (Some AttributeGround) k rank missing prohibited lowest)
+  by_lock : {k rank : ℕ} → FirstAt s (set r) 43 n → Speaks s r k rank → Reports s r n (report_of (Some LockGround) k rank 0 0 0)
 
 -- ---- the answers
 

@@ -1,6 +1,8 @@
 -- Set: its ten steps, in their order (RULES.md, 10.9).
 -- Assumes nothing: these are definitions.
-use Rattle.std.specs.Prelude.{ℕ, ◌%◌, [], ◌∷◌, ◌++◌, Bool, true, false, not, ◌||◌, cond, length, eqb, leb, ltb}
+use Rattle.std.specs.Prelude.{ℕ, ◌%◌, Some, None, [], ◌∷◌, ◌++◌, Bool, true, false, not, ◌||◌, cond, length, eqb, leb, ltb}
+use Rattle.std.specs.Prelude as std
+use Rattle.std.specs.Option.{option_or}
 use Rattle.std.proofs.Math.Option.{Option, none, some}
 use Rattle.std.specs.Int.Bits.{bit_and}
 use Rattle.limits.specs.Limits.{known_attributes, max_payload}
@@ -17,7 +19,7 @@ use Rattle.status.specs.declared.Status.{Status}
 use Rattle.status.specs.declared.Status.TheVariants.{Success, InvalidParameter, Unsupported, WriteProtected, OutOfResources, NotFound}
 use Rattle.status.specs.Status.{is_success}
 use Rattle.rules.specs.declared.Ground.{Ground}
-use Rattle.rules.specs.declared.Ground.TheVariants.{NoGround, SizeGround, AttributeGround, LockGround}
+use Rattle.rules.specs.declared.Ground.TheVariants.{SizeGround, AttributeGround, LockGround}
 use Rattle.rules.specs.declared.Decision.{Decision}
 use Rattle.rules.specs.declared.Decision.TheVariants.{Refuse, Block, Delete, Keep, Store}
 
@@ -110,32 +112,24 @@ size_allowed e n = leb (min_size e) n and leb n (max_size e)
 unfoldable pub attributes_allowed : Bytes → ℕ → Bool
 attributes_allowed e a = eqb (bit_and (attributes_must_have e) a) (attributes_must_have e) and eqb (bit_and (attributes_cant_have e) a) 0
 
--- the first of two grounds
-abbrev pub or_ground : Ground → Ground → Ground
-or_ground NoGround later = later
-or_ground SizeGround later = SizeGround
-or_ground AttributeGround later = AttributeGround
-or_ground LockGround later = LockGround
-
 -- what an entry says against a request that is no deletion, and whose variable would have n bytes: first its size, then its attributes
-unfoldable pub request_ground : Bytes → ℕ → Request → Ground
+unfoldable pub request_ground : Bytes → ℕ → Request → std.Option Ground
 request_ground e n r =
-    cond (is_deletion r.attributes r.payload) NoGround
-    (cond (size_allowed e n) (cond (attributes_allowed e r.attributes) NoGround AttributeGround) SizeGround)
+    cond (is_deletion r.attributes r.payload) None
+    (cond (size_allowed e n) (cond (attributes_allowed e r.attributes) None (Some AttributeGround)) (Some SizeGround))
 
 -- what it says against any request: that, by the length afterwards, and then a lock
-unfoldable pub ground_of : Bytes → Lookup → Request → Ground
+unfoldable pub ground_of : Bytes → Lookup → Request → std.Option Ground
 ground_of e found r =
-    or_ground (request_ground e (length_after (found r.variable) r) r) (cond (locks e found r.variable) LockGround NoGround)
+    option_or (request_ground e (length_after (found r.variable) r) r) (cond (locks e found r.variable) (Some LockGround) None)
 
 -- where no entry speaks there is no ground
-abbrev pub ground_by : Option Bytes → Lookup → Request → Ground
-ground_by none found r = NoGround
+abbrev pub ground_by : Option Bytes → Lookup → Request → std.Option Ground
+ground_by none found r = None
 ground_by (some e) found r = ground_of e found r
 
 -- what a ground answers
 abbrev pub ground_status : Ground → Status
-ground_status NoGround = Success
 ground_status SizeGround = InvalidParameter
 ground_status AttributeGround = InvalidParameter
 ground_status LockGround = WriteProtected
@@ -202,11 +196,9 @@ abbrev pub refuse_or : Status → Decision → Decision
 refuse_or n later = cond (is_success n) later (Refuse n)
 
 -- a ground of step 4, or else the decision behind it
-abbrev pub block_or : Ground → Decision → Decision
-block_or NoGround later = later
-block_or SizeGround later = Block SizeGround
-block_or AttributeGround later = Block AttributeGround
-block_or LockGround later = Block LockGround
+abbrev pub block_or : std.Option Ground → Decision → Decision
+block_or None later = later
+block_or (Some g) later = Block g
 
 -- all steps over sound stores, in their order, before exit or after it;
 -- `speaking` is the chosen entry, none where none is chosen or the engine is disabled

@@ -160,24 +160,24 @@ fn attributes_allowed(must: u32, cant: u32, attributes: u32) -> bool
 }
 
 // Unless the request is a deletion: the size n against MinSize and MaxSize, then the request's attributes against those that the entry requires and prohibits.
-fn request_ground(entry: Entry, n: usize, attributes: u32, payload: &[u8]) -> Ground
+fn request_ground(entry: Entry, n: usize, attributes: u32, payload: &[u8]) -> Option<Ground>
     ensures { (e : Bytes) (v : Variable) → entry ≡ entry_of e
         → result ≡ request_ground e n (record { variable = v; attributes = attributes; payload = payload.now }) }
 {
     if is_deletion(attributes, payload) {
-        return Ground::NoGround;
+        return None;
     }
     if !size_allowed(entry.min_size, entry.max_size, n) {
-        return Ground::SizeGround;
+        return Some(Ground::SizeGround);
     }
     if attributes_allowed(
         entry.attributes_must_have,
         entry.attributes_cant_have,
         attributes,
     ) {
-        return Ground::NoGround;
+        return None;
     }
-    Ground::AttributeGround
+    Some(Ground::AttributeGround)
 }
 
 // Whether a payload is that one byte.
@@ -225,7 +225,7 @@ fn entry_ground<'a>(
     known: Known,
     attributes: u32,
     payload: &[u8],
-) -> Ground
+) -> Option<Ground>
     requires { (known.ends ≡ ends_of nv.now vol.now) × Within nv.now vol.now known.place × (well_formed e.now ≡ true) }
     ensures { (v : Variable) → Located known nv.now vol.now v
         → result ≡ ground_of e.now (lookup nv.now vol.now)
@@ -233,18 +233,11 @@ fn entry_ground<'a>(
 {
     let entry = entry::entry_of(e);
     let n = length_after(nv, vol, known.place, attributes, payload);
-    let by_request = request_ground(entry, n, attributes, payload);
-    match by_request {
-        Ground::NoGround => (),
-        Ground::SizeGround => return Ground::SizeGround,
-        Ground::AttributeGround => return Ground::AttributeGround,
-        Ground::LockGround => return Ground::LockGround,
+    if let Some(ground) = request_ground(entry, n, attributes, payload) {
+        return Some(ground);
     }
     let rule = entry.lock;
-    if locks(e, rule, nv, vol, known) {
-        return Ground::LockGround;
-    }
-    Ground::NoGround
+    locks(e, rule, nv, vol, known).then_some(Ground::LockGround)
 }
 
 // ---- The report of step 4.
@@ -254,7 +247,7 @@ pub fn no_report() -> Report
     ensures { result ≡ no_report }
 {
     Report {
-        ground: Ground::NoGround,
+        ground: None,
         place: 0,
         rank: 0,
         missing: 0,
@@ -265,10 +258,10 @@ pub fn no_report() -> Report
 
 // A ground that names no bits.
 fn entry_report(ground: Ground, place: u32, rank: u32) -> Report
-    ensures { result ≡ report_of ground place rank 0 0 0 }
+    ensures { result ≡ report_of (Some ground) place rank 0 0 0 }
 {
     Report {
-        ground,
+        ground: Some(ground),
         place,
         rank,
         missing: 0,
@@ -280,12 +273,12 @@ fn entry_report(ground: Ground, place: u32, rank: u32) -> Report
 // The attribute ground, with the bits in which the attributes offend.
 fn attribute_report(e: &[u8], place: u32, rank: u32, attributes: u32) -> Report
     requires { rank ≡ rank_of e.now }
-    ensures { result ≡ report_for AttributeGround place e.now attributes }
+    ensures { result ≡ report_for (Some AttributeGround) place e.now attributes }
 {
     let must = slices::le32(e, limits::MUST_HAVE_AT);
     let cant = slices::le32(e, limits::CANT_HAVE_AT);
     Report {
-        ground: Ground::AttributeGround,
+        ground: Some(Ground::AttributeGround),
         place,
         rank,
         missing: bits::missing(must, attributes),
@@ -295,15 +288,15 @@ fn attribute_report(e: &[u8], place: u32, rank: u32, attributes: u32) -> Report
 }
 
 // The report of a ground that the entry e, of that place and rank, gave.
-fn report_for(ground: Ground, place: u32, rank: u32, e: &[u8], attributes: u32) -> Report
+fn report_for(ground: Option<Ground>, place: u32, rank: u32, e: &[u8], attributes: u32) -> Report
     requires { rank ≡ rank_of e.now }
     ensures { result ≡ report_for ground place e.now attributes }
 {
     match ground {
-        Ground::NoGround => no_report(),
-        Ground::SizeGround => entry_report(Ground::SizeGround, place, rank),
-        Ground::AttributeGround => attribute_report(e, place, rank, attributes),
-        Ground::LockGround => entry_report(Ground::LockGround, place, rank),
+        None => no_report(),
+        Some(Ground::SizeGround) => entry_report(Ground::SizeGround, place, rank),
+        Some(Ground::AttributeGround) => attribute_report(e, place, rank, attributes),
+        Some(Ground::LockGround) => entry_report(Ground::LockGround, place, rank),
     }
 }
 
@@ -512,7 +505,7 @@ pub fn decide<'a>(
     );
     let ground = said.ground;
     let decision = match ground {
-        Ground::NoGround => decide_write(
+        None => decide_write(
             switches.exited,
             nv,
             vol,
@@ -522,9 +515,7 @@ pub fn decide<'a>(
             attributes,
             payload,
         ),
-        Ground::SizeGround => Decision::Block(Ground::SizeGround),
-        Ground::AttributeGround => Decision::Block(Ground::AttributeGround),
-        Ground::LockGround => Decision::Block(Ground::LockGround),
+        Some(ground) => Decision::Block(ground),
     };
     Decided {
         decision,
@@ -539,7 +530,6 @@ pub fn status_of(decided: Decision) -> Status
     match decided {
         Decision::Refuse(status) => status,
         Decision::Block(ground) => match ground {
-            Ground::NoGround => Status::Success,
             Ground::SizeGround => Status::InvalidParameter,
             Ground::AttributeGround => Status::InvalidParameter,
             Ground::LockGround => Status::WriteProtected,

@@ -17,7 +17,6 @@ ghost use Rattle.switches.specs.SwitchBytes.{gives_leave, switches_of, bytes_of,
 ghost use Rattle.rules.specs.Engine.{state_of, step};
 ghost use Rattle.rules.specs.Engine.Call.{power_on, restart, register, dump, lock, disable, exit, query, set, settled};
 ghost use Rattle.rules.specs.Set.{request_of};
-ghost use Rattle.rules.specs.Report.{ground_number};
 ghost use Rattle.rules.specs.Phases.{phase_step};
 ghost use Rattle.rules.specs.Phases.PhaseCall.{phase_policy, write_once_policy, lock_variable, end_of_dxe, ready_to_boot, exit_flag};
 ghost use Rattle.engine.specs.Answers.{reading_of};
@@ -27,7 +26,7 @@ ghost use Rattle.varpolicy.specs.Exports.{numbered, status_alone, started_answer
 use engine::{DumpAnswer, QueryAnswer, Reading, SetAnswer, SettledAnswer};
 use quarrels::Verdict;
 use reader::Listing;
-use rules::{Ground, Report};
+use rules::Report;
 use status::Status;
 use switches::{
     SwitchAnswer, SwitchBytes, Switches, bytes_answer, disabled_bytes, exited_bytes, gives_leave,
@@ -349,25 +348,13 @@ pub extern "C" fn varpolicy_read_e10(
     Read::from(reading)
 }
 
-// The number of a ground.
-fn ground_number(ground: Ground) -> u32
-    ensures { result ≡ ground_number ground }
-{
-    match ground {
-        Ground::NoGround => 0,
-        Ground::SizeGround => 1,
-        Ground::AttributeGround => 2,
-        Ground::LockGround => 3,
-    }
-}
-
 // A report in numbers.
 fn numbered_report(report: Report) -> Reported
     ensures { result ≡ reported_of report }
 {
     let ground = report.ground;
     Reported {
-        ground: ground_number(ground),
+        ground: ground.map_or(0, u32::from),
         place: report.place,
         rank: report.rank,
         missing: report.missing,

@@ -1,8 +1,6 @@
-use Rattle.rules.specs.declared.Ground.{Ground}
-use Rattle.rules.specs.declared.Ground.TheVariants.{NoGround, SizeGround, AttributeGround, LockGround}
-use Rattle.rules.specs.declared.Decision.TheVariants.{Refuse, Block}
+use Rattle.rules.specs.declared.Decision.TheVariants.{Refuse}
 use Rattle.rules.proofs.DecisionLaws.{taken_named, blocked_by, write_unblocked, decision_refused, decision_blocked, decision_written}
-use Rattle.rules.specs.Set.{Request, request_of, request_status, ground_status}
+use Rattle.rules.specs.Set.{Request, request_of, request_status}
 use Rattle.policy.specs.Policy.{entries_of}
 use Rattle.slices.specs.Bytes.{Bytes}
 use Rattle.set.specs.Decided.{decided_by}
@@ -34,8 +32,8 @@ decide_write-decision-requires c =
     let taken : is_success (request_status (Lent).exited (Asked)) ≡ true = sym (ap is_success (checked)) ∙ differs_success _ c.if-ne.ensures in
     (c.requires.0, c.requires.1.located, taken_named _ (Asked) (taken))
 
-pub returns-in-NoGround : goal.returns-in-NoGround
-returns-in-NoGround c =
+pub returns-in-None : goal.returns-in-None
+returns-in-None c =
     let Asked : Request = request_of c.args.namespace.now c.args.name.now c.args.attributes c.args.payload.now in
     let Entries : List Bytes = entries_of c.args.policy.now in
     let Lent : Switches = c.args.switches in
@@ -43,15 +41,13 @@ returns-in-NoGround c =
     let Vol : Bytes = c.args.vol.now in
     let checked : c.check_request-by_request.result ≡ request_status (Lent).exited (Asked) = c.check_request-by_request.ensures _ c.requires.1.located.namespace in
     let taken : is_success (request_status (Lent).exited (Asked)) ≡ true = sym (ap is_success (checked)) ∙ differs_success _ c.if-ne.ensures in
-    let speaks : (g : Ground) → c.report-said.result.ground ≡ g
-    → spoken_ground (Entries) (Lent) (NV) (Vol) (Asked) ≡ g = λ g e. sym (ground_in (Entries) (Lent) (NV) (Vol) (Asked) c.report-said.ensures) ∙ e in
-    let q = speaks NoGround c.in-NoGround.is in
+    let q = sym (ground_in (Entries) (Lent) (NV) (Vol) (Asked) c.report-said.ensures) ∙ c.in-None.is in
     decided_silent (Entries) (Lent) (NV) (Vol) (Asked) _
     (ap (λ p. record { decision = c.decide_write-decision.result; report = p }) (silent_report (Entries) (Lent) (NV) (Vol) (Asked) c.report-said.ensures q))
     (c.decide_write-decision.ensures ∙ sym (decision_written _ _ _ _ _ (taken) q)) (ap blocked_by c.decide_write-decision.ensures ∙ write_unblocked _ (NV) (Vol) _ (Asked))
 
-pub returns-in-SizeGround : goal.returns-in-SizeGround
-returns-in-SizeGround c =
+pub returns-in-Some : goal.returns-in-Some
+returns-in-Some c =
     let Asked : Request = request_of c.args.namespace.now c.args.name.now c.args.attributes c.args.payload.now in
     let Entries : List Bytes = entries_of c.args.policy.now in
     let Lent : Switches = c.args.switches in
@@ -59,38 +55,5 @@ returns-in-SizeGround c =
     let Vol : Bytes = c.args.vol.now in
     let checked : c.check_request-by_request.result ≡ request_status (Lent).exited (Asked) = c.check_request-by_request.ensures _ c.requires.1.located.namespace in
     let taken : is_success (request_status (Lent).exited (Asked)) ≡ true = sym (ap is_success (checked)) ∙ differs_success _ c.if-ne.ensures in
-    let speaks : (g : Ground) → c.report-said.result.ground ≡ g
-    → spoken_ground (Entries) (Lent) (NV) (Vol) (Asked) ≡ g = λ g e. sym (ground_in (Entries) (Lent) (NV) (Vol) (Asked) c.report-said.ensures) ∙ e in
-    let blocked : (g : Ground) → c.report-said.result.ground ≡ g → is_success (ground_status g) ≡ false
-    → record { decision = Block g; report = c.report-said.result } ≡ decided_by (Entries) (Lent) (NV) (Vol) (Asked) = λ g e b. decided_blocked (Entries) (Lent) (NV) (Vol) (Asked) g (decision_blocked _ _ _ _ _ g (taken) (speaks g e) b) c.report-said.ensures (speaks g e) in
-    blocked SizeGround c.in-SizeGround.is refl
-
-pub returns-in-AttributeGround : goal.returns-in-AttributeGround
-returns-in-AttributeGround c =
-    let Asked : Request = request_of c.args.namespace.now c.args.name.now c.args.attributes c.args.payload.now in
-    let Entries : List Bytes = entries_of c.args.policy.now in
-    let Lent : Switches = c.args.switches in
-    let NV : Bytes = c.args.nv.now in
-    let Vol : Bytes = c.args.vol.now in
-    let checked : c.check_request-by_request.result ≡ request_status (Lent).exited (Asked) = c.check_request-by_request.ensures _ c.requires.1.located.namespace in
-    let taken : is_success (request_status (Lent).exited (Asked)) ≡ true = sym (ap is_success (checked)) ∙ differs_success _ c.if-ne.ensures in
-    let speaks : (g : Ground) → c.report-said.result.ground ≡ g
-    → spoken_ground (Entries) (Lent) (NV) (Vol) (Asked) ≡ g = λ g e. sym (ground_in (Entries) (Lent) (NV) (Vol) (Asked) c.report-said.ensures) ∙ e in
-    let blocked : (g : Ground) → c.report-said.result.ground ≡ g → is_success (ground_status g) ≡ false
-    → record { decision = Block g; report = c.report-said.result } ≡ decided_by (Entries) (Lent) (NV) (Vol) (Asked) = λ g e b. decided_blocked (Entries) (Lent) (NV) (Vol) (Asked) g (decision_blocked _ _ _ _ _ g (taken) (speaks g e) b) c.report-said.ensures (speaks g e) in
-    blocked AttributeGround c.in-AttributeGround.is refl
-
-pub returns-in-LockGround : goal.returns-in-LockGround
-returns-in-LockGround c =
-    let Asked : Request = request_of c.args.namespace.now c.args.name.now c.args.attributes c.args.payload.now in
-    let Entries : List Bytes = entries_of c.args.policy.now in
-    let Lent : Switches = c.args.switches in
-    let NV : Bytes = c.args.nv.now in
-    let Vol : Bytes = c.args.vol.now in
-    let checked : c.check_request-by_request.result ≡ request_status (Lent).exited (Asked) = c.check_request-by_request.ensures _ c.requires.1.located.namespace in
-    let taken : is_success (request_status (Lent).exited (Asked)) ≡ true = sym (ap is_success (checked)) ∙ differs_success _ c.if-ne.ensures in
-    let speaks : (g : Ground) → c.report-said.result.ground ≡ g
-    → spoken_ground (Entries) (Lent) (NV) (Vol) (Asked) ≡ g = λ g e. sym (ground_in (Entries) (Lent) (NV) (Vol) (Asked) c.report-said.ensures) ∙ e in
-    let blocked : (g : Ground) → c.report-said.result.ground ≡ g → is_success (ground_status g) ≡ false
-    → record { decision = Block g; report = c.report-said.result } ≡ decided_by (Entries) (Lent) (NV) (Vol) (Asked) = λ g e b. decided_blocked (Entries) (Lent) (NV) (Vol) (Asked) g (decision_blocked _ _ _ _ _ g (taken) (speaks g e) b) c.report-said.ensures (speaks g e) in
-    blocked LockGround c.in-LockGround.is refl
+    let q = sym (ground_in (Entries) (Lent) (NV) (Vol) (Asked) c.report-said.ensures) ∙ c.in-Some.is in
+    decided_blocked (Entries) (Lent) (NV) (Vol) (Asked) c.in-Some.ground (decision_blocked _ _ _ _ _ c.in-Some.ground (taken) q) c.report-said.ensures q

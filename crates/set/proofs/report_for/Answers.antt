@@ -1,11 +1,15 @@
-use Rattle.set.proofs.Reports.{none_reported, size_reported, lock_reported}
+use Rattle.std.proofs.Common.{rules}
+use Rattle.rules.specs.Report.{report_for}
 use Rattle.set.proofs.report_for.Goals as goal
 
-pub returns-in-NoGround : goal.returns-in-NoGround
-returns-in-NoGround c = none_reported _ _ _ c.no_report.ensures c.in-NoGround.is
+pub returns-in-None : goal.returns-in-None
+unfolding report_for
+returns-in-None c = search rules
 
-pub returns-in-SizeGround : goal.returns-in-SizeGround
-returns-in-SizeGround c = size_reported _ _ _ c.entry_report.ensures c.requires c.in-SizeGround.is
+pub returns-in-Some-SizeGround : goal.returns-in-Some-SizeGround
+unfolding report_for
+returns-in-Some-SizeGround c = search rules
 
-pub returns-in-LockGround : goal.returns-in-LockGround
-returns-in-LockGround c = lock_reported _ _ _ c.entry_report-in-LockGround.ensures c.requires c.in-LockGround.is
+pub returns-in-Some-LockGround : goal.returns-in-Some-LockGround
+unfolding report_for
+returns-in-Some-LockGround c = search rules
