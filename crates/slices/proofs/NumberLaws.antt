@@ -2,6 +2,7 @@
 use Rattle.std.specs.Prelude.{ℕ, ◌+◌, ◌*◌, ◌/◌, ◌%◌, ◌≤◌, ◌<◌, ◌≡◌, [], ◌∷◌, ◌++◌, length, get_or, take, drop}
 use Rattle.std.proofs.Common.{sym, ◌∙◌, get_or-take, get_or-drop}
 use native.Mathlib.Omega.{arith}
+use native.Mathlib.Nat.{add-zero}
 use Rattle.std.proofs.Math.Nat.{div-div-eq-div-mul, mod-eq_of_lt, div-eq_of_lt, div-add-mod, add-mul-mod_self_left, add-mul-div_left}
 use Rattle.std.proofs.Math.ListN.{get_or-eq_default}
 use Rattle.slices.proofs.PartLaws.{drop_step}
@@ -41,11 +42,24 @@ le32_drop n s at =
     let k : n + (at + 2) ≡ n + at + 2 = omega arith in
     simp (le16_drop, k)
 
+pub le16_rest : (s : Bytes) (at : ℕ) → le16 (drop at s) 0 ≡ le16 s at
+le16_rest s at = le16_drop at s 0 ∙ rw add-zero
+
+pub le32_rest : (s : Bytes) (at : ℕ) → le32 (drop at s) 0 ≡ le32 s at
+le32_rest s at = le32_drop at s 0 ∙ rw add-zero
+
 pub le64_drop : (n : ℕ) (s : Bytes) (at : ℕ) → le64 (drop n s) at ≡ le64 s (n + at)
 unfolding le64
 le64_drop n s at =
     let k : n + (at + 4) ≡ n + at + 4 = omega arith in
     simp (le32_drop, k)
+
+-- the four bytes as `from_le_bytes` adds them up
+pub le32_four : (s : Bytes) (at : ℕ) → le32 s at ≡ get_or s at 0 + get_or s (at + 1) 0 * 256 + get_or s (at + 2) 0 * 65536 + get_or s (at + 3) 0 * 16777216
+unfolding le32 le16
+le32_four s at =
+    let k : at + 2 + 1 ≡ at + 3 = omega arith in
+    rw k (omega arith)
 
 -- from bytes to a number and back
 pub le16_bytes_lem : (n : ℕ) (l : Bytes) → n < 65536 → le16 (le16_bytes n ++ l) 0 ≡ n
@@ -96,15 +110,9 @@ module _ (s : Bytes) (at : ℕ) (small : (i : ℕ) → get_or s i 0 < 256) where
         drop_step s (at + 1) (omega arith),
       )
 
-  number : le32 s at ≡ get_or s at 0 + 256 * (get_or s (at + 1) 0 + 256 * (get_or s (at + 2) 0 + 256 * get_or s (at + 3) 0))
-  unfolding le32 le16
-  number =
-      let b₃ : at + 2 + 1 ≡ at + 3 = omega arith in
-      rw b₃ (omega arith)
-
   pub bytes_le32 : at + 4 ≤ length s → le32_bytes (le32 s at) ≡ take 4 (drop at s)
   bytes_le32 h =
       let b₂ : at + 1 + 1 ≡ at + 2 = omega arith in
       let b₃ : at + 2 + 1 ≡ at + 3 = omega arith in
-      four (get_or s at 0) (get_or s (at + 1) 0) (get_or s (at + 2) 0) (get_or s (at + 3) 0) (le32 s at) (small at) (small (at + 1)) (small (at + 2)) (small (at + 3)) number
+      four (get_or s at 0) (get_or s (at + 1) 0) (get_or s (at + 2) 0) (get_or s (at + 3) 0) (le32 s at) (small at) (small (at + 1)) (small (at + 2)) (small (at + 3)) (le32_four s at ∙ omega arith)
       ∙ rw (drop_step s at (omega arith), drop_step s (at + 1) (omega arith), b₂, drop_step s (at + 2) (omega arith), b₃, drop_step s (at + 3) (omega arith))
