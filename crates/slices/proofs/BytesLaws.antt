@@ -9,7 +9,6 @@ use Rattle.std.proofs.Math.ListN.{drop_of_length-le}
 use Rattle.std.proofs.Math.Seq.{drop-cons}
 use Rattle.std.proofs.Math.Dec.{eqb}
 use Rattle.std.specs.List.{list_all, fold}
-use Rattle.std.specs.Cmp.Lexicographic.{pointwise}
 use Rattle.slices.specs.Test.{◌and◌}
 use Rattle.slices.proofs.TestLaws.{and_left, and_right, and_intro, and_no, and_yes, and_assoc, and_eager, forced_off}
 use Rattle.slices.specs.Bytes.{Bytes, pairwise, same, all_are}
@@ -110,14 +109,6 @@ same_sym [] [] = refl
 same_sym [] (b ∷ m) = refl
 same_sym (a ∷ l) [] = refl
 same_sym (a ∷ l) (b ∷ m) = ap₂ ◌and◌ (eqb_sym a b) (same_sym l m)
-
--- as std's `==` of slices computes it
-pub same-pointwise : (l m : Bytes) → pointwise eqb l m ≡ same l m
-unfolding pairwise
-same-pointwise [] [] = refl
-same-pointwise [] (b ∷ m) = refl
-same-pointwise (a ∷ l) [] = refl
-same-pointwise (a ∷ l) (b ∷ m) = and_eager (eqb a b) (pointwise eqb l m) ∙ ap (eqb a b and◌) (same-pointwise l m)
 
 -- ---- every byte is v
 pub all_are-step : (v : ℕ) (l : Bytes) (i : ℕ) → i < length l → all_are v (drop i l) ≡ (eqb (get_or l i 0) v and all_are v (drop (i + 1) l))

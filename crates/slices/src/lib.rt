@@ -99,12 +99,12 @@ pub fn few_are(s: &[u8], v: u8) -> bool
     s.iter().all(|b| *b == v)
 }
 
-// Whether the eight bytes from index i on are the same in both. No exit before the end: it is compiled to one compare of words.
+// Whether the eight bytes from index i on are the same in both: one compare of words.
 pub fn eight(a: &[u8], b: &[u8], i: usize) -> bool
     requires { (i + 8 ≤ length a.now) × (i + 8 ≤ length b.now) }
     ensures { result ≡ same (take 8 (drop i a.now)) (take 8 (drop i b.now)) }
 {
-    a[i..i + 8] == b[i..i + 8]
+    get64(a, i) == get64(b, i)
 }
 
 // A hash and a number more.

@@ -1,10 +1,9 @@
-use mathlib.Core.Path.{◌∙◌}
-use native.Mathlib.Nat.{add-sub_cancel_left}
-use lib.ListN.{take, drop}
-use Rattle.slices.proofs.BytesLaws.{same-pointwise}
+use native.Mathlib.Omega.{arith}
+use Rattle.slices.proofs.NumberLaws.{eight_told}
 use Rattle.slices.proofs.eight.Goals as goal
 
 pub returns : goal.returns
 returns c =
     let a = c.args in
-    rw add-sub_cancel_left at c.eq.ensures ∙ same-pointwise (take 8 (drop a.i a.a.now)) (take 8 (drop a.i a.b.now))
+    rw (c.get64.ensures, c.get64-2.ensures)
+    (eight_told a.a.now a.b.now a.i c.requires.0 c.requires.1 (λ j. omega (arith, c.type_inv.a j)) (λ j. omega (arith, c.type_inv.b j)))
