@@ -1,11 +1,15 @@
 -- Laws of little-endian numbers. Assumes nothing.
 use Rattle.std.specs.Prelude.{ℕ, ◌+◌, ◌*◌, ◌/◌, ◌%◌, ◌≤◌, ◌<◌, ◌≡◌, [], ◌∷◌, ◌++◌, length, get_or, take, drop}
-use Rattle.std.proofs.Common.{sym, ◌∙◌, get_or-take, get_or-drop}
+use Rattle.std.proofs.Common.{refl, sym, ap, ◌∙◌, Bool, true, false, eqb, get_or-take, get_or-drop, drop-drop, eq-eqb, ne_eqb}
+use Rattle.std.proofs.lemmas.Bool.{false≢true}
+use lib.Seq.{take-add}
 use native.Mathlib.Omega.{arith}
+use native.Mathlib.Nat.{add-zero}
 use Rattle.std.proofs.Math.Nat.{div-div-eq-div-mul, mod-eq_of_lt, div-eq_of_lt, div-add-mod, add-mul-mod_self_left, add-mul-div_left}
 use Rattle.std.proofs.Math.ListN.{get_or-eq_default}
 use Rattle.slices.proofs.PartLaws.{drop_step}
-use Rattle.slices.specs.Bytes.{Bytes, le16, le32, le64, le16_bytes, le32_bytes}
+use Rattle.slices.specs.Bytes.{Bytes, le16, le32, le64, le16_bytes, le32_bytes, same}
+use Rattle.slices.proofs.BytesLaws.{same_eq, same_of}
 
 pub le16_past : (s : Bytes) (at : ℕ) → length s ≤ at → le16 s at ≡ 0
 unfolding le16
@@ -41,11 +45,24 @@ le32_drop n s at =
     let k : n + (at + 2) ≡ n + at + 2 = omega arith in
     simp (le16_drop, k)
 
+pub le16_rest : (s : Bytes) (at : ℕ) → le16 (drop at s) 0 ≡ le16 s at
+le16_rest s at = le16_drop at s 0 ∙ rw add-zero
+
+pub le32_rest : (s : Bytes) (at : ℕ) → le32 (drop at s) 0 ≡ le32 s at
+le32_rest s at = le32_drop at s 0 ∙ rw add-zero
+
 pub le64_drop : (n : ℕ) (s : Bytes) (at : ℕ) → le64 (drop n s) at ≡ le64 s (n + at)
 unfolding le64
 le64_drop n s at =
     let k : n + (at + 4) ≡ n + at + 4 = omega arith in
     simp (le32_drop, k)
+
+-- the four bytes as `from_le_bytes` adds them up
+pub le32_four : (s : Bytes) (at : ℕ) → le32 s at ≡ get_or s at 0 + get_or s (at + 1) 0 * 256 + get_or s (at + 2) 0 * 65536 + get_or s (at + 3) 0 * 16777216
+unfolding le32 le16
+le32_four s at =
+    let k : at + 2 + 1 ≡ at + 3 = omega arith in
+    rw k (omega arith)
 
 -- from bytes to a number and back
 pub le16_bytes_lem : (n : ℕ) (l : Bytes) → n < 65536 → le16 (le16_bytes n ++ l) 0 ≡ n
@@ -96,15 +113,39 @@ module _ (s : Bytes) (at : ℕ) (small : (i : ℕ) → get_or s i 0 < 256) where
         drop_step s (at + 1) (omega arith),
       )
 
-  number : le32 s at ≡ get_or s at 0 + 256 * (get_or s (at + 1) 0 + 256 * (get_or s (at + 2) 0 + 256 * get_or s (at + 3) 0))
-  unfolding le32 le16
-  number =
-      let b₃ : at + 2 + 1 ≡ at + 3 = omega arith in
-      rw b₃ (omega arith)
-
   pub bytes_le32 : at + 4 ≤ length s → le32_bytes (le32 s at) ≡ take 4 (drop at s)
   bytes_le32 h =
       let b₂ : at + 1 + 1 ≡ at + 2 = omega arith in
       let b₃ : at + 2 + 1 ≡ at + 3 = omega arith in
-      four (get_or s at 0) (get_or s (at + 1) 0) (get_or s (at + 2) 0) (get_or s (at + 3) 0) (le32 s at) (small at) (small (at + 1)) (small (at + 2)) (small (at + 3)) number
+      four (get_or s at 0) (get_or s (at + 1) 0) (get_or s (at + 2) 0) (get_or s (at + 3) 0) (le32 s at) (small at) (small (at + 1)) (small (at + 2)) (small (at + 3)) (le32_four s at ∙ omega arith)
       ∙ rw (drop_step s at (omega arith), drop_step s (at + 1) (omega arith), b₂, drop_step s (at + 2) (omega arith), b₃, drop_step s (at + 3) (omega arith))
+
+  le32_small : le32 s at < 4294967296
+  le32_small = let a = small at in let b = small (at + 1) in let c = small (at + 2) in let d = small (at + 3) in omega (arith, le32_four s at)
+
+-- the eight bytes from a place on are the same where their numbers are
+module _ (s t : Bytes) (i : ℕ) (h : i + 8 ≤ length s) (k : i + 8 ≤ length t) (small : (j : ℕ) → get_or s j 0 < 256) (small₁ : (j : ℕ) → get_or t j 0 < 256) where
+  four_same : (at : ℕ) → at + 4 ≤ length s → at + 4 ≤ length t → le32 s at ≡ le32 t at → take 4 (drop at s) ≡ take 4 (drop at t)
+  four_same at a b e = sym (bytes_le32 s at small a) ∙ ap le32_bytes e ∙ bytes_le32 t at small₁ b
+
+  eight_fours : (l : Bytes) → take 8 (drop i l) ≡ take 4 (drop i l) ++ take 4 (drop (i + 4) l)
+  eight_fours l = take-add 4 4 (drop i l) ∙ rw drop-drop
+
+  eight_same : le64 s i ≡ le64 t i → take 8 (drop i s) ≡ take 8 (drop i t)
+  unfolding le64
+  eight_same e =
+      let a = le32_small s i small in
+      let b = le32_small t i small₁ in
+      let low : le32 s i ≡ le32 t i = omega arith in
+      let high : le32 s (i + 4) ≡ le32 t (i + 4) = omega arith in
+      eight_fours s ∙ rw (four_same i (omega arith) (omega arith) low, four_same (i + 4) (omega arith) (omega arith) high) (sym (eight_fours t))
+
+  number_eight : (l : Bytes) → le64 (take 8 (drop i l)) 0 ≡ le64 l i
+  number_eight l = le64_take 8 (drop i l) 0 (omega arith) ∙ le64_drop i l 0 ∙ rw add-zero
+
+  pub eight_told : eqb (le64 s i) (le64 t i) ≡ same (take 8 (drop i s)) (take 8 (drop i t))
+  eight_told = go (same (take 8 (drop i s)) (take 8 (drop i t))) refl
+    where
+      go : (b : Bool) → same (take 8 (drop i s)) (take 8 (drop i t)) ≡ b → eqb (le64 s i) (le64 t i) ≡ b
+      go true e = eq-eqb (le64 s i) (le64 t i) (sym (number_eight s) ∙ ap (λ l. le64 l 0) (same_eq _ _ e) ∙ number_eight t)
+      go false e = ne_eqb (le64 s i) (le64 t i) (λ q. false≢true (sym e ∙ same_of _ _ (eight_same q)))

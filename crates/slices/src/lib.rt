@@ -3,37 +3,36 @@
 
 ghost use Rattle.std.specs.Prelude.{◌≡◌, ◌+◌, ◌≤◌, ◌<◌, length, get_or, take, drop, replicate};
 ghost use Rattle.slices.specs.Bytes.{le16, le32, le64, le16_bytes, part, all_are, same, overwrite};
-ghost use Rattle.slices.specs.Hash.{hash_from};
+ghost use Rattle.slices.specs.Hash.{mixed, hash_from};
 
 // The byte at a place, and 0 past the end.
 pub fn byte(s: &[u8], at: usize) -> u8
     ensures { result ≡ get_or s.now at 0 }
 {
-    if at < s.len() { s[at] } else { 0 }
+    s.get(at).copied().unwrap_or(0)
+}
+
+// The bytes from a place on, and none past the end.
+fn rest(s: &[u8], at: usize) -> &[u8]
+    ensures { result.now ≡ drop at s.now }
+{
+    s.get(at..).unwrap_or(&[])
 }
 
 // The number of the two bytes from a place on, a byte past the end counting as 0.
 pub fn le16(s: &[u8], at: usize) -> u16
     ensures { result ≡ le16 s.now at }
 {
-    if s.len() <= at {
-        return 0;
-    }
-    let lo = byte(s, at) as u16;
-    let hi = byte(s, at + 1) as u16;
-    lo + 256 * hi
+    let s = rest(s, at);
+    u16::from_le_bytes([byte(s, 0), byte(s, 1)])
 }
 
 // The number of the four bytes from a place on, a byte past the end counting as 0.
 pub fn le32(s: &[u8], at: usize) -> u32
     ensures { result ≡ le32 s.now at }
 {
-    if s.len() <= at {
-        return 0;
-    }
-    let lo = le16(s, at) as u32;
-    let hi = le16(s, at + 2) as u32;
-    lo + 65536 * hi
+    let s = rest(s, at);
+    u32::from_le_bytes([byte(s, 0), byte(s, 1), byte(s, 2), byte(s, 3)])
 }
 
 // The bytes from a up to e, as far as there are any.
@@ -52,20 +51,13 @@ pub fn part(s: &[u8], a: usize, e: usize) -> &[u8]
     &s[a..e]
 }
 
-fn wide(x: u8) -> usize
-    ensures value { result ≡ x }
-    ensures upper_bound { result < 256 }
-{
-    x as usize
-}
-
 // The same numbers, where the bytes are known to be there.
 pub fn get16(s: &[u8], at: usize) -> usize
     requires { at + 2 ≤ length s.now }
     ensures is { result ≡ le16 s.now at }
     ensures bound { result < 65536 }
 {
-    wide(s[at]) + 256 * wide(s[at + 1])
+    usize::from(u16::from_le_bytes([s[at], s[at + 1]]))
 }
 
 pub fn get32(s: &[u8], at: usize) -> usize
@@ -73,7 +65,7 @@ pub fn get32(s: &[u8], at: usize) -> usize
     ensures is { result ≡ le32 s.now at }
     ensures bound { result < 4294967296 }
 {
-    get16(s, at) + 65536 * get16(s, at + 2)
+    u32::from_le_bytes([s[at], s[at + 1], s[at + 2], s[at + 3]]) as usize
 }
 
 pub fn get64(s: &[u8], at: usize) -> usize
@@ -88,65 +80,62 @@ pub fn put16(s: &mut [u8], at: usize, n: usize)
     requires { at + 2 ≤ length s.old }
     ensures { s.new ≡ overwrite s.old at (le16_bytes n) }
 {
-    s[at] = (n % 256) as u8;
-    s[at + 1] = (n / 256 % 256) as u8;
+    let [low, high] = ((n % 65536) as u16).to_le_bytes();
+    s[at] = low;
+    s[at + 1] = high;
 }
 
 // Whether every byte is v. No exit before the end, so that the loop is compiled to wide compares.
 pub fn all_are(s: &[u8], v: u8) -> bool
     ensures { result ≡ all_are v s.now }
 {
-    let mut ok = true;
-    let mut i = 0;
-    while i < s.len() {
-        ok = ok & (s[i] == v);
-        i += 1;
-    }
-    ok
+    s.iter().fold(true, |ok, b| ok & (*b == v))
 }
 
 // The same, left at the first other byte: for a few bytes.
 pub fn few_are(s: &[u8], v: u8) -> bool
     ensures { result ≡ all_are v s.now }
 {
-    let mut i = 0;
-    while i < s.len() {
-        if s[i] != v {
-            return false;
-        }
-        i += 1;
-    }
-    true
+    s.iter().all(|b| *b == v)
 }
 
-// Whether the eight bytes from index i on are the same in both. No exit before the end: it is compiled to one compare of words.
+// Whether the eight bytes from index i on are the same in both: one compare of words.
 pub fn eight(a: &[u8], b: &[u8], i: usize) -> bool
     requires { (i + 8 ≤ length a.now) × (i + 8 ≤ length b.now) }
     ensures { result ≡ same (take 8 (drop i a.now)) (take 8 (drop i b.now)) }
 {
-    let mut ok = true;
-    let mut j = 0;
-    while j < 8 {
-        ok = ok & (a[i + j] == b[i + j]);
-        j += 1;
+    get64(a, i) == get64(b, i)
+}
+
+// A hash and a number more.
+fn mixed(h: usize, n: usize) -> usize
+    requires { n < 4294967296 }
+    ensures { result ≡ mixed h n }
+{
+    h % 4294967296 * 2654435761 + n
+}
+
+// A hash of h and fewer than four bytes: the first two of them count.
+fn few_mixed(h: usize, s: &[u8]) -> usize
+    requires { length s.now < 4 }
+    ensures { result ≡ hash_from h s.now }
+{
+    if 2 <= s.len() {
+        mixed(h, get16(s, 0))
+    } else {
+        h
     }
-    ok
 }
 
 // A hash of h0 and the bytes of s, four at a time.
 pub fn hash(h0: usize, s: &[u8]) -> usize
     ensures { result ≡ hash_from h0 s.now }
 {
-    let mut h = h0;
-    let mut i = 0;
-    while 4 <= s.len() - i {
-        h = h % 4294967296 * 2654435761 + get32(s, i);
-        i += 4;
-    }
-    if 2 <= s.len() - i {
-        h = h % 4294967296 * 2654435761 + get16(s, i);
-    }
-    h
+    let (fours, rest) = s.as_chunks::<4>();
+    let h = fours
+        .iter()
+        .fold(h0, |h, four| mixed(h, u32::from_le_bytes(*four) as usize));
+    few_mixed(h, rest)
 }
 
 // Sets the n bytes from index at on to v.
@@ -154,34 +143,7 @@ pub fn fill(s: &mut [u8], at: usize, n: usize, v: u8)
     requires { at + n ≤ length s.old }
     ensures { s.new ≡ overwrite s.old at (replicate n v) }
 {
-    let mut i = 0;
-    while i < n {
-        s[at + i] = v;
-        i += 1;
-    }
-}
-
-// Copies all of src into s from index at on, byte by byte.
-fn copy_few(s: &mut [u8], at: usize, src: &[u8])
-    requires { at + length src.now ≤ length s.old }
-    ensures { s.new ≡ overwrite s.old at src.now }
-{
-    let mut i = 0;
-    while i < src.len() {
-        s[at + i] = src[i];
-        i += 1;
-    }
-}
-
-// Copies at most 128 bytes: all are read before one is written. A copy of 128 is compiled to eight wide loads and stores.
-fn copy_block(s: &mut [u8], at: usize, src: &[u8])
-    requires { (length src.now ≤ 128) × (at + length src.now ≤ length s.old) }
-    ensures { s.new ≡ overwrite s.old at src.now }
-{
-    let n = src.len();
-    let mut block = [0u8; 128];
-    copy_few(&mut block, 0, src);
-    copy_few(s, at, &block[..n]);
+    s[at..at + n].fill(v);
 }
 
 // Copies all of src into s from index at on.
@@ -189,47 +151,29 @@ pub fn copy_in(s: &mut [u8], at: usize, src: &[u8])
     requires { at + length src.now ≤ length s.old }
     ensures { s.new ≡ overwrite s.old at src.now }
 {
-    let mut i = 0;
-    while 128 <= src.len() - i {
-        copy_block(s, at + i, &src[i..i + 128]);
-        i += 128;
-    }
-    copy_block(s, at + i, &src[i..]);
+    s[at..at + src.len()].copy_from_slice(src);
 }
 
-// Moves n bytes, at most 128, from index from to index to, whatever the overlap: all are read before one is written.
-// A move of 128 is compiled to eight wide loads and stores.
-fn move_block(s: &mut [u8], from: usize, to: usize, n: usize)
-    requires { (n ≤ 128) × (from + n ≤ length s.old) × (to + n ≤ length s.old) }
+// Moves n bytes from index from to index to, whatever the overlap.
+fn move_bytes(s: &mut [u8], from: usize, to: usize, n: usize)
+    requires { (from + n ≤ length s.old) × (to + n ≤ length s.old) }
     ensures { s.new ≡ overwrite s.old to (take n (drop from s.old)) }
 {
-    let mut block = [0u8; 128];
-    copy_few(&mut block, 0, &s[from..from + n]);
-    copy_few(s, to, &block[..n]);
+    s.copy_within(from..from + n, to);
 }
 
-// Moves n bytes from index from down to index to, the first ones first.
+// Moves n bytes from index from down to index to.
 pub fn move_down(s: &mut [u8], from: usize, to: usize, n: usize)
     requires { (to ≤ from) × (from + n ≤ length s.old) }
     ensures { s.new ≡ overwrite s.old to (take n (drop from s.old)) }
 {
-    let mut i = 0;
-    while 128 <= n - i {
-        move_block(s, from + i, to + i, 128);
-        i += 128;
-    }
-    move_block(s, from + i, to + i, n - i);
+    move_bytes(s, from, to, n);
 }
 
-// Moves n bytes from index from up to index to, the last ones first.
+// Moves n bytes from index from up to index to.
 pub fn move_up(s: &mut [u8], from: usize, to: usize, n: usize)
     requires { (from ≤ to) × (to + n ≤ length s.old) }
     ensures { s.new ≡ overwrite s.old to (take n (drop from s.old)) }
 {
-    let mut i = n;
-    while 128 <= i {
-        i -= 128;
-        move_block(s, from + i, to + i, 128);
-    }
-    move_block(s, from, to, i);
+    move_bytes(s, from, to, n);
 }

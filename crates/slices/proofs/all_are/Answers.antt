@@ -1,18 +1,16 @@
-use mathlib.Core.Path.{refl, sym, ◌∙◌}
-use native.Mathlib.Omega.{arith}
+use mathlib.Core.Path.{◌∙◌}
+use mathlib.Core.Bool.{true, ◌&&◌}
+use lib.Dec.{eqb}
+use Rattle.std.proofs.Common.{rules, tests}
+use Rattle.std.proofs.lemmas.Iterator.{YieldsList-from_slice}
+use Rattle.std.proofs.lemmas.Iterator.Consumers.{fold_from_yields_List}
 use Rattle.slices.specs.Test.{◌and◌}
-use Rattle.slices.proofs.TestLaws.{and_yes}
-use Rattle.slices.proofs.BytesLaws.{all_are-end, all_are-more}
+use Rattle.slices.proofs.BytesLaws.{all_are-fold}
 use Rattle.slices.proofs.all_are.Goals as goal
 
-pub loop-i-init : goal.loop-i-init
-unfolding ◌and◌
-loop-i-init c = (omega arith, refl)
-
-pub loop-i-preserved : goal.loop-i-preserved
-loop-i-preserved c =
-    let l = c in
-    (omega arith, all_are-more l.loop-i.ok _ _ _ c.loop-i-test.true l.loop-i.invariant.1)
-
 pub returns : goal.returns
-returns c = sym (c.loop-i.invariant.1 ∙ rw (all_are-end _ _ _ c.loop-i-test.false) (and_yes _))
+unfolding ◌and◌
+returns c =
+    let a = c.args in
+    fold_from_yields_List _ (λ ok b. ok && eqb b a.v) true _ c.fold.ensures.ran (YieldsList-from_slice a.s.now cc) (λ ok x b q k. search (rules, tests))
+    ∙ all_are-fold true a.v a.s.now

@@ -1,21 +1,13 @@
-use mathlib.Core.Path.{sym, ◌∙◌}
-use native.Mathlib.Omega.{arith}
-use borrow.Author.Tests.{eq-eqb, ne_eqb}
-use Rattle.slices.specs.Test.{◌and◌}
-use Rattle.slices.proofs.BytesLaws.{all_are-step, all_are-end}
+use mathlib.Core.Path.{◌∙◌}
+use lib.Dec.{eqb}
+use Rattle.std.proofs.Common.{rules, tests}
+use Rattle.std.proofs.lemmas.Iterator.{YieldsList-from_slice}
+use Rattle.std.proofs.lemmas.Iterator.Search.{all_from_yields_List}
+use Rattle.slices.proofs.BytesLaws.{all_are-all}
 use Rattle.slices.proofs.few_are.Goals as goal
 
-pub returns-then-s-i : goal.returns-then-s-i
-unfolding ◌and◌
-returns-then-s-i c =
-    let l = c in
-    sym (l.loop-i.invariant.1 ∙ rw (all_are-step _ _ _ c.loop-i-test.true, ne_eqb _ _ c.if-s-i.true))
-
-pub loop-i-preserved : goal.loop-i-preserved
-unfolding ◌and◌
-loop-i-preserved c =
-    let l = c in
-    (omega arith, l.loop-i.invariant.1 ∙ rw (all_are-step _ _ _ c.loop-i-test.true, eq-eqb _ _ c.if-s-i.false))
-
 pub returns : goal.returns
-returns c = sym (c.loop-i.invariant.1 ∙ all_are-end _ _ _ c.loop-i-test.false)
+returns c =
+    let a = c.args in
+    all_from_yields_List (λ b. eqb b a.v) _ _ _ c.all.ensures.ran (YieldsList-from_slice a.s.now cc) (λ x b q k. search (rules, tests))
+    ∙ all_are-all a.v a.s.now

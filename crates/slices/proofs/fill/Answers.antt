@@ -1,21 +1,11 @@
-use mathlib.Core.Path.{◌≡◌, refl, sym, ◌∙◌}
-use native.Mathlib.Omega.{arith}
-use lib.ListN.{get_or-replicate, length-replicate, length-set}
-use Rattle.slices.proofs.Writes.{upto_start, upto_step, upto_done}
+use mathlib.Core.Path.{◌∙◌}
+use lib.ListN.{replicate, length-replicate}
+use native.Mathlib.Nat.{add-sub_cancel_left}
+use Rattle.slices.proofs.PartLaws.{length_middle}
+use Rattle.slices.proofs.Writes.{part_written}
 use Rattle.slices.proofs.fill.Goals as goal
-
-pub loop-i-init : goal.loop-i-init
-loop-i-init c = (omega arith, upto_start _ _ _, refl)
-
-pub loop-i-preserved : goal.loop-i-preserved
-loop-i-preserved c =
-    let l = c in
-    let a = l.args in
-    (omega arith, upto_step _ _ _ _ l.loop-i.invariant.1 (omega arith) (rw length-replicate c.loop-i-test.true) (sym (get_or-replicate a.n l.loop-i.i a.v 0 c.loop-i-test.true)), simp length-set l.loop-i.invariant.2)
 
 pub returns : goal.returns
 returns c =
-    let l = c in
-    let a = l.args in
-    let e : a.n ≡ l.loop-i.i = omega arith in
-    upto_done _ _ _ _ l.loop-i.invariant.1 (length-replicate _ _ ∙ e)
+    let a = c.args in
+    part_written a.s.now a.at a.n (replicate a.n a.v) (c.fill.ensures.after (λ y e. e) ∙ rw (add-sub_cancel_left, length_middle a.s.now a.at a.n c.requires)) (length-replicate _ _)

@@ -1,7 +1,7 @@
+use native.Mathlib.Omega.{arith}
 use Rattle.slices.specs.Bytes.{le16}
-use borrow.Author.Rules.{rules}
 use Rattle.slices.proofs.get16.Goals as goal
 
-pub returns : goal.returns
+pub returns-clause-is : goal.returns-clause-is
 unfolding le16
-returns c = search rules
+returns-clause-is c = omega arith

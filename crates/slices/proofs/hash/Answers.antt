@@ -1,27 +1,19 @@
-use mathlib.Core.Path.{sym, ap, ◌∙◌}
-use Prim.Native.Nat.{ℕ, ◌+◌}
+use mathlib.Core.Path.{◌≡◌, sym, ◌∙◌}
+use Prim.Native.Nat.{◌/◌}
 use native.Mathlib.Omega.{arith}
-use lib.ListN.{drop}
-use Rattle.slices.specs.Hash.{mixed, hash_from}
-use Rattle.slices.proofs.Hashed.{hash_step, hash_two, hash_end}
+use lib.ListN.{length}
+use Rattle.std.proofs.Common.{rules, tests}
+use Rattle.std.proofs.lemmas.Iterator.{YieldsList-from_slice}
+use Rattle.std.proofs.lemmas.Iterator.Consumers.{fold_from_yields_List}
+use Rattle.std.specs.Int.{w32, from_le_bytes}
+use Rattle.std.specs.Simd.{first_chunks}
+use Rattle.slices.specs.Hash.{mixed}
+use Rattle.slices.proofs.Hashed.{hash_fours, hash_by_fours}
 use Rattle.slices.proofs.hash.Goals as goal
 
-pub loop-i-preserved : goal.loop-i-preserved
-loop-i-preserved c =
-    let l = c in
-    let S = l.args.s.now in (
-      omega arith,
-      l.loop-i.invariant.1 ∙ hash_step l.loop-i.h S l.loop-i.i (omega arith)
-          ∙ ap (λ (n : ℕ). hash_from (mixed l.loop-i.h n) (drop (l.loop-i.i + 4) S)) (sym c.get32.ensures.is),
-    )
-
-pub returns-then-s-i-ge2 : goal.returns-then-s-i-ge2
-returns-then-s-i-ge2 c =
-    let l = c in
-    let S = l.args.s.now in
-    sym (l.loop-i.invariant.1 ∙ hash_two l.loop-i.h S l.loop-i.i (omega arith) (omega arith) (omega arith) ∙ ap (mixed l.loop-i.h) (sym c.get16.ensures.is))
-
-pub returns-else-s-i-ge2 : goal.returns-else-s-i-ge2
-returns-else-s-i-ge2 c =
-    let l = c in
-    sym (l.loop-i.invariant.1 ∙ hash_end l.loop-i.h _ l.loop-i.i (omega arith) (omega arith))
+pub returns : goal.returns
+returns c =
+    let s = c.args.s.now in
+    let e : c.fold-h.result ≡ hash_fours c.args.h0 (length s / 4) s =
+    fold_from_yields_List _ (λ h four. mixed h (from_le_bytes w32 four)) c.args.h0 _ c.fold-h.ensures.ran (YieldsList-from_slice (first_chunks 4 (length s / 4) s) cc) (λ h x b q k. search (rules, tests)) in
+    c.few_mixed.ensures ∙ rw (e, c.as_chunks.ensures.back) (sym (hash_by_fours c.args.h0 (length s / 4) s (omega arith)))

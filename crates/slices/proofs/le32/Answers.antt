@@ -1,12 +1,10 @@
-use Rattle.slices.specs.Bytes.{le32}
-use Rattle.slices.proofs.NumberLaws.{le32_past}
-use native.Mathlib.Omega.{arith}
-use mathlib.Core.Path.{sym}
+use mathlib.Core.Path.{sym, ◌∙◌}
+use lib.ListN.{drop}
+use Rattle.slices.proofs.NumberLaws.{le32_four, le32_rest}
 use Rattle.slices.proofs.le32.Goals as goal
 
-pub returns-then-s-at : goal.returns-then-s-at
-returns-then-s-at c = sym (le32_past c.args.s.now c.args.at c.if-s-at.true)
-
 pub returns : goal.returns
-unfolding le32
-returns c = omega arith
+returns c =
+    let a = c.args in
+    rw (c.from_le_bytes.ensures, c.byte.ensures, c.byte-2.ensures, c.byte-3.ensures, c.byte-4.ensures, c.rest-s.ensures)
+    (sym (le32_four (drop a.at a.s.now) 0) ∙ le32_rest a.s.now a.at)
