@@ -6,7 +6,7 @@ use native.Mathlib.Omega.{arith}
 use Rattle.std.proofs.Math.Seq.{get_or-append_seam, take-append_seam}
 use Rattle.std.specs.Int.Bits.{bit_and, and_zero_l}
 use Rattle.std.specs.Int.{from_le_bytes, w16}
-use Rattle.std.specs.List.{fold, list_all, prefix_len}
+use Rattle.std.specs.List.{fold, list_all, prefix_len, zip, filter, sum_by}
 use Rattle.std.specs.Simd.{first_chunks}
 use Rattle.std.proofs.lemmas.List.Folds.{length-prefix_len}
 use lib.Seq.{drop-drop}
@@ -18,7 +18,7 @@ use Rattle.slices.proofs.TestLaws.{or_cases, and_left, and_right, and_intro, and
 use Rattle.slices.specs.Bytes.{Bytes, le16, pairwise}
 use Rattle.slices.proofs.BytesLaws.{pairwise_later, same_eq, same_of}
 use Rattle.slices.proofs.PartLaws.{drop_step}
-use Rattle.names.specs.Name.{units, each, no_zero, is_name, is_terminated, Variable, named, hex_digits, is_hex_digit, unit_matches, wildcards, number_sign, one_if, is_plain_terminated, name_length, closed, signs_in, plain_unit}
+use Rattle.names.specs.Name.{units, each, no_zero, is_name, is_terminated, Variable, named, hex_digits, is_hex_digit, unit_matches, wildcards, number_sign, one_if, is_plain_terminated, name_length, closed, signs_in, plain_unit, unit_near}
 
 pub units_length : (s : Bytes) → length (units s) ≡ length s / 2
 unfolding units
@@ -191,6 +191,112 @@ module _ (test : ℕ → Bool) (P : Bytes → Bool) (tells : (b : Bytes) → P b
   pub blocks_passed : {n : ℕ} (k : ℕ) (s : Bytes) → n ≡ length (take (first_to_fail k s) (first_chunks 16 k s)) → each test (units s) ≡ each test (units (drop (16 * n) s))
   blocks_passed k s e = from_first k s ∙ ap (λ j. each test (units (drop (16 * j) s))) (sym (e ∙ length-prefix_len P (first_chunks 16 k s)))
 
+-- ---- the same of pairs of units, as many of both
+
+pairs_fold : (test : ℕ → ℕ → Bool) (ok : Bool) (us vs : List ℕ) → length us ≡ length vs → fold (λ ok p. ok && test p.0 p.1) ok (zip us vs) ≡ (ok and pairwise test us vs)
+unfolding pairwise ◌and◌
+pairs_fold test ok [] [] e = sym (and_yes ok)
+pairs_fold test ok [] (v ∷ vs) e = absurd (omega arith)
+pairs_fold test ok (u ∷ us) [] e = absurd (omega arith)
+pairs_fold test ok (u ∷ us) (v ∷ vs) e = pairs_fold test (ok && test u v) us vs (omega arith) ∙ rw and_eager (and_assoc ok (test u v) (pairwise test us vs))
+
+pub fold_pairs : (test : ℕ → ℕ → Bool) (us vs : List ℕ) → length us ≡ length vs → fold (λ ok p. ok && test p.0 p.1) true (zip us vs) ≡ pairwise test us vs
+unfolding ◌and◌
+fold_pairs test us vs e = pairs_fold test true us vs e
+
+pub all_pairs : (test : ℕ → ℕ → Bool) (us vs : List ℕ) → length us ≡ length vs → list_all (λ p. test p.0 p.1) (zip us vs) ≡ pairwise test us vs
+unfolding pairwise
+all_pairs test [] [] e = refl
+all_pairs test [] (v ∷ vs) e = absurd (omega arith)
+all_pairs test (u ∷ us) [] e = absurd (omega arith)
+all_pairs test (u ∷ us) (v ∷ vs) e = rw (and_eager, all_pairs test us vs (omega arith))
+
+pairwise_append : (test : ℕ → ℕ → Bool) (us vs ws xs : List ℕ) → length us ≡ length vs → pairwise test (us ++ ws) (vs ++ xs) ≡ (pairwise test us vs and pairwise test ws xs)
+unfolding pairwise ◌and◌
+pairwise_append test [] [] ws xs e = refl
+pairwise_append test [] (v ∷ vs) ws xs e = absurd (omega arith)
+pairwise_append test (u ∷ us) [] ws xs e = absurd (omega arith)
+pairwise_append test (u ∷ us) (v ∷ vs) ws xs e = rw (pairwise_append test us vs ws xs (omega arith)) (sym (and_assoc (test u v) (pairwise test us vs) (pairwise test ws xs)))
+
+module _ (test : ℕ → ℕ → Bool) where
+  -- the pairs of units of two byte strings, as long as each other
+  abbrev pairs_pass : Bytes → Bytes → Bool
+  pairs_pass p v = pairwise test (units p) (units v)
+
+  -- the first eight, and those behind
+  pairs_cut : (p v : Bytes) → length p ≡ length v → pairs_pass p v ≡ (pairs_pass (take 16 p) (take 16 v) and pairs_pass (drop 16 p) (drop 16 v))
+  pairs_cut p v e =
+      ap₂ (pairwise test) (units_cut 8 p) (units_cut 8 v)
+      ∙ pairwise_append test (units (take 16 p)) (units (take 16 v)) (units (drop 16 p)) (units (drop 16 v))
+      (omega (arith, units_length (take 16 p), units_length (take 16 v), length-take 16 p, length-take 16 v))
+
+  abbrev pair_blocks : ℕ → Bytes → Bytes → List (Bytes × Bytes)
+  pair_blocks k p v = zip (first_chunks 16 k p) (first_chunks 16 k v)
+
+  abbrev pair_blocks_pass : ℕ → Bytes → Bytes → Bool
+  pair_blocks_pass k p v = list_all (λ b. pairs_pass b.0 b.1) (pair_blocks k p v)
+
+  each_pair_block : (k : ℕ) (p v : Bytes) → length p ≡ length v → pairs_pass p v ≡ (pair_blocks_pass k p v and pairs_pass (drop (k * 16) p) (drop (k * 16) v))
+  unfolding ◌and◌
+  each_pair_block zero p v e = refl
+  each_pair_block (suc k) p v e =
+      let first : Bool = pairs_pass (take 16 p) (take 16 v) in
+      let others : Bool = pair_blocks_pass k (drop 16 p) (drop 16 v) in
+      let n : 16 + k * 16 ≡ suc k * 16 = omega arith in
+      pairs_cut p v e
+      ∙ ap (λ b. first and b) (each_pair_block k (drop 16 p) (drop 16 v) (omega (arith, e, length-drop 16 p, length-drop 16 v))
+      ∙ ap₂ (λ l m. others and pairs_pass l m) (drop-drop (k * 16) 16 p) (drop-drop (k * 16) 16 v))
+      ∙ sym (and_assoc first others (pairs_pass (drop (16 + k * 16) p) (drop (16 + k * 16) v)))
+      ∙ ap₂ (λ b j. b and pairs_pass (drop j p) (drop j v)) (sym (and_eager first others)) n
+
+  -- how they pass where the blocks do, and where they do not
+  module _ {x : Bool} (k j : ℕ) (p v : Bytes) (l : length p ≡ length v) (n : k ≡ j) (e : x ≡ list_all (λ b. pairs_pass b.0 b.1) (zip (first_chunks 16 k p) (first_chunks 16 j v))) where
+    blocks_x : x ≡ pair_blocks_pass k p v
+    blocks_x = e ∙ ap (λ i. list_all (λ b. pairs_pass b.0 b.1) (zip (first_chunks 16 k p) (first_chunks 16 i v))) (sym n)
+
+    pub pair_blocks_yes : x ≡ true → pairs_pass p v ≡ pairs_pass (drop (k * 16) p) (drop (j * 16) v)
+    unfolding ◌and◌
+    pair_blocks_yes t = each_pair_block k p v l ∙ rw (sym blocks_x ∙ t, ← n)
+
+    pub pair_blocks_no : x ≡ false → x ≡ pairs_pass p v
+    unfolding ◌and◌
+    pair_blocks_no f = f ∙ sym (each_pair_block k p v l ∙ rw (sym blocks_x ∙ f))
+
+-- behind the blocks there are as many
+pub pairs_behind : (p v : Bytes) → length p ≡ length v → length (units (drop (length p / 16 * 16) p)) ≡ length (units (drop (length v / 16 * 16) v))
+pairs_behind p v e =
+    omega (arith, e, units_length (drop (length p / 16 * 16) p), units_length (drop (length v / 16 * 16) v), length-drop (length p / 16 * 16) p, length-drop (length v / 16 * 16) v)
+
+-- the pairs of blocks from the start on that pass a test may be left out where it tells that each pair of units in them passes
+module _ (test : ℕ → ℕ → Bool) (P : Bytes × Bytes → Bool) (tells : (b : Bytes × Bytes) → P b ≡ true → pairwise test (units b.0) (units b.1) ≡ true) where
+  abbrev first_pair_to_fail : ℕ → Bytes → Bytes → ℕ
+  first_pair_to_fail k p v = prefix_len P (zip (first_chunks 16 k p) (first_chunks 16 k v))
+
+  from_first_pair : (k : ℕ) (p v : Bytes) → length p ≡ length v
+      → pairs_pass test p v ≡ pairs_pass test (drop (16 * first_pair_to_fail k p v) p) (drop (16 * first_pair_to_fail k p v) v)
+  unfolding ◌and◌
+  from_first_pair zero p v e = refl
+  from_first_pair (suc k) p v e = by (P (take 16 p, take 16 v)) refl (from_first_pair k (drop 16 p) (drop 16 v) (omega (arith, e, length-drop 16 p, length-drop 16 v)))
+    where
+      others : ℕ
+      others = first_pair_to_fail k (drop 16 p) (drop 16 v)
+
+      by : (b : Bool) → P (take 16 p, take 16 v) ≡ b
+          → pairs_pass test (drop 16 p) (drop 16 v) ≡ pairs_pass test (drop (16 * others) (drop 16 p)) (drop (16 * others) (drop 16 v))
+          → pairs_pass test p v ≡ pairs_pass test (drop (16 * cond b (1 + others) 0) p) (drop (16 * cond b (1 + others) 0) v)
+      by true t f =
+          let n : 16 + 16 * others ≡ 16 * (1 + others) = omega arith in
+          pairs_cut test p v e ∙ ap (λ b. b and pairs_pass test (drop 16 p) (drop 16 v)) (tells (take 16 p, take 16 v) t)
+          ∙ f ∙ ap₂ (pairs_pass test) (drop-drop (16 * others) 16 p) (drop-drop (16 * others) 16 v) ∙ ap (λ j. pairs_pass test (drop j p) (drop j v)) n
+      by false t f = refl
+
+  pub pair_blocks_passed : {n : ℕ} (k j : ℕ) (p v : Bytes) → length p ≡ length v → k ≡ j
+      → n ≡ length (take (prefix_len P (zip (first_chunks 16 k p) (first_chunks 16 j v))) (zip (first_chunks 16 k p) (first_chunks 16 j v)))
+      → pairs_pass test p v ≡ pairs_pass test (drop (16 * n) p) (drop (16 * n) v)
+  pair_blocks_passed {n} k j p v l q e =
+      let m : n ≡ first_pair_to_fail k p v = e ∙ length-prefix_len P (zip (first_chunks 16 k p) (first_chunks 16 j v)) ∙ ap (λ i. prefix_len P (zip (first_chunks 16 k p) (first_chunks 16 i v))) (sym q) in
+      from_first_pair k p v l ∙ ap (λ i. pairs_pass test (drop (16 * i) p) (drop (16 * i) v)) (sym m)
+
 -- no more '#' than units
 pub wildcards_le : (us : List ℕ) → wildcards us ≤ length us
 unfolding wildcards
@@ -201,17 +307,75 @@ wildcards_le (u ∷ us) = at_most (eqb u number_sign) (wildcards_le us)
     at_most true h = omega arith
     at_most false h = omega arith
 
--- one turn of a loop that goes on to its end, over units that are no '#'
-pub wildcards_clear : {n u : ℕ} (s : Bytes) (i j : ℕ) → i + j + 2 ≤ length s → u ≡ le16 s (i + j) → (ok : Bool) → (ok ≡ true → n ≡ wildcards (units (drop (i + j) s)))
-    → (ok && not (eqb u number_sign)) ≡ true → n ≡ wildcards (units (drop (i + (j + 2)) s))
-wildcards_clear {n} {u} s i j h v true f t =
-    let k : i + (j + 2) ≡ i + j + 2 = omega arith in
-    f refl ∙ rw k (wildcards_miss s (i + j) h (λ e. eqb-false u number_sign (not-true (eqb u number_sign) t) (v ∙ e)))
-wildcards_clear s i j h v false f t = absurd (false≢true t)
+-- counted by a filter
+pub filter_wildcards : (us : List ℕ) → length (filter (λ u. eqb u number_sign) us) ≡ wildcards us
+unfolding wildcards
+filter_wildcards [] = refl
+filter_wildcards (u ∷ us) = by (eqb u number_sign) (filter_wildcards us)
+  where
+    by : (b : Bool) → length (filter (λ u. eqb u number_sign) us) ≡ wildcards us → length (cond b (u ∷ filter (λ u. eqb u number_sign) us) (filter (λ u. eqb u number_sign) us)) ≡ one_if b + wildcards us
+    by true e = omega (arith, e)
+    by false e = omega (arith, e)
 
--- the number of '#' from byte i on, after so many at the start, is at most that of the units
-pub wildcards_within : (s : Bytes) (h i r rest : ℕ) → wildcards (units s) ≡ h + wildcards (units (drop i s)) → wildcards (units (drop i s)) ≡ r + rest → h + r ≤ length s
-wildcards_within s h i r rest e f = omega (arith, wildcards_le (units s), units_length s)
+wildcards_append : (us vs : List ℕ) → wildcards (us ++ vs) ≡ wildcards us + wildcards vs
+unfolding wildcards
+wildcards_append [] vs = omega arith
+wildcards_append (u ∷ us) vs = omega (arith, wildcards_append us vs)
+
+-- units of which none is '#'
+literal_units : (us : List ℕ) → each (λ u. not (eqb u number_sign)) us ≡ true → wildcards us ≡ 0
+unfolding each wildcards
+literal_units [] e = refl
+literal_units (u ∷ us) e = by (eqb u number_sign) (and_left _ _ e) (literal_units us (and_right _ _ e))
+  where
+    by : (b : Bool) → not b ≡ true → wildcards us ≡ 0 → one_if b + wildcards us ≡ 0
+    by true t k = absurd (false≢true t)
+    by false t k = omega (arith, k)
+
+-- a block in which not each unit is other than '#'
+abbrev pub has_signs : Bytes → Bool
+has_signs b = not (each (λ u. not (eqb u number_sign)) (units b))
+
+-- the number of '#' in such blocks
+abbrev pub signs_of_blocks : ℕ → Bytes → ℕ
+signs_of_blocks k s = sum_by (λ b. wildcards (units b)) (filter has_signs (first_chunks 16 k s))
+
+not_false : (b : Bool) → not b ≡ false → b ≡ true
+not_false true e = refl
+not_false false e = absurd (false≢true (sym e))
+
+counted_blocks : (k : ℕ) (s : Bytes) (a : ℕ)
+    → fold (λ n b. n + wildcards (units b)) a (filter has_signs (first_chunks 16 k s)) + wildcards (units (drop (k * 16) s)) ≡ a + wildcards (units s)
+counted_blocks zero s a = refl
+counted_blocks (suc k) s a = by (has_signs (take 16 s)) refl (counted_blocks k (drop 16 s))
+  where
+    first : ℕ
+    first = wildcards (units (take 16 s))
+
+    cut : wildcards (units s) ≡ first + wildcards (units (drop 16 s))
+    cut = ap wildcards (units_cut 8 s) ∙ wildcards_append (units (take 16 s)) (units (drop 16 s))
+
+    n : 16 + k * 16 ≡ suc k * 16
+    n = omega arith
+
+    others : List Bytes
+    others = filter has_signs (first_chunks 16 k (drop 16 s))
+
+    behind : wildcards (units (drop (k * 16) (drop 16 s))) ≡ wildcards (units (drop (suc k * 16) s))
+    behind = ap (λ l. wildcards (units l)) (drop-drop (k * 16) 16 s ∙ ap (λ j. drop j s) n)
+
+    by : (b : Bool) → has_signs (take 16 s) ≡ b
+        → ((a : ℕ) → fold (λ n b. n + wildcards (units b)) a others + wildcards (units (drop (k * 16) (drop 16 s))) ≡ a + wildcards (units (drop 16 s)))
+        → fold (λ n b. n + wildcards (units b)) a (cond b (take 16 s ∷ others) others) + wildcards (units (drop (suc k * 16) s)) ≡ a + wildcards (units s)
+    by true t f = omega (arith, f (a + first), cut, behind)
+    by false t f = omega (arith, f a, cut, behind, literal_units (units (take 16 s)) (not_false (each (λ u. not (eqb u number_sign)) (units (take 16 s))) t))
+
+pub blocks_wildcards : (k : ℕ) (s : Bytes) → signs_of_blocks k s + wildcards (units (drop (k * 16) s)) ≡ wildcards (units s)
+blocks_wildcards k s = counted_blocks k s 0 ∙ zero-add (wildcards (units s))
+
+-- their number is at most that of the bytes
+pub blocks_within : (k : ℕ) (s : Bytes) → signs_of_blocks k s + wildcards (units (drop (k * 16) s)) ≤ length s
+blocks_within k s = omega (arith, blocks_wildcards k s, wildcards_le (units s), units_length s)
 
 -- each unit is neither zero nor '#' exactly if none is zero and the number of '#' is 0
 pub plain_units : (us : List ℕ) → (no_zero us and eqb (wildcards us) 0) ≡ each plain_unit us
@@ -489,6 +653,34 @@ unit_nears p u h = go (eqb p number_sign) (eqb p u) h
     go true true k = refl
     go true false k = refl
     go false b k = rw k
+
+units_near : (ps us : List ℕ) → pairwise unit_matches ps us ≡ true → pairwise unit_near ps us ≡ true
+unfolding pairwise
+units_near [] [] e = refl
+units_near [] (u ∷ us) e = absurd (false≢true e)
+units_near (p ∷ ps) [] e = absurd (false≢true e)
+units_near (p ∷ ps) (u ∷ us) e = and_intro _ _ (unit_nears p u (and_left _ _ e)) (units_near ps us (and_right _ _ e))
+
+-- units that are the same in both, and no '#', match
+abbrev pub plain_pair : ℕ → ℕ → Bool
+plain_pair p u = eqb p u && not (eqb p number_sign)
+
+pub plain_pairs : (ps us : List ℕ) → pairwise plain_pair ps us ≡ true → pairwise unit_matches ps us ≡ true
+unfolding pairwise
+plain_pairs [] [] e = refl
+plain_pairs [] (u ∷ us) e = absurd (false≢true e)
+plain_pairs (p ∷ ps) [] e = absurd (false≢true e)
+plain_pairs (p ∷ ps) (u ∷ us) e = and_intro _ _ (go (eqb p u) (eqb p number_sign) refl refl (and_left _ _ e)) (plain_pairs ps us (and_right _ _ e))
+  where
+    go : (s t : Bool) → eqb p u ≡ s → eqb p number_sign ≡ t → (s && not t) ≡ true → unit_matches p u ≡ true
+    go true false y z k = plain_unit_lem p u z ∙ y
+    go true true y z k = absurd (false≢true k)
+    go false t y z k = absurd (false≢true k)
+
+-- of names that match the first eight units are near
+pub front_near : {q w : Bytes} (p v : Bytes) → length p ≡ length v → q ≡ take 16 p → w ≡ take 16 v → pairwise unit_matches (units p) (units v) ≡ true
+    → pairwise unit_near (units q) (units w) ≡ true
+front_near p v l e f m = rw (e, f) (units_near (units (take 16 p)) (units (take 16 v)) (and_left _ _ (sym (pairs_cut unit_matches p v l) ∙ m)))
 
 -- a comparison of the units of both, pair by pair, from byte i on
 abbrev pub pairs_from : (ℕ → ℕ → Bool) → Bytes → Bytes → ℕ → Bool

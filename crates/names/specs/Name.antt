@@ -95,6 +95,14 @@ signs_in signs s = signs || eqb (wildcards (units s)) 0
 abbrev pub plain_unit : ℕ → Bool
 plain_unit u = not (eqb u 0) && not (eqb u number_sign)
 
+-- the units are equal, or the entry's is '#', whatever it stands over
+abbrev pub unit_near : ℕ → ℕ → Bool
+unit_near p u = eqb p u || eqb p number_sign
+
 -- what a test of units that may be called says of a result: where it computes t, the result is what t makes of the units
 abbrev pub OfTest : {F : Type 0} → (F → ℕ → Bool → Type 0) → F → Bool → ((ℕ → Bool) → Bool) → Type 0
 OfTest post f r all = (t : ℕ → Bool) → ((u : ℕ) (b : Bool) → post f u b → b ≡ t u) → r ≡ all t
+
+-- the same of a test of two units
+abbrev pub OfPairTest : {F : Type 0} → (F → ℕ → ℕ → Bool → Type 0) → F → Bool → ((ℕ → ℕ → Bool) → Bool) → Type 0
+OfPairTest post f r all = (t : ℕ → ℕ → Bool) → ((p u : ℕ) (b : Bool) → post f p u b → b ≡ t p u) → r ≡ all t

@@ -4,9 +4,9 @@
 ghost use Rattle.std.specs.Prelude.{◌≡◌, true, ◌+◌, ◌-◌, ◌%◌, ◌≤◌, ◌<◌, length, take, drop};
 ghost use Rattle.limits.specs.Limits.{namespace_bytes};
 ghost use Rattle.slices.specs.Test.{◌and◌};
-ghost use Rattle.slices.specs.Bytes.{le16, same};
+ghost use Rattle.slices.specs.Bytes.{le16, same, pairwise};
 ghost use Rattle.names.specs.Tail.{unit_mask, word, mask_at, TailOf};
-ghost use Rattle.names.specs.Name.{units, each, no_zero, is_name, is_terminated, is_hex_digit, unit_matches, matches, wildcards, is_plain_terminated, name_length, closed, signs_in, plain_unit, OfTest};
+ghost use Rattle.names.specs.Name.{units, each, no_zero, is_name, is_terminated, is_hex_digit, unit_matches, matches, wildcards, is_plain_terminated, name_length, closed, signs_in, plain_unit, OfTest, OfPairTest, unit_near};
 
 pub mod units;
 
@@ -159,55 +159,21 @@ pub fn unit_matches(p: u16, u: u16) -> bool
 
 // Whether the units are near: equal, or the entry's is '#', whatever it stands over. Units that are not near do not match.
 fn unit_near(p: u16, u: u16) -> bool
-    ensures { unit_matches p u ≡ true → result ≡ true }
+    ensures is { result ≡ unit_near p u }
+    ensures needed { unit_matches p u ≡ true → result ≡ true }
 {
     (p == u) | (p == 0x23)
 }
 
-// Whether the eight units from byte i on are the same in both and no '#': then they match. No exit before the end, here, in
-// `eight_wild` and in `eight_near`: they are compiled to wide compares.
-fn eight_plain(p: &[u8], v: &[u8], i: usize) -> bool
-    requires { (i + 16 ≤ length p.now) × (i + 16 ≤ length v.now) }
-    ensures { result ≡ true → matches (units (drop i p.now)) (units (drop i v.now))
-        ≡ matches (units (drop (i + 16) p.now)) (units (drop (i + 16) v.now)) }
+// Whether each pair of the eight units of two blocks passes the test. No exit before the end: it is compiled to wide compares.
+#[inline(always)]
+fn eight_pairs<F: Fn(u16, u16) -> bool>(p: &[u8; 16], v: &[u8; 16], test: F) -> bool
+    requires { F.IsAlwaysCallable test }
+    ensures { OfPairTest F.post test result (λ t. pairwise t (units p.now) (units v.now)) }
 {
-    let mut ok = true;
-    let mut j = 0;
-    while j < 16 {
-        let own = unit(p, i + j);
-        ok = ok & ((own == unit(v, i + j)) & (own != 0x23));
-        j += 2;
-    }
-    ok
-}
-
-// Whether the eight units from byte i on match, each '#' looked at.
-fn eight_wild(p: &[u8], v: &[u8], i: usize) -> bool
-    requires { (i + 16 ≤ length p.now) × (i + 16 ≤ length v.now) }
-    ensures { matches (units (drop i p.now)) (units (drop i v.now))
-        ≡ (result and matches (units (drop (i + 16) p.now)) (units (drop (i + 16) v.now))) }
-{
-    let mut ok = true;
-    let mut j = 0;
-    while j < 16 {
-        ok = ok & unit_matches(unit(p, i + j), unit(v, i + j));
-        j += 2;
-    }
-    ok
-}
-
-// Whether the eight units from byte i on are near. Where not, the names do not match.
-fn eight_near(p: &[u8], v: &[u8], i: usize) -> bool
-    requires { (i + 16 ≤ length p.now) × (i + 16 ≤ length v.now) }
-    ensures { matches (units (drop i p.now)) (units (drop i v.now)) ≡ true → result ≡ true }
-{
-    let mut ok = true;
-    let mut j = 0;
-    while j < 16 {
-        ok = ok & unit_near(unit(p, i + j), unit(v, i + j));
-        j += 2;
-    }
-    ok
+    Units(p)
+        .zip(Units(v))
+        .fold(true, |ok, (own, u)| ok & test(own, u))
 }
 
 // The bits in which an entry's unit must agree with this one to match it: of a hex digit those in which '#' agrees with it, of
@@ -278,10 +244,10 @@ pub fn may_match(p: &[u8], v: &[u8]) -> bool
     if !first_near(p, v) {
         return false;
     }
-    if 16 <= v.len() {
-        return eight_near(p, v, 0);
+    match (p.first_chunk::<16>(), v.first_chunk::<16>()) {
+        (Some(own), Some(name)) => eight_pairs(own, name, |p, u| unit_near(p, u)),
+        _ => true,
     }
-    true
 }
 
 // Whether the first unit and the last are near, of names that are not empty and as long. Where not, the names do not match.
@@ -296,34 +262,17 @@ fn ends_near(p: &[u8], v: &[u8]) -> bool
     unit_near(unit(p, last), unit(v, last))
 }
 
-// Whether as many units match, unit by unit: for a few units.
-fn few_match(p: &[u8], v: &[u8]) -> bool
-    requires { length p.now ≡ length v.now }
-    ensures { result ≡ matches (units p.now) (units v.now) }
-{
-    let mut i = 0;
-    while 2 <= v.len() - i {
-        if !unit_matches(unit(p, i), unit(v, i)) {
-            return false;
-        }
-        i += 2;
-    }
-    true
-}
-
-// Whether as many units match, each '#' looked at.
+// Whether as many units match, each '#' looked at: eight at a time, and then one by one.
 fn wild_match(p: &[u8], v: &[u8]) -> bool
     requires { length p.now ≡ length v.now }
     ensures { result ≡ matches (units p.now) (units v.now) }
 {
-    let mut i = 0;
-    while 16 <= v.len() - i {
-        if !eight_wild(p, v, i) {
-            return false;
-        }
-        i += 16;
-    }
-    few_match(&p[i..], &v[i..])
+    let (owns, own_rest) = p.as_chunks::<16>();
+    let (blocks, rest) = v.as_chunks::<16>();
+    owns.iter().zip(blocks).all(|(own, block)| eight_pairs(own, block, |p, u| unit_matches(p, u)))
+        && Units(own_rest)
+            .zip(Units(rest))
+            .all(|(p, u)| unit_matches(p, u))
 }
 
 // How many bytes from the start on, by sixteens, are the same in both and have no '#'. What is behind them decides.
@@ -332,14 +281,14 @@ fn plain_length(p: &[u8], v: &[u8]) -> usize
     ensures within { result ≤ length v.now }
     ensures behind { matches (units p.now) (units v.now) ≡ matches (units (drop result p.now)) (units (drop result v.now)) }
 {
-    let mut i = 0;
-    while 16 <= v.len() - i {
-        if !eight_plain(p, v, i) {
-            return i;
-        }
-        i += 16;
-    }
-    i
+    let (owns, _) = p.as_chunks::<16>();
+    let (blocks, _) = v.as_chunks::<16>();
+    let plain = owns.iter().zip(blocks).take_while(|(own, block)| eight_pairs(
+        *own,
+        *block,
+        |p, u| (p == u) & (p != 0x23),
+    ));
+    16 * plain.count()
 }
 
 // Whether as many units match; as far as they are equal and no '#', the usual case, by fewer tests.
@@ -424,63 +373,23 @@ pub fn same_namespace(a: &[u8], b: &[u8]) -> bool
     ok
 }
 
-// Whether none of the eight units from byte i on is '#'. No exit before the end: it is compiled to one wide compare.
-fn eight_literal(s: &[u8], i: usize) -> bool
-    requires { i + 16 ≤ length s.now }
-    ensures { result ≡ true → wildcards (units (drop i s.now)) ≡ wildcards (units (drop (i + 16) s.now)) }
-{
-    let mut ok = true;
-    let mut j = 0;
-    while j < 16 {
-        ok = ok & (unit(s, i + j) != 0x23);
-        j += 2;
-    }
-    ok
-}
-
-// The number of '#' among the eight units from byte i on, each looked at.
-fn eight_wildcards(s: &[u8], i: usize) -> usize
-    requires { i + 16 ≤ length s.now }
-    ensures { wildcards (units (drop i s.now)) ≡ result + wildcards (units (drop (i + 16) s.now)) }
-{
-    let mut h = 0;
-    let mut j = 0;
-    while j < 16 {
-        if unit(s, i + j) == 0x23 {
-            h += 1;
-        }
-        j += 2;
-    }
-    h
-}
-
-// The number of '#' among the units, unit by unit: for a few units.
-fn few_wildcards(s: &[u8]) -> usize
+// The number of '#' among the units, each looked at.
+#[inline(always)]
+fn signs(s: &[u8]) -> usize
     ensures { result ≡ wildcards (units s.now) }
 {
-    let mut h = 0;
-    let mut i = 0;
-    while 2 <= s.len() - i {
-        if unit(s, i) == 0x23 {
-            h += 1;
-        }
-        i += 2;
-    }
-    h
+    Units(s).filter(|u| *u == 0x23).count()
 }
 
-// The number of '#' among the units. Most often eight have none, and are then not counted; the test also keeps the compiler from counting two blocks at once, in
-// more instructions.
+// The number of '#' among the units. Most often eight have none, and are then not counted.
 pub fn wildcards(s: &[u8]) -> usize
     ensures { result ≡ wildcards (units s.now) }
 {
-    let mut h = 0;
-    let mut i = 0;
-    while 16 <= s.len() - i {
-        if !eight_literal(s, i) {
-            h += eight_wildcards(s, i);
-        }
-        i += 16;
-    }
-    h + few_wildcards(&s[i..])
+    let (blocks, rest) = s.as_chunks::<16>();
+    let in_blocks: usize = blocks
+        .iter()
+        .filter(|block| !eight(*block, |u| u != 0x23))
+        .map(|block| signs(block))
+        .sum();
+    in_blocks + signs(rest)
 }
