@@ -1,14 +1,12 @@
 -- What the measured parts answer: the definitions of the crates below, as numbers for C.
 -- Assumes nothing: these are definitions.
-use Rattle.std.specs.Prelude.{ℕ, ◌+◌, Bool, not, cond, eqb, leb, length, take, drop, replicate}
+use Rattle.std.specs.Prelude.{ℕ, ◌+◌, Bool, Option, Some, None, not, cond, eqb, leb, length, take, drop, replicate}
 use Rattle.limits.specs.Limits.{record_header}
 use Rattle.slices.specs.Test.{◌and◌}
 use Rattle.slices.specs.Bytes.{Bytes, overwrite}
 use Rattle.names.specs.Name.{Variable}
-use Rattle.policy.specs.declared.PolicyCheck.{PolicyCheck}
-use Rattle.policy.specs.declared.PolicyCheck.TheVariants.{Valid, Invalid}
-use Rattle.policy.specs.declared.Choice.{Choice}
-use Rattle.policy.specs.declared.Choice.TheVariants.{Chosen, Nothing}
+use Rattle.policy.specs.declared.Extent.{Extent}
+use Rattle.policy.specs.declared.Chosen.{Chosen}
 use Rattle.policy.specs.Policy.{entries_of, policy_valid}
 use Rattle.policy.specs.Choice.{choice_of}
 use Rattle.store.specs.Record.{name_size, data_size, variable_of}
@@ -27,14 +25,14 @@ abbrev pub nothing : Numbers
 nothing = record { kind = 0; first = 0; second = 0 }
 
 -- how many entries, and how many bytes they take
-abbrev pub of_policy : PolicyCheck → Numbers
-of_policy (Valid count used) = record { kind = 1; first = count; second = used }
-of_policy Invalid = nothing
+abbrev pub of_policy : Option Extent → Numbers
+of_policy (Some x) = record { kind = 1; first = x.count; second = x.used }
+of_policy None = nothing
 
 -- the first byte of the entry in the record, and its rank
-abbrev pub of_choice : Choice → Numbers
-of_choice (Chosen index at rank) = record { kind = 1; first = at; second = rank }
-of_choice Nothing = nothing
+abbrev pub of_choice : Option Chosen → Numbers
+of_choice (Some x) = record { kind = 1; first = x.at; second = x.rank }
+of_choice None = nothing
 
 -- where the records of each store end
 abbrev pub of_pair : PairCheck → Numbers

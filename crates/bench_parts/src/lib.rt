@@ -8,7 +8,6 @@ ghost use Rattle.policy.specs.Policy.{policy_check};
 ghost use Rattle.stores.specs.Pair.{pair_check};
 ghost use Rattle.bench_parts.specs.Parts.{of_policy, of_pair, of_place, chosen_in, found_in, slot_in, filled, copied, moved};
 
-use policy::{Choice, PolicyCheck};
 use store::Found;
 use stores::{PairCheck, Place};
 
@@ -36,10 +35,9 @@ fn answer(kind: u32, first: usize, second: usize) -> Numbers
 pub extern "C" fn bench_check_policy(policy: &[u8]) -> Numbers
     ensures { result ≡ of_policy (policy_check policy.now) }
 {
-    let checked = policy::check(policy);
-    match checked {
-        PolicyCheck::Valid { count, used } => answer(1, count, used),
-        PolicyCheck::Invalid => answer(0, 0, 0),
+    match policy::check(policy) {
+        Some(extent) => answer(1, extent.count, extent.used),
+        None => answer(0, 0, 0),
     }
 }
 
@@ -49,17 +47,15 @@ pub extern "C" fn bench_choose(policy: &[u8], namespace: &[u8; 16], name: &[u8])
     ensures { result ≡ chosen_in policy.now (variable namespace.now name.now) }
 {
     let mut ends = policy::no_ends();
-    let checked = policy::check_noting(policy, &mut ends);
-    let PolicyCheck::Valid { count, used: _ } = checked else {
+    let Some(extent) = policy::check_noting(policy, &mut ends) else {
         return answer(0, 0, 0);
     };
     if name.len() == 0 {
         return answer(0, 0, 0);
     }
-    let choice = policy::choose(policy, count, &ends, namespace, name);
-    match choice {
-        Choice::Chosen { index: _, at, rank } => answer(1, at, rank),
-        Choice::Nothing => answer(0, 0, 0),
+    match policy::choose(policy, extent.count, &ends, namespace, name) {
+        Some(chosen) => answer(1, chosen.at, chosen.rank),
+        None => answer(0, 0, 0),
     }
 }
 

@@ -17,7 +17,6 @@ ghost use Rattle.rules.specs.Engine.{state_of, step, only_status, hand_back, wit
 ghost use Rattle.rules.specs.Engine.Call.{power_on, restart, register, dump, lock, disable, exit, query, read, set, settled};
 ghost use Rattle.engine.specs.Answers.{dump_answer, query_answer, refused_reading, reading_at, reading_of, ReadStep, payload_place, settled_answer, not_settled};
 
-use policy::PolicyCheck;
 use rules::Report;
 use set::Known;
 use status::Status;
@@ -152,8 +151,7 @@ pub fn register(policy: &mut [u8], switches: Switches, entry: &[u8]) -> Status
     ensures { (nv vol : Bytes) → step (state_of nv vol policy.old switches) (register entry.now)
         ≡ (only_status result, state_of nv vol policy.new switches) }
 {
-    let checked = policy::check(policy);
-    let PolicyCheck::Valid { count, used } = checked else {
+    let Some(extent) = policy::check(policy) else {
         return Status::VolumeCorrupted;
     };
     if switches.exited {
@@ -165,16 +163,16 @@ pub fn register(policy: &mut [u8], switches: Switches, entry: &[u8]) -> Status
     if entry::parse(entry).is_none() {
         return Status::InvalidParameter;
     }
-    if policy::contains(policy, count, entry) {
+    if policy::contains(policy, extent.count, entry) {
         return Status::AlreadyStarted;
     }
-    if limits::MAX_ENTRIES <= count {
+    if limits::MAX_ENTRIES <= extent.count {
         return Status::OutOfResources;
     }
-    if limits::POLICY_BYTES < used + entry.len() {
+    if limits::POLICY_BYTES < extent.used + entry.len() {
         return Status::OutOfResources;
     }
-    policy::append(policy, used, entry);
+    policy::append(policy, extent.used, entry);
     Status::Success
 }
 
@@ -185,8 +183,7 @@ pub fn dump(policy: &[u8], switches: Switches, buffer: &mut [u8]) -> DumpAnswer
     ensures { (nv vol : Bytes) → step (state_of nv vol policy.now switches) (dump buffer.old)
         ≡ (dump_answer result buffer.new, state_of nv vol policy.now switches) }
 {
-    let checked = policy::check(policy);
-    let PolicyCheck::Valid { count: _, used } = checked else {
+    let Some(extent) = policy::check(policy) else {
         return DumpAnswer {
             status: Status::VolumeCorrupted,
             length: 0,
@@ -198,16 +195,16 @@ pub fn dump(policy: &[u8], switches: Switches, buffer: &mut [u8]) -> DumpAnswer
             length: 0,
         };
     }
-    if buffer.len() < used {
+    if buffer.len() < extent.used {
         return DumpAnswer {
             status: Status::BufferTooSmall,
-            length: used,
+            length: extent.used,
         };
     }
-    policy::dump_into(policy, used, buffer);
+    policy::dump_into(policy, extent.used, buffer);
     DumpAnswer {
         status: Status::Success,
-        length: used,
+        length: extent.used,
     }
 }
 
@@ -357,12 +354,15 @@ pub fn set(
         return corrupted_set();
     };
     let mut entry_ends = policy::no_ends();
-    let entries = policy::check_noting(policy, &mut entry_ends);
-    let PolicyCheck::Valid { count, used: _ } = entries else {
+    let Some(extent) = policy::check_noting(policy, &mut entry_ends) else {
         return corrupted_set();
     };
     let place = stores::locate(nv, vol, ends, &namespace, name);
-    let known = Known { ends, count, place };
+    let known = Known {
+        ends,
+        count: extent.count,
+        place,
+    };
     let decided = set::decide(
         policy,
         &entry_ends,
@@ -413,8 +413,7 @@ pub fn settled<'a>(
         return not_settled(Status::VolumeCorrupted);
     };
     let mut entry_ends = policy::no_ends();
-    let entries = policy::check_noting(policy, &mut entry_ends);
-    let PolicyCheck::Valid { count, used: _ } = entries else {
+    let Some(extent) = policy::check_noting(policy, &mut entry_ends) else {
         return not_settled(Status::VolumeCorrupted);
     };
     if !names::is_name(name) {
@@ -422,6 +421,15 @@ pub fn settled<'a>(
     }
     SettledAnswer {
         status: Status::Success,
-        settled: settled::is_settled(policy, &entry_ends, count, nv, vol, ends, &namespace, name),
+        settled: settled::is_settled(
+            policy,
+            &entry_ends,
+            extent.count,
+            nv,
+            vol,
+            ends,
+            &namespace,
+            name,
+        ),
     }
 }

@@ -14,16 +14,17 @@ use Rattle.slices.specs.Bytes.{Bytes, part}
 use Rattle.names.specs.Name.{Variable}
 use Rattle.entry.specs.Entry.{targets, rank}
 use Rattle.entry.proofs.EntryLaws.{rank_most}
-use Rattle.policy.specs.declared.Choice.{Choice}
-use Rattle.policy.specs.declared.Choice.TheVariants.{Chosen, Nothing}
+use Rattle.std.specs.Prelude.{Option, not}
+use Rattle.std.specs.Bool.{then_some}
+use Rattle.policy.specs.declared.Chosen.{Chosen}
 use Rattle.policy.specs.Policy.{entry_length, entries_of}
 use Rattle.policy.proofs.PolicyLaws.{WellFormed}
-use Rattle.policy.specs.Choice.{beats, better, choice_from, choice_of}
+use Rattle.policy.specs.Choice.{chosen_at, beats, better, choice_from, choice_of}
 use Rattle.policy.specs.Best.{as_choice}
 use Rattle.policy.specs.Walk.{At, Passed}
 use Rattle.policy.proofs.Walk.{Hand, begins, entry_length_lem, split, behind}
 
-pub as_choice-some : (b i at : ℕ) → (b ≡ no_rank → ⊥) → Chosen i at b ≡ as_choice b i at
+pub as_choice-some : (b i at : ℕ) → (b ≡ no_rank → ⊥) → chosen_at i at b ≡ as_choice b i at
 unfolding as_choice
 as_choice-some b i at e = rw (ne_eqb b no_rank e)
 
@@ -32,17 +33,17 @@ beats_number : (r b i at : ℕ) → r ≤ whole_namespace_rank → b ≤ no_rank
 unfolding as_choice
 beats_number r b i at h k = go (eqb b no_rank) refl
   where
-    go : (t : Bool) → eqb b no_rank ≡ t → beats r (cond t Nothing (Chosen i at b)) ≡ ltb r b
+    go : (t : Bool) → eqb b no_rank ≡ t → beats r (then_some (not t) (record { index = i; at = at; rank = b })) ≡ ltb r b
     go true q = sym (lt-ltb r b (omega (arith, eqb-true b no_rank q)))
     go false q = refl
 
 -- an entry that does not target the variable leaves the best so far
-stays : (v : Variable) (best : Choice) (index here : ℕ) (e : Bytes) → targets e v ≡ false → better best index here e v ≡ best
+stays : (v : Variable) (best : Option Chosen) (index here : ℕ) (e : Bytes) → targets e v ≡ false → better best index here e v ≡ best
 unfolding better ◌and◌
 stays v best index here e q = rw q
 
 module _ (v : Variable) (e : Bytes) (w : WellFormed e) (b i at index here : ℕ) (most : b ≤ no_rank) (r : ℕ) (s : r ≡ cond (targets e v) (rank e) no_rank) where
-  better_by : (t : Bool) → targets e v ≡ t → better (as_choice b i at) index here e v ≡ cond (t and ltb (rank e) b) (Chosen index here (rank e)) (as_choice b i at)
+  better_by : (t : Bool) → targets e v ≡ t → better (as_choice b i at) index here e v ≡ cond (t and ltb (rank e) b) (chosen_at index here (rank e)) (as_choice b i at)
   unfolding better ◌and◌
   better_by true k = rw (k, beats_number (rank e) b i at (rank_most e w) most)
   better_by false k = rw k
@@ -65,13 +66,13 @@ module _ (v : Variable) (e : Bytes) (w : WellFormed e) (b i at index here : ℕ)
       go false k z = better_by false k
 
 -- ---- a walk over the entries
-choice_from-cons : (best : Choice) (index at : ℕ) (e : Bytes) (es : List Bytes) (v : Variable)
+choice_from-cons : (best : Option Chosen) (index at : ℕ) (e : Bytes) (es : List Bytes) (v : Variable)
     → choice_from best index at (e ∷ es) v ≡ choice_from (better best index at e v) (index + 1) (at + length e) es v
 unfolding choice_from
 choice_from-cons best index at e es v = refl
 
 -- one entry on
-choice_step : (v : Variable) (best : Choice) (p : Bytes) (i at n : ℕ) (w : At p i at) → entry_length (drop at p) ≡ n → 0 < n
+choice_step : (v : Variable) (best : Option Chosen) (p : Bytes) (i at n : ℕ) (w : At p i at) → entry_length (drop at p) ≡ n → 0 < n
     → choice_from best i at (drop i (entries_of p)) v ≡ choice_from (better best i at (take n (drop at p)) v) (i + 1) (at + n) (drop (i + 1) (entries_of p)) v
 choice_step v best p i at n w e h =
     ap (λ (es : List Bytes). choice_from best i at es v) (split p i at w n e h)
@@ -79,20 +80,20 @@ choice_step v best p i at n w e h =
     ∙ rw (entry_length_lem p i at w n e h, behind p i at w n e h)
 
 -- none is left
-pub choice_end : (best : Choice) (i at : ℕ) (es : List Bytes) (v : Variable) → length es ≤ i → choice_from best i at (drop i es) v ≡ best
+pub choice_end : (best : Option Chosen) (i at : ℕ) (es : List Bytes) (v : Variable) → length es ≤ i → choice_from best i at (drop i es) v ≡ best
 unfolding choice_from
 choice_end best i at es v h = rw (drop_of_length-le es h)
 
 -- a rank of 0 is not beaten
-zero_kept : (i at index here : ℕ) (e : Bytes) (v : Variable) → better (Chosen i at 0) index here e v ≡ Chosen i at 0
+zero_kept : (i at index here : ℕ) (e : Bytes) (v : Variable) → better (chosen_at i at 0) index here e v ≡ chosen_at i at 0
 unfolding better ◌and◌
 zero_kept i at index here e v = go (targets e v)
   where
-    go : (t : Bool) → cond (t and ltb (rank e) 0) (Chosen index here (rank e)) (Chosen i at 0) ≡ Chosen i at 0
+    go : (t : Bool) → cond (t and ltb (rank e) 0) (chosen_at index here (rank e)) (chosen_at i at 0) ≡ chosen_at i at 0
     go true = rw (le-ltb (rank e) 0 (omega arith))
     go false = refl
 
-choice_zero : (i at index here : ℕ) (es : List Bytes) (v : Variable) → choice_from (Chosen i at 0) index here es v ≡ Chosen i at 0
+choice_zero : (i at index here : ℕ) (es : List Bytes) (v : Variable) → choice_from (chosen_at i at 0) index here es v ≡ chosen_at i at 0
 unfolding choice_from
 choice_zero i at index here [] v = refl
 choice_zero i at index here (e ∷ es) v = rw (zero_kept i at index here e v) (choice_zero i at (index + 1) (here + length e) es v)
@@ -105,10 +106,10 @@ module _ (p : Bytes) (v : Variable) (i at end : ℕ) (w : At p i at) (g : Hand p
   entry_formed : WellFormed entry
   entry_formed = (begins p i at w g.size g.here (omega (arith, g.least))).formed
 
-  on : (best c : Choice) → better best i at entry v ≡ c → choice_from best i at (drop i (entries_of p)) v ≡ choice_from c (i + 1) end (drop (i + 1) (entries_of p)) v
+  on : (best c : Option Chosen) → better best i at entry v ≡ c → choice_from best i at (drop i (entries_of p)) v ≡ choice_from c (i + 1) end (drop (i + 1) (entries_of p)) v
   on best c k =
       choice_step v best p i at g.size w g.here (omega (arith, g.least))
-      ∙ ap (λ (d : Choice). choice_from d (i + 1) (at + g.size) (drop (i + 1) (entries_of p)) v) k
+      ∙ ap (λ (d : Option Chosen). choice_from d (i + 1) (at + g.size) (drop (i + 1) (entries_of p)) v) k
       ∙ ap (λ (t : ℕ). choice_from c (i + 1) t (drop (i + 1) (entries_of p)) v) (sym g.ends)
 
   -- it does not target the variable: a walk may leave it out
@@ -133,10 +134,10 @@ module _ (p : Bytes) (v : Variable) (i at end : ℕ) (w : At p i at) (g : Hand p
       on_kept l eb ei ea =
           rw (eb, ei, ea) (inv ∙ on (as_choice b bi ba) (as_choice b bi ba) (not_lower v entry entry_formed b bi ba i at most r spoken l) ∙ f (as_choice b bi ba))
 
-    pub on_zero : r ≡ 0 → 0 < b → Chosen i at r ≡ choice_of (entries_of p) v
+    pub on_zero : r ≡ 0 → 0 < b → chosen_at i at r ≡ choice_of (entries_of p) v
     on_zero y l =
-        let f : as_choice r i at ≡ Chosen i at 0 = sym (as_choice-some r i at (λ x. omega arith)) ∙ ap (Chosen i at) y in
-        ap (Chosen i at) y
+        let f : as_choice r i at ≡ chosen_at i at 0 = sym (as_choice-some r i at (λ x. omega arith)) ∙ ap (chosen_at i at) y in
+        ap (chosen_at i at) y
         ∙ sym (lowered (omega arith)
-        ∙ ap (λ (d : Choice). choice_from d (i + 1) end (drop (i + 1) (entries_of p)) v) f
+        ∙ ap (λ (d : Option Chosen). choice_from d (i + 1) end (drop (i + 1) (entries_of p)) v) f
         ∙ choice_zero i at (i + 1) end (drop (i + 1) (entries_of p)) v)

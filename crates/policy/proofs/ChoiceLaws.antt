@@ -1,9 +1,10 @@
 -- The choice with its place is the chosen entry of the list. Assumes nothing.
-use Rattle.std.specs.Prelude.{ℕ, suc, ◌+◌, ◌≤◌, ◌<◌, ◌≡◌, refl, Bool, true, false, cond, length, take, ltb}
+use Rattle.std.specs.Prelude.{ℕ, suc, ◌+◌, ◌≤◌, ◌<◌, ◌≡◌, refl, Bool, true, false, cond, length, take, ltb, Option, Some, None}
 use Rattle.std.proofs.Common.{sym, ◌∙◌, subst, arith, length-append, length-drop, take-append-drop, drop_at, take_at}
 use Rattle.std.proofs.Math.Path.{ap}
 use mathlib.Core.List.{List, [], ◌∷◌, ◌++◌, append_assoc}
-use Rattle.std.proofs.Math.Option.{Option, none, some}
+use Rattle.std.proofs.Math.Option as maybe
+use Rattle.std.proofs.Math.Option.{none, some}
 use Rattle.std.proofs.Math.ListN.{drop}
 use Rattle.std.proofs.Math.Seq.{take-append_seam, drop-append_seam, drop-append-add}
 use Rattle.limits.specs.Limits.{size_at}
@@ -19,11 +20,10 @@ use Rattle.slices.proofs.ChunksLaws.{flat_append, flat_one, flat_chunks}
 use Rattle.names.specs.Name.{Variable}
 use Rattle.entry.specs.Entry.{well_formed, targets, rank}
 use Rattle.entry.proofs.EntryLaws.{sized}
-use Rattle.policy.specs.declared.Choice.{Choice}
-use Rattle.policy.specs.declared.Choice.TheVariants.{Chosen, Nothing}
+use Rattle.policy.specs.declared.Chosen.{Chosen}
 use Rattle.policy.specs.Policy.{entry_length, entries_of, sizes_sum}
 use Rattle.policy.proofs.PolicyLaws.{entry_length-within, entries_of-formed}
-use Rattle.policy.specs.Choice.{chosen, beats, better, choice_from, choice_of}
+use Rattle.policy.specs.Choice.{chosen, chosen_at, beats, better, choice_from, choice_of}
 
 -- e is the entry at index i of the list, its first byte is at, its rank r, and it targets the variable
 pub record Place (es : List Bytes) (v : Variable) (i at r : ℕ) (e : Bytes) : Type 0 where
@@ -33,11 +33,11 @@ pub record Place (es : List Bytes) (v : Variable) (i at r : ℕ) (e : Bytes) : T
   pub target : targets e v ≡ true
 
 -- a choice with its place says what the choice says
-abbrev pub Agrees : List Bytes → Variable → Choice → Option Bytes → Type 0
-Agrees es v Nothing none = Unit
-Agrees es v Nothing (some e) = ⊥
-Agrees es v (Chosen i at r) none = ⊥
-Agrees es v (Chosen i at r) (some e) = Place es v i at r e
+abbrev pub Agrees : List Bytes → Variable → Option Chosen → maybe.Option Bytes → Type 0
+Agrees es v None none = Unit
+Agrees es v None (some e) = ⊥
+Agrees es v (Some x) none = ⊥
+Agrees es v (Some x) (some e) = Place es v x.index x.at x.rank e
 
 here : (pre : List Bytes) (e : Bytes) (es : List Bytes) (v : Variable) → targets e v ≡ true → Place (pre ++ (e ∷ es)) v (length pre) (length (flat pre)) (rank e) e
 here pre e es v t = record {
@@ -47,28 +47,28 @@ here pre e es v t = record {
   target = t;
 }
 
-abbrev next : (v : Variable) → Option Bytes → Bytes → Bool → Option Bytes
+abbrev next : (v : Variable) → maybe.Option Bytes → Bytes → Bool → maybe.Option Bytes
 next v o e t = lists.better rank (λ x. targets x v) o e t
 
-step : (pre : List Bytes) (e : Bytes) (es : List Bytes) (v : Variable) (c : Choice) (o : Option Bytes) → Agrees (pre ++ (e ∷ es)) v c o
+step : (pre : List Bytes) (e : Bytes) (es : List Bytes) (v : Variable) (c : Option Chosen) (o : maybe.Option Bytes) → Agrees (pre ++ (e ∷ es)) v c o
     → Agrees (pre ++ (e ∷ es)) v (better c (length pre) (length (flat pre)) e v) (next v o e (targets e v))
 unfolding better ◌and◌
 step pre e es v c o a = go c o a (targets e v) refl
   where
-    old : (i at r : ℕ) (b : Bytes) → Place (pre ++ (e ∷ es)) v i at r b → targets e v ≡ true → (s : Bool)
-        → Agrees (pre ++ (e ∷ es)) v (cond s (Chosen (length pre) (length (flat pre)) (rank e)) (Chosen i at r)) (lists.lower rank (λ x. targets x v) b e s)
-    old i at r b p t true = here pre e es v t
-    old i at r b p t false = p
+    old : (x : Chosen) (b : Bytes) → Place (pre ++ (e ∷ es)) v x.index x.at x.rank b → targets e v ≡ true → (s : Bool)
+        → Agrees (pre ++ (e ∷ es)) v (cond s (chosen_at (length pre) (length (flat pre)) (rank e)) (Some x)) (lists.lower rank (λ x. targets x v) b e s)
+    old x b p t true = here pre e es v t
+    old x b p t false = p
 
-    go : (c : Choice) (o : Option Bytes) → Agrees (pre ++ (e ∷ es)) v c o → (t : Bool) → targets e v ≡ t
-        → Agrees (pre ++ (e ∷ es)) v (cond (t and beats (rank e) c) (Chosen (length pre) (length (flat pre)) (rank e)) c) (next v o e t)
+    go : (c : Option Chosen) (o : maybe.Option Bytes) → Agrees (pre ++ (e ∷ es)) v c o → (t : Bool) → targets e v ≡ t
+        → Agrees (pre ++ (e ∷ es)) v (cond (t and beats (rank e) c) (chosen_at (length pre) (length (flat pre)) (rank e)) c) (next v o e t)
     go c o a false f = a
-    go Nothing none a true f = here pre e es v f
-    go Nothing (some b) a true f = absurd a
-    go (Chosen i at r) none a true f = absurd a
-    go (Chosen i at r) (some b) a true f = rw a.ranks (old i at r b a f (ltb (rank e) r))
+    go None none a true f = here pre e es v f
+    go None (some b) a true f = absurd a
+    go (Some x) none a true f = absurd a
+    go (Some x) (some b) a true f = rw a.ranks (old x b a f (ltb (rank e) x.rank))
 
-agrees : (pre es : List Bytes) (v : Variable) (c : Choice) (o : Option Bytes) → Agrees (pre ++ es) v c o
+agrees : (pre es : List Bytes) (v : Variable) (c : Option Chosen) (o : maybe.Option Bytes) → Agrees (pre ++ es) v c o
     → Agrees (pre ++ es) v (choice_from c (length pre) (length (flat pre)) es v) (lists.best rank (λ x. targets x v) o es)
 unfolding choice_from
 agrees pre [] v c o a = a
@@ -82,13 +82,13 @@ agrees pre (e ∷ es) v c o a =
 
 pub choice_agrees : (es : List Bytes) (v : Variable) → Agrees es v (choice_of es v) (chosen es v)
 unfolding chosen flat
-choice_agrees es v = agrees [] es v Nothing none tt
+choice_agrees es v = agrees [] es v None none tt
 
 -- ---- nothing is chosen exactly if no entry is
-pub choice_none : (es : List Bytes) (v : Variable) → choice_of es v ≡ Nothing → chosen es v ≡ none
+pub choice_none : (es : List Bytes) (v : Variable) → choice_of es v ≡ None → chosen es v ≡ none
 choice_none es v e = go (chosen es v) (rw e at (choice_agrees es v))
   where
-    go : (o : Option Bytes) → Agrees es v Nothing o → o ≡ none
+    go : (o : maybe.Option Bytes) → Agrees es v None o → o ≡ none
     go none a = refl
     go (some b) a = absurd a
 
@@ -98,10 +98,10 @@ pub record Speaks (es : List Bytes) (v : Variable) (i at r : ℕ) : Type 0 where
   pub is : chosen es v ≡ some entry
   pub place : Place es v i at r entry
 
-pub choice_some : (es : List Bytes) (v : Variable) (i at r : ℕ) → choice_of es v ≡ Chosen i at r → Speaks es v i at r
-choice_some es v i at r e = go (chosen es v) refl (rw e at (choice_agrees es v))
+pub choice_some : (es : List Bytes) (v : Variable) (x : Chosen) → choice_of es v ≡ Some x → Speaks es v x.index x.at x.rank
+choice_some es v x e = go (chosen es v) refl (rw e at (choice_agrees es v))
   where
-    go : (o : Option Bytes) → chosen es v ≡ o → Agrees es v (Chosen i at r) o → Speaks es v i at r
+    go : (o : maybe.Option Bytes) → chosen es v ≡ o → Agrees es v (Some x) o → Speaks es v x.index x.at x.rank
     go none q a = absurd a
     go (some b) q a = record { entry = b; is = q; place = a }
 
@@ -161,6 +161,6 @@ module _ (p : Bytes) (v : Variable) (i at r : ℕ) (e : Bytes) (k : Place (entri
 pub chosen_in_bytes : (p : Bytes) (v : Variable) (e : Bytes) → AreBytes p → chosen (entries_of p) v ≡ some e → AreBytes e
 chosen_in_bytes p v e h k = go (choice_of (entries_of p) v) (rw k at (choice_agrees (entries_of p) v))
   where
-    go : (c : Choice) → Agrees (entries_of p) v c (some e) → AreBytes e
-    go Nothing a = absurd a
-    go (Chosen i at r) a = subst AreBytes (chosen_entry_lem p v i at r e a) (bytes_part at _ p h)
+    go : (c : Option Chosen) → Agrees (entries_of p) v c (some e) → AreBytes e
+    go None a = absurd a
+    go (Some x) a = subst AreBytes (chosen_entry_lem p v x.index x.at x.rank e a) (bytes_part x.at _ p h)

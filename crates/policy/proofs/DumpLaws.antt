@@ -1,14 +1,15 @@
 -- The bytes of a dump and its list of entries determine each other: `dump_flat`, `entries_of-flat`; which lists these are: `dump_exactly`. A dump is a record of
 -- just its own length.
 -- Assumes nothing.
-use Rattle.std.specs.Prelude.{ℕ, ◌≤◌, ◌<◌, ◌≡◌, refl, ◌↔◌, Bool, true, false, cond}
+use Rattle.std.specs.Prelude.{ℕ, ◌≤◌, ◌<◌, ◌≡◌, refl, ◌↔◌, Bool, true, false, Some, None, leb}
 use Rattle.std.proofs.Common.{sym, subst, ◌∙◌, arith, take_all}
-use Rattle.std.proofs.Math.Path.{ap}
+use Rattle.std.proofs.Math.Path.{ap, ap₂}
+use Rattle.std.specs.Bool.{then_some}
 use mathlib.Core.List.{List, [], append-nil}
 use Rattle.std.proofs.lemmas.Bool.{false≢true}
 use Rattle.std.proofs.Math.ListN.{length, drop}
 use Rattle.std.proofs.Math.Seq.{drop-length}
-use borrow.Author.Tests.{eq-eqb, le-leb, lt-leb, eqb-true, leb-true}
+use borrow.Author.Tests.{eq-eqb, le-leb, lt-leb, eqb-true, leb-true, leb-false}
 use Rattle.limits.specs.Limits.{max_entries, policy_bytes}
 use Rattle.slices.specs.Test.{◌and◌}
 use Rattle.slices.proofs.TestLaws.{and_left, and_right, and_intro, forced_off}
@@ -17,9 +18,9 @@ use Rattle.slices.specs.Chunks.{flat}
 use Rattle.slices.proofs.ChunksLaws.{All, flat_chunks, chunks_flat}
 use Rattle.entry.specs.Entry.{well_formed}
 use Rattle.entry.proofs.EntryLaws.{well_formed_header}
-use Rattle.policy.specs.declared.PolicyCheck.TheVariants.{Valid, Invalid}
-use Rattle.policy.specs.Policy.{entry_length, entries_of, sizes_sum, valid_within}
-use Rattle.policy.proofs.PolicyLaws.{WellFormed, Entries, CheckedWithin, length_by-within, entry_length-within, entry_length-short, items_by, entries_of-formed, sizes_sum-flat, sizes_sum-within}
+use Rattle.policy.specs.declared.Extent.{Extent}
+use Rattle.policy.specs.Policy.{entry_length, entries_of, sizes_sum, extent_of, valid_within}
+use Rattle.policy.proofs.PolicyLaws.{WellFormed, Entries, CheckedWithin, then_tells, then_denies, length_by-within, entry_length-within, entry_length-short, items_by, entries_of-formed, sizes_sum-flat, sizes_sum-within}
 use Rattle.policy.specs.Dump.{dump_valid, dump_check}
 
 module _ (d : Bytes) (v : dump_valid d ≡ true) where
@@ -89,31 +90,28 @@ module _ (d : Bytes) where
       (and_intro _ _ (eq-eqb _ _ sum) (and_right _ _ (and_right _ _ few))))
 
   -- the check's answer, and what is promised of a dump
-  pub dump_refused_lem : {A : Type 0} → dump_valid d ≡ false → (Invalid ≡ dump_check d) × (dump_valid d ≡ true → A)
+  pub dump_refused_lem : {A : Type 0} → dump_valid d ≡ false → (None ≡ dump_check d) × (dump_valid d ≡ true → A)
   unfolding dump_check
   dump_refused_lem e = (rw e, λ v. absurd (false≢true (sym e ∙ v)))
 
-  pub dump_granted_lem : {A : Type 0} {count total : ℕ} → CheckedWithin (length d) d count total → dump_valid d ≡ true → A → (Valid count total ≡ dump_check d) × (dump_valid d ≡ true → A)
-  unfolding dump_check
-  dump_granted_lem k e a = (rw (e, k.counted, k.summed), λ v. a)
+  module _ {x : Extent} (l : length d ≤ policy_bytes) (k : CheckedWithin (length d) d x.count x.used) where
+    told : (t : Bool) → leb (length d) x.used ≡ t → t ≡ dump_valid d
+    told true q = sym (dump_good l k.valid (omega (arith, k.summed, leb-true (length d) x.used q)))
+    told false q = sym (dump_behind (omega (arith, k.summed, leb-false (length d) x.used q)))
+
+    pub dump_checked_lem : then_some (leb (length d) x.used) x ≡ dump_check d
+    unfolding dump_check
+    dump_checked_lem = ap₂ then_some (told _ refl) (ap₂ (λ (n m : ℕ). record { count = n; used = m }) k.counted k.summed)
 
 -- what the check's answer tells
 pub record DumpChecked (d : Bytes) (count : ℕ) : Type 0 where
   pub valid : dump_valid d ≡ true
   pub counted : count ≡ length (entries_of d)
 
-pub dump_check_valid : (d : Bytes) (count total : ℕ) → dump_check d ≡ Valid count total → DumpChecked d count
+pub dump_check_valid : (d : Bytes) (x : Extent) → dump_check d ≡ Some x → DumpChecked d x.count
 unfolding dump_check
-dump_check_valid d count total e = go (dump_valid d) refl e
-  where
-    go : (t : Bool) → dump_valid d ≡ t → cond t (Valid (length (entries_of d)) (sizes_sum d)) Invalid ≡ Valid count total → DumpChecked d count
-    go true q k = let a : length (entries_of d) ≡ count = cc in record { valid = q; counted = sym a }
-    go false q k = absurd (let z : ◌≡◌ {A = ℕ} 0 1 = cc in omega arith)
+dump_check_valid d x e = let k = then_tells _ (extent_of d) x e in record { valid = k.0; counted = ap (λ (y : Extent). y.count) (sym k.1) }
 
-pub dump_check_invalid : (d : Bytes) → dump_check d ≡ Invalid → dump_valid d ≡ false
+pub dump_check_invalid : (d : Bytes) → dump_check d ≡ None → dump_valid d ≡ false
 unfolding dump_check
-dump_check_invalid d e = go (dump_valid d) refl e
-  where
-    go : (t : Bool) → dump_valid d ≡ t → cond t (Valid (length (entries_of d)) (sizes_sum d)) Invalid ≡ Invalid → dump_valid d ≡ false
-    go true q k = absurd (let z : ◌≡◌ {A = ℕ} 0 1 = cc in omega arith)
-    go false q k = q
+dump_check_invalid d e = then_denies _ (extent_of d) e

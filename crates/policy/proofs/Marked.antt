@@ -2,7 +2,7 @@
 use Prim.Native.Nat.{ℕ, ◌+◌, ◌≤◌, ◌<◌}
 use mathlib.Core.Path.{◌≡◌, refl, sym, ap, subst, ◌∙◌}
 use mathlib.Core.List.{List, [], ◌∷◌, ◌++◌, append_assoc}
-use mathlib.Core.Bool.{Bool, true, false, ◌||◌, cond, false≢true}
+use mathlib.Core.Bool.{Bool, true, false, ◌||◌, false≢true}
 use native.Mathlib.Omega.{arith}
 use lib.ListN.{length, get_or, take, drop, set, length-set}
 use lib.Seq.{get_or-set_same, get_or-set_other}
@@ -18,8 +18,9 @@ use Rattle.slices.specs.Chunks.{flat, contains, distinct}
 use Rattle.slices.proofs.ItemsLaws.{or_off, or_right_off, contains_append, contains_one, distinct_apart, distinct_left, distinct_append}
 use Rattle.entry.specs.Entry.{name_of, well_formed, same_target}
 use Rattle.entry.proofs.EntryLaws.{namespace_start, same_target-sym, same_target-alike}
-use Rattle.policy.specs.declared.PolicyCheck.{PolicyCheck}
-use Rattle.policy.specs.declared.PolicyCheck.TheVariants.{Valid, Invalid}
+use Rattle.policy.specs.declared.Extent.{Extent}
+use Rattle.std.specs.Prelude.{Option, None}
+use Rattle.std.specs.Bool.{then_some}
 use Rattle.policy.specs.Policy.{entry_length, entries_of, sizes_sum, valid_within, check_within, policy_check}
 use Rattle.policy.proofs.PolicyLaws.{within_invalid}
 use Rattle.policy.specs.Filter.{key_at, key_of, slot_of, fingerprint_of, Marks, marks_with}
@@ -72,7 +73,7 @@ module _ (bytes : ℕ) (p : Bytes) where
   abbrev valid : Bool
   valid = valid_within well_formed max_entries bytes p
 
-  pub invalid : valid ≡ false → Invalid ≡ check_within bytes p
+  pub invalid : valid ≡ false → None ≡ check_within bytes p
   unfolding check_within
   invalid e = rw e
 
@@ -84,7 +85,7 @@ module _ (bytes : ℕ) (p : Bytes) where
   unfolding valid_within
   double h = rw (h, and_no (all_are 0 (drop (sizes_sum p) p)), and_no (leb (length (entries_of p)) max_entries)) (and_no (eqb (length p) bytes))
 
-pub invalid_length : (p : Bytes) → (length p ≡ policy_bytes → ⊥) → Invalid ≡ policy_check p
+pub invalid_length : (p : Bytes) → (length p ≡ policy_bytes → ⊥) → None ≡ policy_check p
 unfolding check_within valid_within ◌and◌
 invalid_length p h = rw (ne_eqb (length p) policy_bytes h)
 
@@ -119,14 +120,14 @@ unfolding distinct
 checked_start p t m = record { walk = at_start p; few = omega arith; apart = refl; filter = m }
 
 module _ (p : Bytes) (t : Bytes) (i at n : ℕ) (w : Checked p t i at) (e : entry_length (drop at p) ≡ n) where
-  pub too_many_lem : 0 < n → i ≡ max_entries → Invalid ≡ check_within (length p) p
+  pub too_many_lem : 0 < n → i ≡ max_entries → None ≡ check_within (length p) p
   too_many_lem h k = invalid (length p) p (many (length p) p (omega (arith, more_left p i at w.walk n e h)))
 
   module _ {r : Bool} (k : r ≡ contains (same_target (part at (at + n) p)) (take i (entries_of p))) where
     met : r ≡ contains (same_target (take n (drop at p))) (take i (entries_of p))
     met = rw part_of at k
 
-    pub met_before : 0 < n → r ≡ true → Invalid ≡ check_within (length p) p
+    pub met_before : 0 < n → r ≡ true → None ≡ check_within (length p) p
     met_before h z =
         invalid (length p) p
         (double (length p) p
@@ -153,7 +154,7 @@ module _ (p : Bytes) (t : Bytes) (i at n : ℕ) (w : Checked p t i at) (e : entr
         let d : distinct same_target (entries_of p) ≡ true = ap (distinct same_target) (all_met p i at w.walk k) ∙ w.apart in
         rw (eq-eqb (length p) (length p) refl, d, sum_met p i at w.walk k, count_met p i at w.walk k, le-leb i max_entries w.few) (and_yes (all_are 0 (drop at p)))
 
-    pub checked_end : {r : Bool} → r ≡ all_are 0 (drop at p) → check_within (length p) p ≡ cond r (Valid i at) Invalid
+    pub checked_end : {r : Bool} → r ≡ all_are 0 (drop at p) → check_within (length p) p ≡ then_some r (record { count = i; used = at })
     unfolding check_within
     checked_end k = rw (valid_is, ← k, sum_met p i at w.walk (e ∙ z), count_met p i at w.walk (e ∙ z))
 
@@ -163,11 +164,11 @@ module _ (p : Bytes) (t : Bytes) (i at n : ℕ) (w : Checked p t i at) (e : entr
         record { few = omega (arith, c, w.few); end = λ k h. m.noted k (omega (arith, c)) }
 
 -- of what is not valid nothing was promised
-pub invalid_promise : {A : Type 0} (bytes : ℕ) (p : Bytes) → Invalid ≡ check_within bytes p → valid_within well_formed max_entries bytes p ≡ true → A
+pub invalid_promise : {A : Type 0} (bytes : ℕ) (p : Bytes) → None ≡ check_within bytes p → valid_within well_formed max_entries bytes p ≡ true → A
 invalid_promise bytes p e v = absurd (false≢true (sym (within_invalid bytes p (sym e)) ∙ v))
 
 -- what holds of a record of just its own length, where that is the right one
-pub of_length : {r : PolicyCheck} {A : Type 0} (n : ℕ) (p : Bytes) → length p ≡ n
+pub of_length : {r : Option Extent} {A : Type 0} (n : ℕ) (p : Bytes) → length p ≡ n
     → (r ≡ check_within (length p) p) × (valid_within well_formed max_entries (length p) p ≡ true → A)
     → (r ≡ check_within n p) × (valid_within well_formed max_entries n p ≡ true → A)
 of_length {r} {A} n p e h = subst (λ (m : ℕ). (r ≡ check_within m p) × (valid_within well_formed max_entries m p ≡ true → A)) e h

@@ -1,7 +1,7 @@
 -- The place of an entry in a list: of the chosen entry it is how many stand before it, and the one that the choice with its place has.
 -- Assumes nothing.
 use Prim.Native.Nat.{ℕ, suc, ◌+◌, ◌≤◌, ◌<◌}
-use Rattle.std.specs.Prelude.{◌≡◌, Bool, cond, get_or}
+use Rattle.std.specs.Prelude.{◌≡◌, Bool, Option, Some, None, cond, get_or}
 use Rattle.std.proofs.Math.Path.{refl, ap, ap₂, subst⁻¹}
 use Rattle.std.proofs.Common.{sym, subst, ◌∙◌, inl, inr, zero-add}
 use mathlib.Core.List.{List, [], ◌∷◌, ◌++◌}
@@ -22,9 +22,8 @@ use Rattle.slices.proofs.BytesLaws.{same_eq, same_refl, same_of}
 use Rattle.slices.specs.Chunks.{flat}
 use Rattle.names.specs.Name.{Variable}
 use Rattle.entry.specs.Entry.{targets, rank}
-use Rattle.policy.specs.declared.Choice.{Choice}
-use Rattle.policy.specs.declared.Choice.TheVariants.{Chosen, Nothing}
-use Rattle.policy.specs.Choice.{chosen, place_of, beats, better, choice_from, choice_of}
+use Rattle.policy.specs.declared.Chosen.{Chosen}
+use Rattle.policy.specs.Choice.{chosen, chosen_at, place_of, beats, better, choice_from, choice_of}
 
 -- ---- the place of an entry
 
@@ -61,12 +60,12 @@ module _ (v : Variable) (e : Bytes) where
       ∙ place_behind c.before e c.after (all_map (λ x h k. let t = subst⁻¹ (λ y. targets y v ≡ true) k c.target in let q = ap rank k in let l = h t in omega arith) c.before c.first)
 
   -- while the entries before it are walked over, the best so far stays worse than it
-  record Walked (xs rest : List Bytes) (best : Choice) (k at : ℕ) : Type 0 where
-    left : Choice
+  record Walked (xs rest : List Bytes) (best : Option Chosen) (k at : ℕ) : Type 0 where
+    left : Option Chosen
     worse : beats (rank e) left ≡ true
     same : choice_from best k at (xs ++ rest) v ≡ choice_from left (k + length xs) (at + length (flat xs)) rest v
 
-  before : (xs rest : List Bytes) (best : Choice) (k at : ℕ) → beats (rank e) best ≡ true → All (λ x. targets x v ≡ true → rank e < rank x) xs → Walked xs rest best k at
+  before : (xs rest : List Bytes) (best : Option Chosen) (k at : ℕ) → beats (rank e) best ≡ true → All (λ x. targets x v ≡ true → rank e < rank x) xs → Walked xs rest best k at
   unfolding choice_from flat better ◌and◌
   before [] rest best k at b h =
       let m : k ≡ k + 0 = omega arith in
@@ -77,39 +76,39 @@ module _ (v : Variable) (e : Bytes) where
       let n : at + length x + length (flat xs) ≡ at + length (x ++ flat xs) = let l = length-append x (flat xs) in omega arith in
       record { left = w.left; worse = w.worse; same = w.same ∙ ap₂ (λ (i j : ℕ). choice_from w.left i j rest v) m n }
     where
-      kept : (t : Bool) → rank e < rank x → beats (rank e) (cond t (Chosen k at (rank x)) best) ≡ true
+      kept : (t : Bool) → rank e < rank x → beats (rank e) (cond t (chosen_at k at (rank x)) best) ≡ true
       kept true l = lt-ltb (rank e) (rank x) l
       kept false l = b
 
-      next : (t : Bool) → targets x v ≡ t → beats (rank e) (cond (t and beats (rank x) best) (Chosen k at (rank x)) best) ≡ true
+      next : (t : Bool) → targets x v ≡ t → beats (rank e) (cond (t and beats (rank x) best) (chosen_at k at (rank x)) best) ≡ true
       next false f = b
       next true f = kept (beats (rank x) best) (q f)
 
   -- what comes behind it does not rank lower
-  after : (ys : List Bytes) (i a r k at : ℕ) → All (λ x. targets x v ≡ true → r ≤ rank x) ys → choice_from (Chosen i a r) k at ys v ≡ Chosen i a r
+  after : (ys : List Bytes) (i a r k at : ℕ) → All (λ x. targets x v ≡ true → r ≤ rank x) ys → choice_from (chosen_at i a r) k at ys v ≡ chosen_at i a r
   unfolding choice_from better ◌and◌
   after [] i a r k at h = refl
   after (x ∷ ys) i a r k at (more q h) = go (targets x v) refl (after ys i a r (k + 1) (at + length x) h)
     where
-      go : (t : Bool) → targets x v ≡ t → choice_from (Chosen i a r) (k + 1) (at + length x) ys v ≡ Chosen i a r
-          → choice_from (cond (t and ltb (rank x) r) (Chosen k at (rank x)) (Chosen i a r)) (k + 1) (at + length x) ys v ≡ Chosen i a r
+      go : (t : Bool) → targets x v ≡ t → choice_from (chosen_at i a r) (k + 1) (at + length x) ys v ≡ chosen_at i a r
+          → choice_from (cond (t and ltb (rank x) r) (chosen_at k at (rank x)) (chosen_at i a r)) (k + 1) (at + length x) ys v ≡ chosen_at i a r
       go false f e = e
       go true f e = rw (forced_off (ltb (rank x) r) (λ u. absurd (let l = ltb-true (rank x) r u in let m = q f in omega arith))) e
 
-  chosen_choice : (es : List Bytes) (c : IsChosen es) → choice_of es v ≡ Chosen (0 + length c.before) (0 + length (flat c.before)) (rank e)
+  chosen_choice : (es : List Bytes) (c : IsChosen es) → choice_of es v ≡ chosen_at (0 + length c.before) (0 + length (flat c.before)) (rank e)
   unfolding choice_from better ◌and◌
   chosen_choice es c =
-      let w = before c.before (e ∷ c.after) Nothing 0 0 refl c.first in
+      let w = before c.before (e ∷ c.after) None 0 0 refl c.first in
       ap (λ l. choice_of l v) c.place ∙ w.same
       ∙ rw (c.target, w.worse) (after c.after _ _ (rank e) _ _ (all_rest (all_right c.before (e ∷ c.after) (subst (All _) c.place c.lowest))))
 
 -- the place that the choice has
-abbrev index_in : Choice → ℕ
-index_in Nothing = 0
-index_in (Chosen i at r) = i
+abbrev index_in : Option Chosen → ℕ
+index_in None = 0
+index_in (Some x) = x.index
 
-pub choice_place : (es : List Bytes) (v : Variable) (e : Bytes) (i at r : ℕ) → chosen es v ≡ some e → choice_of es v ≡ Chosen i at r → place_of es e ≡ i
+pub choice_place : (es : List Bytes) (v : Variable) (e : Bytes) (x : Chosen) → chosen es v ≡ some e → choice_of es v ≡ Some x → place_of es e ≡ x.index
 unfolding chosen
-choice_place es v e i at r h k =
+choice_place es v e x h k =
     let c = lists.chosen_some rank (λ x. targets x v) es e h in
     chosen_place v e es c ∙ sym (zero-add (length c.before)) ∙ ap index_in (sym (chosen_choice v e es c) ∙ k)

@@ -32,8 +32,11 @@ use Rattle.slices.proofs.ChunksLaws.{
 use Rattle.slices.proofs.ItemsLaws.{distinct_append}
 use Rattle.entry.specs.Entry.{size_field, header_ok, well_formed, same_target}
 use Rattle.entry.proofs.EntryLaws.{sized, header_least, header_stated, well_formed_header, same_target-sym, same_target-alike}
-use Rattle.policy.specs.declared.PolicyCheck.TheVariants.{Valid, Invalid}
-use Rattle.policy.specs.Policy.{length_by, entry_length, entries_of, sizes_sum, pack_policy, valid_within, policy_valid, check_within, policy_check}
+use Rattle.policy.specs.declared.Extent.{Extent}
+use Rattle.std.specs.Prelude.{Some, None}
+use Rattle.std.specs.Bool.{then_some}
+use Rattle.std.proofs.lemmas.Option.{same_Some, none-some}
+use Rattle.policy.specs.Policy.{length_by, entry_length, entries_of, sizes_sum, pack_policy, valid_within, policy_valid, check_within, policy_check, extent_of}
 
 -- no byte of a list of zeros is another
 get_d-zeros : (k i : ℕ) → ◌≡◌ {A = ℕ} (get_or (replicate k 0) i 0) 0
@@ -236,31 +239,29 @@ pub record CheckedWithin (bytes : ℕ) (p : Bytes) (count total : ℕ) : Type 0 
 abbrev pub Checked : Bytes → ℕ → ℕ → Type 0
 Checked p count total = CheckedWithin policy_bytes p count total
 
-pub within_valid : (bytes : ℕ) (p : Bytes) (count total : ℕ) → check_within bytes p ≡ Valid count total → CheckedWithin bytes p count total
-unfolding check_within
-within_valid bytes p count total e = go (valid_within well_formed max_entries bytes p) refl e
-  where
-    go : (t : Bool) → valid_within well_formed max_entries bytes p ≡ t → cond t (Valid (length (entries_of p)) (sizes_sum p)) Invalid ≡ Valid count total
-        → CheckedWithin bytes p count total
-    go true q k =
-        let a : length (entries_of p) ≡ count = cc in
-        let b : sizes_sum p ≡ total = cc in
-        record { valid = q; counted = sym a; summed = sym b }
-    go false q k = absurd (let z : ◌≡◌ {A = ℕ} 0 1 = cc in omega arith)
+-- what was answered after a test tells the test
+pub then_tells : {A : Type 0} (b : Bool) (x y : A) → then_some b x ≡ Some y → (b ≡ true) × (x ≡ y)
+then_tells true x y e = (refl, same_Some x y e)
+then_tells false x y e = absurd (none-some y e)
 
-pub within_invalid : (bytes : ℕ) (p : Bytes) → check_within bytes p ≡ Invalid → valid_within well_formed max_entries bytes p ≡ false
-unfolding check_within
-within_invalid bytes p e = go (valid_within well_formed max_entries bytes p) refl e
-  where
-    go : (t : Bool) → valid_within well_formed max_entries bytes p ≡ t → cond t (Valid (length (entries_of p)) (sizes_sum p)) Invalid ≡ Invalid
-        → valid_within well_formed max_entries bytes p ≡ false
-    go true q k = absurd (let z : ◌≡◌ {A = ℕ} 0 1 = cc in omega arith)
-    go false q k = q
+pub then_denies : {A : Type 0} (b : Bool) (x : A) → then_some b x ≡ None → b ≡ false
+then_denies true x e = absurd (none-some x (sym e))
+then_denies false x e = refl
 
-pub check_valid : (p : Bytes) (count total : ℕ) → policy_check p ≡ Valid count total → Checked p count total
+pub within_valid : (bytes : ℕ) (p : Bytes) (x : Extent) → check_within bytes p ≡ Some x → CheckedWithin bytes p x.count x.used
+unfolding check_within
+within_valid bytes p x e =
+    let k = then_tells _ (extent_of p) x e in
+    record { valid = k.0; counted = ap (λ (y : Extent). y.count) (sym k.1); summed = ap (λ (y : Extent). y.used) (sym k.1) }
+
+pub within_invalid : (bytes : ℕ) (p : Bytes) → check_within bytes p ≡ None → valid_within well_formed max_entries bytes p ≡ false
+unfolding check_within
+within_invalid bytes p e = then_denies _ (extent_of p) e
+
+pub check_valid : (p : Bytes) (x : Extent) → policy_check p ≡ Some x → Checked p x.count x.used
 check_valid = within_valid policy_bytes
 
-pub check_invalid : (p : Bytes) → policy_check p ≡ Invalid → policy_valid p ≡ false
+pub check_invalid : (p : Bytes) → policy_check p ≡ None → policy_valid p ≡ false
 check_invalid = within_invalid policy_bytes
 
 -- ---- one entry more

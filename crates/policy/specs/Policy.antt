@@ -1,13 +1,13 @@
 -- The policy record (RULES.md, 7): `policy_bytes` of well-formed entries, no two for one namespace and name, and zeros behind them.
 -- Assumes nothing: these are definitions.
-use Rattle.std.specs.Prelude.{ℕ, List, [], Bool, cond, length, take, drop, eqb, leb}
+use Rattle.std.specs.Prelude.{ℕ, List, [], Bool, Option, cond, length, take, drop, eqb, leb}
+use Rattle.std.specs.Bool.{then_some}
 use Rattle.limits.specs.Limits.{max_entries, policy_bytes}
 use Rattle.slices.specs.Test.{◌and◌}
 use Rattle.slices.specs.Bytes.{Bytes, all_are}
 use Rattle.slices.specs.Chunks.{chunks, used, packed, distinct}
 use Rattle.entry.specs.Entry.{size_field, well_formed, same_target}
-use Rattle.policy.specs.declared.PolicyCheck.{PolicyCheck}
-use Rattle.policy.specs.declared.PolicyCheck.TheVariants.{Valid, Invalid}
+use Rattle.policy.specs.declared.Extent.{Extent}
 
 -- the length of the entry that the bytes begin with, or 0; `ok` tells what a well-formed entry is, and differs between editions
 unfoldable pub length_by : (Bytes → Bool) → Bytes → ℕ
@@ -45,9 +45,13 @@ valid_within ok most bytes p =
 abbrev pub policy_valid : Bytes → Bool
 policy_valid p = valid_within well_formed max_entries policy_bytes p
 
--- what the check answers of bytes that are to be as many as `bytes`
-unfoldable pub check_within : ℕ → Bytes → PolicyCheck
-check_within bytes p = cond (valid_within well_formed max_entries bytes p) (Valid (length (entries_of p)) (sizes_sum p)) Invalid
+-- how many entries, and how many bytes they take
+abbrev pub extent_of : Bytes → Extent
+extent_of p = record { count = length (entries_of p); used = sizes_sum p }
 
-abbrev pub policy_check : Bytes → PolicyCheck
+-- what the check answers of bytes that are to be as many as `bytes`
+unfoldable pub check_within : ℕ → Bytes → Option Extent
+check_within bytes p = then_some (valid_within well_formed max_entries bytes p) (extent_of p)
+
+abbrev pub policy_check : Bytes → Option Extent
 policy_check p = check_within policy_bytes p

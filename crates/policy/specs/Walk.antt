@@ -1,10 +1,10 @@
 -- Where a walk over the entries of a policy record stands, and what it may leave out. Assumes nothing: these are definitions.
-use Rattle.std.specs.Prelude.{ℕ, ◌+◌, ◌≤◌, ◌<◌, ◌≡◌, List, length, get_or, take, drop}
+use Rattle.std.specs.Prelude.{ℕ, ◌+◌, ◌≤◌, ◌<◌, ◌≡◌, List, Option, length, get_or, take, drop}
 use Rattle.limits.specs.Limits.{max_entries}
 use Rattle.slices.specs.Bytes.{Bytes}
 use Rattle.slices.specs.Chunks.{flat}
 use Rattle.names.specs.Name.{Variable}
-use Rattle.policy.specs.declared.Choice.{Choice}
+use Rattle.policy.specs.declared.Chosen.{Chosen}
 use Rattle.policy.specs.Policy.{entries_of}
 use Rattle.policy.specs.Choice.{choice_from}
 
@@ -22,4 +22,4 @@ pub record EntryEnds (ends : List ℕ) (p : Bytes) : Type 0 where
 
 -- whatever is the best so far at index i, the choice is what it becomes from index j on
 abbrev pub Passed : Bytes → Variable → ℕ → ℕ → ℕ → ℕ → Type 0
-Passed p v i at j to = (best : Choice) → choice_from best i at (drop i (entries_of p)) v ≡ choice_from best j to (drop j (entries_of p)) v
+Passed p v i at j to = (best : Option Chosen) → choice_from best i at (drop i (entries_of p)) v ≡ choice_from best j to (drop j (entries_of p)) v

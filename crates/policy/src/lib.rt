@@ -24,22 +24,19 @@ pub const SLOTS: usize = 2048;
 // As many entries as a record may have, for arrays.
 pub const ENTRIES: usize = limits::MAX_ENTRIES;
 
-// What the check of a lent policy record finds: how many entries, and how many bytes they take; or that it is not valid.
+// What the check of a valid policy record finds: how many entries, and how many bytes they take.
 #[derive(Clone, Copy)]
-pub enum PolicyCheck {
-    Valid { count: usize, used: usize },
-    Invalid,
+pub struct Extent {
+    pub count: usize,
+    pub used: usize,
 }
 
-// The chosen entry: its place counted from 0, its first byte in the record and its rank; or none.
+// The chosen entry: its place counted from 0, its first byte in the record and its rank.
 #[derive(Clone, Copy)]
-pub enum Choice {
-    Chosen {
-        index: usize,
-        at: usize,
-        rank: usize,
-    },
-    Nothing,
+pub struct Chosen {
+    pub index: usize,
+    pub at: usize,
+    pub rank: usize,
 }
 
 // Where a walk over the entries stands: at which one, counted from 0, and at which byte.
@@ -187,7 +184,7 @@ fn is_repeated(policy: &[u8], count: usize, e: &[u8], marks: &mut [u8; SLOTS]) -
 }
 
 // The check of entries and then zeros, whatever the length, with a filter that has no entry. Where each entry ends is noted.
-fn scan(policy: &[u8], marks: &mut [u8; SLOTS], ends: &mut [u16; ENTRIES]) -> PolicyCheck
+fn scan(policy: &[u8], marks: &mut [u8; SLOTS], ends: &mut [u16; ENTRIES]) -> Option<Extent>
     requires { (length policy.now ≤ policy_bytes) × Marks marks.old [] × (length ends.old ≡ max_entries) }
     ensures answer { result ≡ check_within (length policy.now) policy.now }
     ensures noted { valid_within well_formed max_entries (length policy.now) policy.now ≡ true
@@ -198,21 +195,18 @@ fn scan(policy: &[u8], marks: &mut [u8; SLOTS], ends: &mut [u16; ENTRIES]) -> Po
     let mut next = entry_length(policy);
     while 0 < next {
         if count == limits::MAX_ENTRIES {
-            return PolicyCheck::Invalid;
+            return None;
         }
         let end = used + next;
         if is_repeated(policy, count, &policy[used..end], marks) {
-            return PolicyCheck::Invalid;
+            return None;
         }
         ends[count] = end as u16;
         count += 1;
         used = end;
         next = entry_length(&policy[used..]);
     }
-    if slices::all_are(&policy[used..], 0) {
-        return PolicyCheck::Valid { count, used };
-    }
-    PolicyCheck::Invalid
+    slices::all_are(&policy[used..], 0).then_some(Extent { count, used })
 }
 
 // A filter that has no entry.
@@ -230,7 +224,7 @@ pub fn no_ends() -> [u16; ENTRIES]
 }
 
 // The same with a filter of its own, which takes its room on the stack for this time alone.
-fn scan_noting(policy: &[u8], ends: &mut [u16; ENTRIES]) -> PolicyCheck
+fn scan_noting(policy: &[u8], ends: &mut [u16; ENTRIES]) -> Option<Extent>
     requires { (length policy.now ≤ policy_bytes) × (length ends.old ≡ max_entries) }
     ensures answer { result ≡ check_within (length policy.now) policy.now }
     ensures noted { valid_within well_formed max_entries (length policy.now) policy.now ≡ true
@@ -241,19 +235,19 @@ fn scan_noting(policy: &[u8], ends: &mut [u16; ENTRIES]) -> PolicyCheck
 }
 
 // The check of a lent policy record (RULES.md, 7), which notes where each entry ends.
-pub fn check_noting(policy: &[u8], ends: &mut [u16; ENTRIES]) -> PolicyCheck
+pub fn check_noting(policy: &[u8], ends: &mut [u16; ENTRIES]) -> Option<Extent>
     requires { length ends.old ≡ max_entries }
     ensures answer { result ≡ policy_check policy.now }
     ensures noted { policy_valid policy.now ≡ true → EntryEnds ends.new policy.now }
 {
     if policy.len() != limits::POLICY_BYTES {
-        return PolicyCheck::Invalid;
+        return None;
     }
     scan_noting(policy, ends)
 }
 
 // The check alone.
-pub fn check(policy: &[u8]) -> PolicyCheck
+pub fn check(policy: &[u8]) -> Option<Extent>
     ensures { result ≡ policy_check policy.now }
 {
     let mut ends = no_ends();
@@ -261,23 +255,16 @@ pub fn check(policy: &[u8]) -> PolicyCheck
 }
 
 // The check of a dump (RULES.md, 10.11), which notes where each entry ends: a record without a length of its own, and nothing behind the entries.
-pub fn check_dump(dump: &[u8], ends: &mut [u16; ENTRIES]) -> PolicyCheck
+pub fn check_dump(dump: &[u8], ends: &mut [u16; ENTRIES]) -> Option<Extent>
     requires { length ends.old ≡ max_entries }
     ensures answer { result ≡ dump_check dump.now }
     ensures noted { dump_valid dump.now ≡ true → EntryEnds ends.new dump.now }
 {
     if limits::POLICY_BYTES < dump.len() {
-        return PolicyCheck::Invalid;
+        return None;
     }
-    match scan_noting(dump, ends) {
-        PolicyCheck::Invalid => PolicyCheck::Invalid,
-        PolicyCheck::Valid { count, used } => {
-            if used < dump.len() {
-                return PolicyCheck::Invalid;
-            }
-            PolicyCheck::Valid { count, used }
-        }
-    }
+    let extent = scan_noting(dump, ends)?;
+    (dump.len() <= extent.used).then_some(extent)
 }
 
 // The entry at index, of those whose ends were noted.
@@ -416,13 +403,11 @@ fn rank_for(e: &[u8], namespace: &[u8; 16], name: &[u8]) -> usize
 }
 
 // The choice of the entry at index whose first byte is at; none where the rank is NO_RANK.
-fn choice_of(rank: usize, index: usize, at: usize) -> Choice
+#[tactic(auto, unfolding(crate::specs::Best::as_choice))]
+fn choice_of(rank: usize, index: usize, at: usize) -> Option<Chosen>
     ensures { result ≡ as_choice rank index at }
 {
-    if rank == limits::NO_RANK {
-        return Choice::Nothing;
-    }
-    Choice::Chosen { index, at, rank }
+    (rank != limits::NO_RANK).then_some(Chosen { index, at, rank })
 }
 
 // The chosen entry for the variable of that namespace and name. The entries were counted, and where they end was noted, when the record
@@ -434,7 +419,7 @@ pub fn choose(
     ends: &[u16; ENTRIES],
     namespace: &[u8; 16],
     name: &[u8],
-) -> Choice
+) -> Option<Chosen>
     requires { (count ≡ length (entries_of policy.now)) × EntryEnds ends.now policy.now }
     ensures { result ≡ choice_of (entries_of policy.now) (variable namespace.now name.now) }
 {
@@ -449,7 +434,7 @@ pub fn choose(
         let end = ends[index] as usize;
         let rank = rank_for(&policy[at..end], namespace, name);
         if rank == 0 {
-            return Choice::Chosen { index, at, rank };
+            return Some(Chosen { index, at, rank });
         }
         if rank < best {
             best = rank;

@@ -14,7 +14,7 @@ ghost use Rattle.policy.specs.Dump.{dump_valid};
 ghost use Rattle.quarrels.specs.Quarrel.{quarrel, quarrel_at, pair_of, quarrels_of, buffer_after};
 ghost use Rattle.quarrels.specs.Group.{groups, group_of, group_at, InGroup, Rises, Chains, Others, front, notes, noted_for, Noted, Skipped};
 
-use policy::{ENTRIES, PolicyCheck};
+use policy::ENTRIES;
 
 // The groups of entries that may quarrel; `specs/Group.antt` has the same for the proofs.
 const GROUPS: usize = 256;
@@ -309,10 +309,10 @@ pub fn quarrels(dump: &[u8], name: &mut [u8; 128]) -> Verdict
     ensures buffer { name.new ≡ buffer_after dump.now name.old }
 {
     let mut ends = policy::no_ends();
-    let PolicyCheck::Valid { count, used } = policy::check_dump(dump, &mut ends) else {
+    let Some(extent) = policy::check_dump(dump, &mut ends) else {
         return Verdict::NoDump;
     };
-    let pair = pair_of(dump, count, &ends);
+    let pair = pair_of(dump, extent.count, &ends);
     let Pair::Places { earlier, later } = pair else {
         return Verdict::NoQuarrel;
     };

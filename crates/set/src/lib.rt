@@ -28,7 +28,6 @@ ghost use Rattle.set.specs.Decided.{decided_by};
 ghost use Rattle.set.specs.Writable.{found_in, Writable};
 
 use entry::{Entry, LockRule, Trigger};
-use policy::Choice;
 use rules::{Decision, Ground, Report};
 use status::Status;
 use store::Found;
@@ -322,14 +321,20 @@ fn report<'a>(
     if !enabled {
         return no_report();
     }
-    let choice = policy::choose(policy, known.count, entry_ends, namespace, name);
-    let Choice::Chosen { index, at, rank } = choice else {
+    let Some(chosen) = policy::choose(policy, known.count, entry_ends, namespace, name) else {
         return no_report();
     };
+    let at = chosen.at;
     let end = at + slices::get16(policy, at + limits::SIZE_AT);
     let e = &policy[at..end];
     let ground = entry_ground(e, nv, vol, known, attributes, payload);
-    report_for(ground, index as u32, rank as u32, e, attributes)
+    report_for(
+        ground,
+        chosen.index as u32,
+        chosen.rank as u32,
+        e,
+        attributes,
+    )
 }
 
 // ---- Steps 5 to 9.

@@ -15,7 +15,6 @@ ghost use Rattle.rules.specs.Settled.{lock_holds_in, settled_in};
 ghost use Rattle.settled.specs.Prepared.{Prepared, Searched};
 
 use entry::{LockRule, Trigger};
-use policy::Choice;
 use stores::Ends;
 
 // The namespace that stands at a place of an entry.
@@ -84,15 +83,10 @@ fn settled<'a>(
     requires { Prepared policy.now count entry_ends.now × Searched nv.now vol.now ends in_nv.now in_vol.now }
     ensures { result ≡ settled_in links (chosen (entries_of policy.now)) (lookup nv.now vol.now) (variable namespace.now name.now) }
 {
-    let choice = policy::choose(policy, count, entry_ends, namespace, name);
-    let Choice::Chosen {
-        index: _,
-        at,
-        rank: _,
-    } = choice
-    else {
+    let Some(chosen) = policy::choose(policy, count, entry_ends, namespace, name) else {
         return false;
     };
+    let at = chosen.at;
     let end = at + slices::get16(policy, at + limits::SIZE_AT);
     lock_holds(
         &policy[at..end],

@@ -9,30 +9,30 @@ use Rattle.bench_parts.proofs.Tested.{not_ok, not_asked, asked}
 use Rattle.bench_parts.proofs.bench_choose.Goals as goal
 
 pub returns-in_default : goal.returns-in_default
-returns-in_default c = c.answer.ensures ∙ not_ok _ _ _ (check_invalid _ (sym c.check_noting-checked.ensures.answer ∙ c.in_default.is))
+returns-in_default c = c.answer.ensures ∙ not_ok _ _ _ (check_invalid _ (sym c.check_noting.ensures.answer ∙ c.in_default.is))
 
 pub returns-then-name-eq0 : goal.returns-then-name-eq0
 returns-then-name-eq0 c = c.answer-then-name-eq0.ensures ∙ not_asked _ _ _ c.if-name-eq0.true
 
-pub choose-choice-requires : goal.choose-choice-requires
-choose-choice-requires c =
-    let known : Checked c.args.policy.now c.in-Valid.count c.in-Valid.used = check_valid _ _ _ (sym c.check_noting-checked.ensures.answer ∙ c.in-Valid.is) in
-    ((known).counted, c.check_noting-checked.ensures.noted (known).valid)
+pub choose-requires : goal.choose-requires
+choose-requires c =
+    let known : Checked c.args.policy.now c.in-Some.extent.count c.in-Some.extent.used = check_valid _ _ (sym c.check_noting.ensures.answer ∙ c.in-Some.is) in
+    ((known).counted, c.check_noting.ensures.noted (known).valid)
 
-pub returns-in-Chosen : goal.returns-in-Chosen
-returns-in-Chosen c =
-    let known : Checked c.args.policy.now c.in-Valid.count c.in-Valid.used = check_valid _ _ _ (sym c.check_noting-checked.ensures.answer ∙ c.in-Valid.is) in
+pub returns-in-Some-choose : goal.returns-in-Some-choose
+returns-in-Some-choose c =
+    let known : Checked c.args.policy.now c.in-Some.extent.count c.in-Some.extent.used = check_valid _ _ (sym c.check_noting.ensures.answer ∙ c.in-Some.is) in
     let Asked : Variable = variable c.args.namespace.now c.args.name.now in
     let told : (a : Numbers)
     → a ≡ of_choice (choice_of (entries_of c.args.policy.now) (Asked))
     → a ≡ chosen_in c.args.policy.now (Asked) = λ a. asked _ _ _ (known).valid c.if-name-eq0.false in
-    c.answer-in-Chosen.ensures ∙ told _ (sym (ap of_choice (sym c.choose-choice.ensures ∙ c.in-Chosen.is)))
+    c.answer-in-Some-choose.ensures ∙ told _ (sym (ap of_choice (sym c.choose.ensures ∙ c.in-Some-choose.is)))
 
-pub returns-in-Nothing : goal.returns-in-Nothing
-returns-in-Nothing c =
-    let known : Checked c.args.policy.now c.in-Valid.count c.in-Valid.used = check_valid _ _ _ (sym c.check_noting-checked.ensures.answer ∙ c.in-Valid.is) in
+pub returns-in-None : goal.returns-in-None
+returns-in-None c =
+    let known : Checked c.args.policy.now c.in-Some.extent.count c.in-Some.extent.used = check_valid _ _ (sym c.check_noting.ensures.answer ∙ c.in-Some.is) in
     let Asked : Variable = variable c.args.namespace.now c.args.name.now in
     let told : (a : Numbers)
     → a ≡ of_choice (choice_of (entries_of c.args.policy.now) (Asked))
     → a ≡ chosen_in c.args.policy.now (Asked) = λ a. asked _ _ _ (known).valid c.if-name-eq0.false in
-    c.answer-in-Nothing.ensures ∙ told _ (sym (ap of_choice (sym c.choose-choice.ensures ∙ c.in-Nothing.is)))
+    c.answer-in-None.ensures ∙ told _ (sym (ap of_choice (sym c.choose.ensures ∙ c.in-None.is)))

@@ -16,24 +16,24 @@ use mathlib.Core.Bool.{true, false}
 use Rattle.engine.proofs.register.Goals as goal
 
 pub returns-in_default : goal.returns-in_default
-returns-in_default c = register_invalid _ _ _ (check_invalid _ (sym c.check-checked.ensures ∙ c.in_default.is))
+returns-in_default c = register_invalid _ _ _ (check_invalid _ (sym c.check.ensures ∙ c.in_default.is))
 
 pub returns-then-switches : goal.returns-then-switches
 returns-then-switches c =
     let Policy : Bytes = c.args.policy.now in
-    let valid : Checked (Policy) c.in-Valid.count c.in-Valid.used = check_valid _ _ _ (sym c.check-checked.ensures ∙ c.in-Valid.is) in
+    let valid : Checked (Policy) c.in-Some.extent.count c.in-Some.extent.used = check_valid _ _ (sym c.check.ensures ∙ c.in-Some.is) in
     register_exited_lem _ _ _ (valid).valid c.if-switches.true
 
 pub returns-then-switches-2 : goal.returns-then-switches-2
 returns-then-switches-2 c =
     let Policy : Bytes = c.args.policy.now in
-    let valid : Checked (Policy) c.in-Valid.count c.in-Valid.used = check_valid _ _ _ (sym c.check-checked.ensures ∙ c.in-Valid.is) in
+    let valid : Checked (Policy) c.in-Some.extent.count c.in-Some.extent.used = check_valid _ _ (sym c.check.ensures ∙ c.in-Some.is) in
     register_refused _ _ _ (valid).valid c.if-switches.false WriteProtected refl (register_locked_lem _ _ _ c.if-switches-2.true)
 
 pub returns-then-is_none : goal.returns-then-is_none
 returns-then-is_none c =
     let Policy : Bytes = c.args.policy.now in
-    let valid : Checked (Policy) c.in-Valid.count c.in-Valid.used = check_valid _ _ _ (sym c.check-checked.ensures ∙ c.in-Valid.is) in
+    let valid : Checked (Policy) c.in-Some.extent.count c.in-Some.extent.used = check_valid _ _ (sym c.check.ensures ∙ c.in-Some.is) in
     register_refused _ _ _ (valid).valid c.if-switches.false InvalidParameter refl
     (register_malformed_lem _ _ _ c.if-switches-2.false (parse_malformed _ c.parse.ensures c.is_none.ensures c.if-is_none.true))
 
@@ -41,7 +41,7 @@ pub contains-requires : goal.contains-requires
 contains-requires c =
     let Policy : Bytes = c.args.policy.now in
     let Entry : Bytes = c.args.entry.now in
-    let valid : Checked (Policy) c.in-Valid.count c.in-Valid.used = check_valid _ _ _ (sym c.check-checked.ensures ∙ c.in-Valid.is) in
+    let valid : Checked (Policy) c.in-Some.extent.count c.in-Some.extent.used = check_valid _ _ (sym c.check.ensures ∙ c.in-Some.is) in
     let formed : well_formed (Entry) ≡ true = parse_formed _ c.parse.ensures c.is_none.ensures c.if-is_none.false in
     ((valid).counted, formed)
 
@@ -49,57 +49,57 @@ pub returns-then-contains : goal.returns-then-contains
 returns-then-contains c =
     let Policy : Bytes = c.args.policy.now in
     let Entry : Bytes = c.args.entry.now in
-    let valid : Checked (Policy) c.in-Valid.count c.in-Valid.used = check_valid _ _ _ (sym c.check-checked.ensures ∙ c.in-Valid.is) in
+    let valid : Checked (Policy) c.in-Some.extent.count c.in-Some.extent.used = check_valid _ _ (sym c.check.ensures ∙ c.in-Some.is) in
     let formed : well_formed (Entry) ≡ true = parse_formed _ c.parse.ensures c.is_none.ensures c.if-is_none.false in
     register_refused _ _ _ (valid).valid c.if-switches.false AlreadyStarted refl
     (register_repeated_lem _ _ _ c.if-switches-2.false (formed) (sym c.contains.ensures ∙ c.if-contains.true))
 
-pub returns-then-count-ge-MAX_ENTRIES : goal.returns-then-count-ge-MAX_ENTRIES
-returns-then-count-ge-MAX_ENTRIES c =
+pub returns-then-extent-ge-MAX_ENTRIES : goal.returns-then-extent-ge-MAX_ENTRIES
+returns-then-extent-ge-MAX_ENTRIES c =
     let Policy : Bytes = c.args.policy.now in
     let Entry : Bytes = c.args.entry.now in
-    let valid : Checked (Policy) c.in-Valid.count c.in-Valid.used = check_valid _ _ _ (sym c.check-checked.ensures ∙ c.in-Valid.is) in
+    let valid : Checked (Policy) c.in-Some.extent.count c.in-Some.extent.used = check_valid _ _ (sym c.check.ensures ∙ c.in-Some.is) in
     let formed : well_formed (Entry) ≡ true = parse_formed _ c.parse.ensures c.is_none.ensures c.if-is_none.false in
     let new : contains (same_target (Entry)) (entries_of (Policy)) ≡ false = sym c.contains.ensures ∙ c.if-contains.false in
     let k = valid in
-    let m : max_entries ≤ length (entries_of (Policy)) = omega (arith, k.counted, c.if-count-ge-MAX_ENTRIES.true) in
+    let m : max_entries ≤ length (entries_of (Policy)) = omega (arith, k.counted, c.if-extent-ge-MAX_ENTRIES.true) in
     register_refused _ _ _ k.valid c.if-switches.false OutOfResources refl (register_many _ _ _ c.if-switches-2.false (formed) (new) m)
 
-pub overflow_add-used : goal.overflow_add-used
-overflow_add-used c =
+pub overflow_add-extent : goal.overflow_add-extent
+overflow_add-extent c =
     let Policy : Bytes = c.args.policy.now in
     let Entry : Bytes = c.args.entry.now in
-    let valid : Checked (Policy) c.in-Valid.count c.in-Valid.used = check_valid _ _ _ (sym c.check-checked.ensures ∙ c.in-Valid.is) in
+    let valid : Checked (Policy) c.in-Some.extent.count c.in-Some.extent.used = check_valid _ _ (sym c.check.ensures ∙ c.in-Some.is) in
     let formed : well_formed (Entry) ≡ true = parse_formed _ c.parse.ensures c.is_none.ensures c.if-is_none.false in
     let k = valid in
     omega (arith, k.summed, sizes_sum-within (Policy), policy_valid-length (Policy) k.valid, (sized (Entry) (formed)).most)
 
-pub returns-then-used-entry-gt-POLICY_BYTES : goal.returns-then-used-entry-gt-POLICY_BYTES
-returns-then-used-entry-gt-POLICY_BYTES c =
+pub returns-then-extent-entry-gt-POLICY_BYTES : goal.returns-then-extent-entry-gt-POLICY_BYTES
+returns-then-extent-entry-gt-POLICY_BYTES c =
     let Policy : Bytes = c.args.policy.now in
     let Entry : Bytes = c.args.entry.now in
-    let valid : Checked (Policy) c.in-Valid.count c.in-Valid.used = check_valid _ _ _ (sym c.check-checked.ensures ∙ c.in-Valid.is) in
+    let valid : Checked (Policy) c.in-Some.extent.count c.in-Some.extent.used = check_valid _ _ (sym c.check.ensures ∙ c.in-Some.is) in
     let formed : well_formed (Entry) ≡ true = parse_formed _ c.parse.ensures c.is_none.ensures c.if-is_none.false in
     let new : contains (same_target (Entry)) (entries_of (Policy)) ≡ false = sym c.contains.ensures ∙ c.if-contains.false in
     let k = valid in
-    let m : policy_bytes < length (flat (entries_of (Policy))) + length (Entry) = omega (arith, k.summed, sizes_sum-flat (Policy), c.if-used-entry-gt-POLICY_BYTES.true) in
+    let m : policy_bytes < length (flat (entries_of (Policy))) + length (Entry) = omega (arith, k.summed, sizes_sum-flat (Policy), c.if-extent-entry-gt-POLICY_BYTES.true) in
     register_refused _ _ _ k.valid c.if-switches.false OutOfResources refl (register_long _ _ _ c.if-switches-2.false (formed) (new) m)
 
 pub append-requires : goal.append-requires
 append-requires c =
     let Policy : Bytes = c.args.policy.now in
-    let valid : Checked (Policy) c.in-Valid.count c.in-Valid.used = check_valid _ _ _ (sym c.check-checked.ensures ∙ c.in-Valid.is) in
+    let valid : Checked (Policy) c.in-Some.extent.count c.in-Some.extent.used = check_valid _ _ (sym c.check.ensures ∙ c.in-Some.is) in
     let k = valid in
-    (k.valid, k.summed, omega (arith, c.if-used-entry-gt-POLICY_BYTES.false))
+    (k.valid, k.summed, omega (arith, c.if-extent-entry-gt-POLICY_BYTES.false))
 
 pub returns : goal.returns
 returns c =
     let Policy : Bytes = c.args.policy.now in
     let Entry : Bytes = c.args.entry.now in
-    let valid : Checked (Policy) c.in-Valid.count c.in-Valid.used = check_valid _ _ _ (sym c.check-checked.ensures ∙ c.in-Valid.is) in
+    let valid : Checked (Policy) c.in-Some.extent.count c.in-Some.extent.used = check_valid _ _ (sym c.check.ensures ∙ c.in-Some.is) in
     let formed : well_formed (Entry) ≡ true = parse_formed _ c.parse.ensures c.is_none.ensures c.if-is_none.false in
     let new : contains (same_target (Entry)) (entries_of (Policy)) ≡ false = sym c.contains.ensures ∙ c.if-contains.false in
     let k = valid in
-    let m : length (entries_of (Policy)) < max_entries = omega (arith, k.counted, c.if-count-ge-MAX_ENTRIES.false) in
-    let l : length (flat (entries_of (Policy))) + length (Entry) ≤ policy_bytes = omega (arith, k.summed, sizes_sum-flat (Policy), c.if-used-entry-gt-POLICY_BYTES.false) in
+    let m : length (entries_of (Policy)) < max_entries = omega (arith, k.counted, c.if-extent-ge-MAX_ENTRIES.false) in
+    let l : length (flat (entries_of (Policy))) + length (Entry) ≤ policy_bytes = omega (arith, k.summed, sizes_sum-flat (Policy), c.if-extent-entry-gt-POLICY_BYTES.false) in
     register_granted _ _ _ k.valid c.if-switches.false (register_done_lem _ _ _ c.if-switches-2.false (formed) (new) m l) c.append.ensures

@@ -4,7 +4,7 @@ use lib.ListN.{get_or}
 use Rattle.slices.specs.Bytes.{Bytes}
 use Rattle.names.specs.Name.{Variable, variable}
 use Rattle.names.specs.Tail.{whole_units, TailOf}
-use Rattle.policy.specs.declared.Choice.TheVariants.{Nothing}
+use Rattle.std.specs.Prelude.{None}
 use Rattle.policy.specs.Policy.{entries_of}
 use Rattle.policy.specs.Best.{as_choice}
 use Rattle.policy.proofs.Walk.{Hand, hand, at_start}
@@ -18,7 +18,7 @@ candidate-next-requires c =
 
 pub loop-next-init : goal.loop-next-init
 unfolding as_choice
-loop-next-init c = (omega arith, omega arith, c.candidate-next.ensures.at.1, c.candidate-next.ensures.passed Nothing)
+loop-next-init c = (omega arith, omega arith, c.candidate-next.ensures.at.1, c.candidate-next.ensures.passed None)
 
 pub slice_bounds-rank_for-count : goal.slice_bounds-rank_for-count
 slice_bounds-rank_for-count c =

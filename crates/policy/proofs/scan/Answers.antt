@@ -1,12 +1,11 @@
 use Prim.Native.Nat.{◌+◌, ◌≤◌}
 use mathlib.Core.Path.{◌≡◌, sym, ap, ◌∙◌}
-use mathlib.Core.Bool.{cond}
+use Rattle.std.specs.Bool.{then_some}
 use native.Mathlib.Omega.{arith}
 use native.Mathlib.Nat.{le_refl}
 use lib.ListN.{length}
 use Rattle.slices.specs.Bytes.{Bytes, all_are}
 use Rattle.slices.proofs.PartLaws.{part_of, part_rest}
-use Rattle.policy.specs.declared.PolicyCheck.TheVariants.{Valid, Invalid}
 use Rattle.policy.specs.Policy.{entry_length, check_within}
 use Rattle.policy.proofs.Walk.{fits, formed, at_next}
 use Rattle.policy.proofs.Marked.{checked_start, too_many_lem, met_before, checked_more, checked_end, noted_none, noted_more, noted_end, invalid_promise}
@@ -60,20 +59,11 @@ loop-next-preserved c =
           (at_next (P) l.count l.used l.invariant.0.walk l.next l.invariant.1 c.loop-next-test.true),
     )
 
-pub returns-then-all_are : goal.returns-then-all_are
-returns-then-all_are c =
-    let P : Bytes = c.args.policy.now in
-    let answer : check_within (length (P)) (P) ≡ cond c.all_are.result (Valid c.loop-next.count c.loop-next.used) Invalid = let l = c.loop-next in
-    checked_end (P) l.marks l.count l.used l.next l.invariant.0 l.invariant.1 (omega arith)
-    (c.all_are.ensures ∙ ap (all_are 0) (part_rest l.used (length (P)) (P) (le_refl (length (P))))) in
-    let l = c.loop-next in record { answer = sym (answer ∙ rw c.if-all_are.true); noted = λ v. noted_end (P) l.marks l.count l.used l.next l.invariant.0 l.invariant.1 (omega arith) l.invariant.2 }
-
 pub returns : goal.returns
 returns c =
     let P : Bytes = c.args.policy.now in
-    let answer : check_within (length (P)) (P) ≡ cond c.all_are.result (Valid c.loop-next.count c.loop-next.used) Invalid = let l = c.loop-next in
+    let l = c.loop-next in
+    let answer : check_within (length (P)) (P) ≡ then_some c.all_are.result (record { count = l.count; used = l.used }) =
     checked_end (P) l.marks l.count l.used l.next l.invariant.0 l.invariant.1 (omega arith)
     (c.all_are.ensures ∙ ap (all_are 0) (part_rest l.used (length (P)) (P) (le_refl (length (P))))) in
-    let p = P in
-    let a : Invalid ≡ check_within (length p) p = sym (answer ∙ rw c.if-all_are.false) in
-    record { answer = a; noted = invalid_promise (length p) p a }
+    record { answer = c.then_some.ensures ∙ sym answer; noted = λ v. noted_end (P) l.marks l.count l.used l.next l.invariant.0 l.invariant.1 (omega arith) l.invariant.2 }

@@ -15,29 +15,29 @@ returns-in_default c =
 
 pub pair_of-pair-requires : goal.pair_of-pair-requires
 pair_of-pair-requires c =
-    let checked : DumpChecked c.args.dump.now c.in-Valid.count = dump_check_valid _ _ _ (sym c.check_dump.ensures.answer ∙ c.in-Valid.is) in
+    let checked : DumpChecked c.args.dump.now c.in-Some.extent.count = dump_check_valid _ _ (sym c.check_dump.ensures.answer ∙ c.in-Some.is) in
     ((checked).counted, c.check_dump.ensures.noted (checked).valid, (checked).valid)
 
 pub returns-in_default-pair : goal.returns-in_default-pair
 returns-in_default-pair c =
-    let checked : DumpChecked c.args.dump.now c.in-Valid.count = dump_check_valid _ _ _ (sym c.check_dump.ensures.answer ∙ c.in-Valid.is) in
+    let checked : DumpChecked c.args.dump.now c.in-Some.extent.count = dump_check_valid _ _ (sym c.check_dump.ensures.answer ∙ c.in-Some.is) in
     let both = no_quarrel_lem c.args.dump.now (checked).valid c.args.name.now (sym c.pair_of-pair.ensures ∙ c.in_default-pair.is) in record { answer = both.0; buffer = both.1 }
 
 pub entry_at-requires : goal.entry_at-requires
 entry_at-requires c =
-    let checked : DumpChecked c.args.dump.now c.in-Valid.count = dump_check_valid _ _ _ (sym c.check_dump.ensures.answer ∙ c.in-Valid.is) in
+    let checked : DumpChecked c.args.dump.now c.in-Some.extent.count = dump_check_valid _ _ (sym c.check_dump.ensures.answer ∙ c.in-Some.is) in
     let pair_is : pair_of (entries_of c.args.dump.now) ≡ Places c.in-Places.earlier c.in-Places.later = sym c.pair_of-pair.ensures ∙ c.in-Places.is in
     ((places c.args.dump.now (checked).valid _ _ (pair_is)).0, c.check_dump.ensures.noted (checked).valid)
 
 pub entry_at-requires-2 : goal.entry_at-requires-2
 entry_at-requires-2 c =
-    let checked : DumpChecked c.args.dump.now c.in-Valid.count = dump_check_valid _ _ _ (sym c.check_dump.ensures.answer ∙ c.in-Valid.is) in
+    let checked : DumpChecked c.args.dump.now c.in-Some.extent.count = dump_check_valid _ _ (sym c.check_dump.ensures.answer ∙ c.in-Some.is) in
     let pair_is : pair_of (entries_of c.args.dump.now) ≡ Places c.in-Places.earlier c.in-Places.later = sym c.pair_of-pair.ensures ∙ c.in-Places.is in
     ((places c.args.dump.now (checked).valid _ _ (pair_is)).1, c.check_dump.ensures.noted (checked).valid)
 
 pub put_least-requires : goal.put_least-requires
 put_least-requires c =
-    let checked : DumpChecked c.args.dump.now c.in-Valid.count = dump_check_valid _ _ _ (sym c.check_dump.ensures.answer ∙ c.in-Valid.is) in
+    let checked : DumpChecked c.args.dump.now c.in-Some.extent.count = dump_check_valid _ _ (sym c.check_dump.ensures.answer ∙ c.in-Some.is) in
     let pair_is : pair_of (entries_of c.args.dump.now) ≡ Places c.in-Places.earlier c.in-Places.later = sym c.pair_of-pair.ensures ∙ c.in-Places.is in
     let earlier-name : c.name_bytes-own.result.now ≡ name_of (at (entries_of c.args.dump.now) c.in-Places.earlier) = c.name_bytes-own.ensures ∙ ap name_of c.entry_at.ensures.is in
     let later-name : c.name_bytes-other.result.now ≡ name_of (at (entries_of c.args.dump.now) c.in-Places.later) = c.name_bytes-other.ensures ∙ ap name_of c.entry_at-2.ensures.is in
@@ -46,7 +46,7 @@ put_least-requires c =
 
 pub returns : goal.returns
 returns c =
-    let checked : DumpChecked c.args.dump.now c.in-Valid.count = dump_check_valid _ _ _ (sym c.check_dump.ensures.answer ∙ c.in-Valid.is) in
+    let checked : DumpChecked c.args.dump.now c.in-Some.extent.count = dump_check_valid _ _ (sym c.check_dump.ensures.answer ∙ c.in-Some.is) in
     let pair_is : pair_of (entries_of c.args.dump.now) ≡ Places c.in-Places.earlier c.in-Places.later = sym c.pair_of-pair.ensures ∙ c.in-Places.is in
     let earlier-name : c.name_bytes-own.result.now ≡ name_of (at (entries_of c.args.dump.now) c.in-Places.earlier) = c.name_bytes-own.ensures ∙ ap name_of c.entry_at.ensures.is in
     let later-name : c.name_bytes-other.result.now ≡ name_of (at (entries_of c.args.dump.now) c.in-Places.later) = c.name_bytes-other.ensures ∙ ap name_of c.entry_at-2.ensures.is in

@@ -1,15 +1,14 @@
-use Rattle.names.specs.Name.{Variable, variable}
+use Rattle.names.specs.Name.{variable}
 use Rattle.stores.specs.Pair.{lookup}
 use Rattle.policy.specs.Policy.{entries_of}
-use Rattle.policy.specs.Choice.{chosen, choice_of}
+use Rattle.policy.specs.Choice.{chosen}
 use Rattle.policy.proofs.ChoiceLaws.{choice_none}
-use Rattle.policy.specs.declared.Choice.TheVariants.{Chosen}
 use Rattle.rules.specs.Set.{request_of}
 use Rattle.set.proofs.LockRules.{located_within}
 use Rattle.set.proofs.Spoken.{header_within, end_within, entry_formed, entry_chosen, index_below, rank_below, entry_rank, entry_place}
 use Rattle.set.proofs.Reports.{disabled_report, unchosen_report, spoken_report}
 use native.Mathlib.Omega.{arith}
-use mathlib.Core.Path.{◌≡◌, sym, ◌∙◌}
+use mathlib.Core.Path.{sym, ◌∙◌}
 use Rattle.set.proofs.report.Goals as goal
 
 pub returns-then-not-enabled : goal.returns-then-not-enabled
@@ -23,68 +22,50 @@ returns-in_default c =
     let a = c.args in
     unchosen_report (entries_of a.policy.now) (lookup a.nv.now a.vol.now) (request_of a.namespace.now a.name.now a.attributes a.payload.now) a.attributes
     a.enabled _ c.no_report-in_default.ensures
-    (choice_none _ _ (sym c.choose-choice.ensures ∙ c.in_default.is))
+    (choice_none _ _ (sym c.choose.ensures ∙ c.in_default.is))
 
 pub overflow_add-at : goal.overflow_add-at
 overflow_add-at c =
-    let Asked : Variable = variable c.args.namespace.now c.args.name.now in
-    let chosen_is : choice_of (entries_of c.args.policy.now) (Asked)
-    ≡ Chosen c.in-Chosen.index c.in-Chosen.at c.in-Chosen.rank = sym c.choose-choice.ensures ∙ c.in-Chosen.is in
-    omega (arith, header_within _ _ _ _ _ (chosen_is))
+    let chosen_is = sym c.choose.ensures ∙ c.in-Some.is in
+    omega (arith, header_within _ _ _ chosen_is)
 
 pub get16-requires : goal.get16-requires
 get16-requires c =
-    let Asked : Variable = variable c.args.namespace.now c.args.name.now in
-    let chosen_is : choice_of (entries_of c.args.policy.now) (Asked)
-    ≡ Chosen c.in-Chosen.index c.in-Chosen.at c.in-Chosen.rank = sym c.choose-choice.ensures ∙ c.in-Chosen.is in
-    omega (arith, header_within _ _ _ _ _ (chosen_is))
+    let chosen_is = sym c.choose.ensures ∙ c.in-Some.is in
+    omega (arith, header_within _ _ _ chosen_is)
 
 pub overflow_add-end : goal.overflow_add-end
 overflow_add-end c =
-    let Asked : Variable = variable c.args.namespace.now c.args.name.now in
-    let chosen_is : choice_of (entries_of c.args.policy.now) (Asked)
-    ≡ Chosen c.in-Chosen.index c.in-Chosen.at c.in-Chosen.rank = sym c.choose-choice.ensures ∙ c.in-Chosen.is in
-    omega (arith, end_within _ _ _ _ _ (chosen_is) _ c.get16.ensures.is)
+    let chosen_is = sym c.choose.ensures ∙ c.in-Some.is in
+    omega (arith, end_within _ _ _ chosen_is _ c.get16.ensures.is)
 
 pub slice_bounds-e-end : goal.slice_bounds-e-end
 slice_bounds-e-end c =
-    let Asked : Variable = variable c.args.namespace.now c.args.name.now in
-    let chosen_is : choice_of (entries_of c.args.policy.now) (Asked)
-    ≡ Chosen c.in-Chosen.index c.in-Chosen.at c.in-Chosen.rank = sym c.choose-choice.ensures ∙ c.in-Chosen.is in
-    end_within _ _ _ _ _ (chosen_is) _ c.get16.ensures.is
+    let chosen_is = sym c.choose.ensures ∙ c.in-Some.is in
+    end_within _ _ _ chosen_is _ c.get16.ensures.is
 
 pub entry_ground-ground-requires : goal.entry_ground-ground-requires
 entry_ground-ground-requires c =
-    let Asked : Variable = variable c.args.namespace.now c.args.name.now in
-    let chosen_is : choice_of (entries_of c.args.policy.now) (Asked)
-    ≡ Chosen c.in-Chosen.index c.in-Chosen.at c.in-Chosen.rank = sym c.choose-choice.ensures ∙ c.in-Chosen.is in
-    (c.requires.0.located.ends, located_within _ _ _ _ c.requires.0.located, entry_formed _ _ _ _ _ (chosen_is) _ c.get16.ensures.is)
+    let chosen_is = sym c.choose.ensures ∙ c.in-Some.is in
+    (c.requires.0.located.ends, located_within _ _ _ _ c.requires.0.located, entry_formed _ _ _ chosen_is _ c.get16.ensures.is)
 
-pub overflow_cast-index : goal.overflow_cast-index
-overflow_cast-index c =
-    let Asked : Variable = variable c.args.namespace.now c.args.name.now in
-    let chosen_is : choice_of (entries_of c.args.policy.now) (Asked)
-    ≡ Chosen c.in-Chosen.index c.in-Chosen.at c.in-Chosen.rank = sym c.choose-choice.ensures ∙ c.in-Chosen.is in
-    omega (arith, index_below _ _ _ _ _ (chosen_is) c.requires.1.few)
+pub overflow_cast-chosen : goal.overflow_cast-chosen
+overflow_cast-chosen c =
+    let chosen_is = sym c.choose.ensures ∙ c.in-Some.is in
+    omega (arith, index_below _ _ _ chosen_is c.requires.1.few)
 
-pub overflow_cast-rank : goal.overflow_cast-rank
-overflow_cast-rank c =
-    let Asked : Variable = variable c.args.namespace.now c.args.name.now in
-    let chosen_is : choice_of (entries_of c.args.policy.now) (Asked)
-    ≡ Chosen c.in-Chosen.index c.in-Chosen.at c.in-Chosen.rank = sym c.choose-choice.ensures ∙ c.in-Chosen.is in
-    omega (arith, rank_below _ _ _ _ _ (chosen_is))
+pub overflow_cast-chosen-2 : goal.overflow_cast-chosen-2
+overflow_cast-chosen-2 c =
+    let chosen_is = sym c.choose.ensures ∙ c.in-Some.is in
+    omega (arith, rank_below _ _ _ chosen_is)
 
 pub report_for-requires : goal.report_for-requires
 report_for-requires c =
-    let Asked : Variable = variable c.args.namespace.now c.args.name.now in
-    let chosen_is : choice_of (entries_of c.args.policy.now) (Asked)
-    ≡ Chosen c.in-Chosen.index c.in-Chosen.at c.in-Chosen.rank = sym c.choose-choice.ensures ∙ c.in-Chosen.is in
-    entry_rank _ _ _ _ _ (chosen_is) _ c.get16.ensures.is
+    let chosen_is = sym c.choose.ensures ∙ c.in-Some.is in
+    entry_rank _ _ _ chosen_is _ c.get16.ensures.is
 
 pub returns : goal.returns
 returns c =
-    let Asked : Variable = variable c.args.namespace.now c.args.name.now in
-    let chosen_is : choice_of (entries_of c.args.policy.now) (Asked)
-    ≡ Chosen c.in-Chosen.index c.in-Chosen.at c.in-Chosen.rank = sym c.choose-choice.ensures ∙ c.in-Chosen.is in
+    let chosen_is = sym c.choose.ensures ∙ c.in-Some.is in
     spoken_report _ _ _ _ c.args.enabled _ _ c.report_for.ensures (c.entry_ground-ground.ensures _ c.requires.0.located)
-    (entry_place _ _ _ _ _ (chosen_is) _ c.get16.ensures.is) (entry_chosen _ _ _ _ _ (chosen_is) _ c.get16.ensures.is) c.if-not-enabled.false
+    (entry_place _ _ _ chosen_is _ c.get16.ensures.is) (entry_chosen _ _ _ chosen_is _ c.get16.ensures.is) c.if-not-enabled.false

@@ -51,34 +51,34 @@ lock_holds-returns-else-not-trigger_holds t c =
 
 pub settled-returns-in_default : goal.settled-returns-in_default
 settled-returns-in_default t c =
-    settled_none c.args.links (chosen (entries_of c.args.policy.now)) (lookup c.args.nv.now c.args.vol.now) (variable c.args.namespace.now c.args.name.now) (choice_none _ _ (sym c.choose-choice.ensures ∙ c.in_default.is))
+    settled_none c.args.links (chosen (entries_of c.args.policy.now)) (lookup c.args.nv.now c.args.vol.now) (variable c.args.namespace.now c.args.name.now) (choice_none _ _ (sym c.choose.ensures ∙ c.in_default.is))
 
 pub settled-overflow_add-at : goal.settled-overflow_add-at
 settled-overflow_add-at t c =
-    let chosen_is = sym c.choose-choice.ensures ∙ c.in-Chosen.is in
-    omega (arith, header_within _ _ _ _ _ chosen_is)
+    let chosen_is = sym c.choose.ensures ∙ c.in-Some.is in
+    omega (arith, header_within _ _ _ chosen_is)
 
 pub settled-get16-requires : goal.settled-get16-requires
 settled-get16-requires t c =
-    let chosen_is = sym c.choose-choice.ensures ∙ c.in-Chosen.is in
-    omega (arith, header_within _ _ _ _ _ chosen_is)
+    let chosen_is = sym c.choose.ensures ∙ c.in-Some.is in
+    omega (arith, header_within _ _ _ chosen_is)
 
 pub settled-overflow_add-end : goal.settled-overflow_add-end
 settled-overflow_add-end t c =
-    let chosen_is = sym c.choose-choice.ensures ∙ c.in-Chosen.is in
-    omega (arith, end_within _ _ _ _ _ chosen_is _ c.get16.ensures.is)
+    let chosen_is = sym c.choose.ensures ∙ c.in-Some.is in
+    omega (arith, end_within _ _ _ chosen_is _ c.get16.ensures.is)
 
 pub settled-slice_bounds-lock_holds-end : goal.settled-slice_bounds-lock_holds-end
 settled-slice_bounds-lock_holds-end t c =
-    let chosen_is = sym c.choose-choice.ensures ∙ c.in-Chosen.is in
-    end_within _ _ _ _ _ chosen_is _ c.get16.ensures.is
+    let chosen_is = sym c.choose.ensures ∙ c.in-Some.is in
+    end_within _ _ _ chosen_is _ c.get16.ensures.is
 
 pub settled-lock_holds-requires : goal.settled-lock_holds-requires
 settled-lock_holds-requires t c =
-    let chosen_is = sym c.choose-choice.ensures ∙ c.in-Chosen.is in
-    (below_one _ c.decreases, (entry_formed _ _ _ _ _ chosen_is _ c.get16.ensures.is, c.requires.0, c.requires.1))
+    let chosen_is = sym c.choose.ensures ∙ c.in-Some.is in
+    (below_one _ c.decreases, (entry_formed _ _ _ chosen_is _ c.get16.ensures.is, c.requires.0, c.requires.1))
 
 pub settled-returns : goal.settled-returns
 settled-returns t c =
-    let chosen_is = sym c.choose-choice.ensures ∙ c.in-Chosen.is in
-    settled_some c.args.links (chosen (entries_of c.args.policy.now)) (lookup c.args.nv.now c.args.vol.now) (variable c.args.namespace.now c.args.name.now) _ (entry_chosen _ _ _ _ _ chosen_is _ c.get16.ensures.is) c.lock_holds.ensures
+    let chosen_is = sym c.choose.ensures ∙ c.in-Some.is in
+    settled_some c.args.links (chosen (entries_of c.args.policy.now)) (lookup c.args.nv.now c.args.vol.now) (variable c.args.namespace.now c.args.name.now) _ (entry_chosen _ _ _ chosen_is _ c.get16.ensures.is) c.lock_holds.ensures
