@@ -1,6 +1,6 @@
 -- AN ENGINE WHOSE DUMP HAS NO QUARREL CAN BE REBUILT IN EVERY ORDER (RULES.md, 10.11 and 12.4), and one whose dump has a quarrel in no other than the dump's.
 -- Assumes nothing but that the power-on answered 0.
-use Rattle.std.specs.Prelude.{ℕ, ◌≡◌, refl, Bool, true, false, ◌↔◌, take}
+use Rattle.std.specs.Prelude.{ℕ, ◌≡◌, refl, Bool, true, false, ◌↔◌, take, Some, None, Ok, Err}
 use Rattle.std.proofs.Common.{sym, ap, subst, ◌∙◌}
 use Rattle.std.proofs.Math.Path.{subst⁻¹}
 use mathlib.Core.List.{List, [], ◌∷◌, ◌++◌, map, append_assoc, append-nil, Permᴰ}
@@ -13,9 +13,7 @@ use Rattle.policy.specs.Policy.{entries_of, policy_valid}
 use Rattle.policy.proofs.PolicyLaws.{WellFormed, Entries, policy_entries}
 use Rattle.policy.specs.Dump.{dump_valid}
 use Rattle.policy.proofs.DumpLaws.{entries_of-flat, entries_dump}
-use Rattle.quarrels.specs.declared.Verdict.{Verdict}
-use Rattle.quarrels.specs.declared.Verdict.TheVariants.{NoDump, NoQuarrel, Found}
-use Rattle.quarrels.specs.Quarrel.{quarrels_of}
+use Rattle.quarrels.specs.Quarrel.{Verdict, first_quarrel, quarrels_of}
 use Rattle.quarrels.proofs.QuarrelLaws.{no_dump_exactly, none_exactly}
 use Rattle.status.specs.Status.{is_success}
 use Rattle.rules.specs.Engine as rules
@@ -38,11 +36,11 @@ use Rattle.demand3.proofs.Demand3.{demand_3}
 -- ---- WHAT THE CHECKER'S ANSWER SAYS OF OTHER ORDERS
 
 -- none, of a dump, exactly if the condition on another order holds of its entries
-pub no_quarrel_unambiguous : (d : Bytes) → dump_valid d ≡ true → quarrels_of d ≡ NoQuarrel ↔ Unambiguous machine (entries_of d)
+pub no_quarrel_unambiguous : (d : Bytes) → dump_valid d ≡ true → quarrels_of d ≡ Ok None ↔ Unambiguous machine (entries_of d)
 no_quarrel_unambiguous d v = (λ h. ((none_exactly d).0 h).1, λ u. (none_exactly d).1 (v, u))
 
 -- and of bytes the variables that are bytes are enough, which are all that a caller can name
-pub no_quarrel_in_bytes : (d : Bytes) → dump_valid d ≡ true → All AreBytes (entries_of d) → quarrels_of d ≡ NoQuarrel ↔ UnambiguousInBytes (entries_of d)
+pub no_quarrel_in_bytes : (d : Bytes) → dump_valid d ≡ true → All AreBytes (entries_of d) → quarrels_of d ≡ Ok None ↔ UnambiguousInBytes (entries_of d)
 no_quarrel_in_bytes d v b =
     let k = no_quarrel_unambiguous d v in
     ((λ h w n. k.0 h w n.taken), λ u. k.1 (unambiguous (entries_of d) b u))
@@ -55,7 +53,7 @@ entries_checked ds a =
     record {
       entries = e;
       is_dump = λ h. false≢true (sym ((no_dump_exactly (flat ds)).0 h) ∙ v);
-      exactly = subst (λ (l : List Bytes). quarrels_of (flat ds) ≡ NoQuarrel ↔ Unambiguous machine l) e (no_quarrel_unambiguous (flat ds) v);
+      exactly = subst (λ (l : List Bytes). quarrels_of (flat ds) ≡ Ok None ↔ Unambiguous machine l) e (no_quarrel_unambiguous (flat ds) v);
     }
 
 -- in the buffer of a dump it finds the very entries that the dump has by 12.2
@@ -73,12 +71,12 @@ dump_checked s buffer h =
 
 -- the answer names a pair
 abbrev is_found : Verdict → Bool
-is_found NoDump = false
-is_found NoQuarrel = false
-is_found (Found i j n) = true
+is_found (Err _) = false
+is_found (Ok None) = false
+is_found (Ok (Some _)) = true
 
 -- then no other order of well-formed entries is
-pub quarrel_no_order : (ds : List Bytes) → All WellFormed ds → (i j n : ℕ) → quarrels_of (flat ds) ≡ Found i j n → (o : List Bytes)
+pub quarrel_no_order : (ds : List Bytes) → All WellFormed ds → (i j n : ℕ) → quarrels_of (flat ds) ≡ Ok (Some (first_quarrel i j n)) → (o : List Bytes)
     → Permitted machine ds (some o) → ⊥
 quarrel_no_order ds a i j n h o m = go (dump_valid (flat ds)) refl
   where
@@ -90,7 +88,7 @@ quarrel_no_order ds a i j n h o m = go (dump_valid (flat ds)) refl
     go true v = false≢true (unlike ((no_quarrel_unambiguous (flat ds) v).1 (subst⁻¹ (Unambiguous machine) (entries_of-flat ds a) m.1)))
 
 -- ANOTHER ORDER IS PERMITTED EXACTLY IF THE CHECKER ANSWERS NONE
-pub any_order_exactly : (ds o : List Bytes) → Entries ds → Permᴰ ds o → quarrels_of (flat ds) ≡ NoQuarrel ↔ Permitted machine ds (some o)
+pub any_order_exactly : (ds o : List Bytes) → Entries ds → Permᴰ ds o → quarrels_of (flat ds) ≡ Ok None ↔ Permitted machine ds (some o)
 any_order_exactly ds o a d = let k = (entries_checked ds a).exactly in (λ h. (d, k.0 h), λ m. k.1 m.1)
 
 -- the last rebuild of a proper list is in a permitted order
@@ -153,13 +151,13 @@ module _ (s : State) (allowed : Bool) (answered0 : is_success (rules.step s (pow
 
   -- A COMPLETE DUMP WITHOUT A QUARREL CAN BE REBUILT IN EVERY ORDER
   pub any_order : (is : Items machine) (ds : List Bytes) → ProperHere is → Complete machine ds (past_at s allowed answered0 is)
-      → quarrels_of (flat ds) ≡ NoQuarrel → (o : List Bytes) → Permᴰ ds o → RebuiltIn o (is ++ (rebuild ds (some o) ∷ []))
+      → quarrels_of (flat ds) ≡ Ok None → (o : List Bytes) → Permᴰ ds o → RebuiltIn o (is ++ (rebuild ds (some o) ∷ []))
   any_order is ds p d h o m =
       rebuilt is ds o (list.append_rebuild s allowed answered0 is ds (some o) p d ((any_order_exactly ds o (complete_entries is ds p d) m).0 h))
 
   -- AND SO CAN AN ENGINE AT ANY MOMENT BEFORE EXIT, from an own dump into a buffer with room, if the checker answers none to its entries
   pub any_order_now : (xs : Items machine) (buffer : Bytes) → ProperHere xs → CanDumpInto (end_with machine begun xs) buffer
-      → quarrels_of (flat (entries_here xs)) ≡ NoQuarrel → (o : List Bytes) → Permᴰ (entries_here xs) o
+      → quarrels_of (flat (entries_here xs)) ≡ Ok None → (o : List Bytes) → Permᴰ (entries_here xs) o
       → RebuiltIn o (xs ++ (own_dump buffer ∷ rebuild (entries_here xs) (some o) ∷ []))
   any_order_now xs buffer p room h o m =
       let es = entries_here xs in
@@ -170,7 +168,7 @@ module _ (s : State) (allowed : Bool) (answered0 : is_success (rules.step s (pow
 
   -- or to the very bytes that this dump hands out
   pub any_order_asked : (xs : Items machine) (buffer : Bytes) → ProperHere xs → CanDumpInto (end_with machine begun xs) buffer
-      → quarrels_of (handed_out (end_with machine begun xs) buffer) ≡ NoQuarrel → (o : List Bytes) → Permᴰ (entries_here xs) o
+      → quarrels_of (handed_out (end_with machine begun xs) buffer) ≡ Ok None → (o : List Bytes) → Permᴰ (entries_here xs) o
       → RebuiltIn o (xs ++ (own_dump buffer ∷ rebuild (entries_here xs) (some o) ∷ []))
   any_order_asked xs buffer p room h =
       let z = end_with machine begun xs in
@@ -178,6 +176,6 @@ module _ (s : State) (allowed : Bool) (answered0 : is_success (rules.step s (pow
 
   -- A COMPLETE DUMP WITH A QUARREL CAN IN NO OTHER: no list with such a rebuild behind it is one that demand 3 is about
   pub quarrel_no_rebuild : (is : Items machine) (ds : List Bytes) → ProperHere is → Complete machine ds (past_at s allowed answered0 is)
-      → (i j n : ℕ) → quarrels_of (flat ds) ≡ Found i j n → (o : List Bytes) → ProperHere (is ++ (rebuild ds (some o) ∷ [])) → ⊥
+      → (i j n : ℕ) → quarrels_of (flat ds) ≡ Ok (Some (first_quarrel i j n)) → (o : List Bytes) → ProperHere (is ++ (rebuild ds (some o) ∷ [])) → ⊥
   quarrel_no_rebuild is ds p d i j n h o q =
       quarrel_no_order ds (complete_entries is ds p d).formed i j n h o (rebuild_permitted is ds (some o) false [] begun q)

@@ -1,11 +1,10 @@
 -- EVERY ORDER (RULES.md, 10.11 and 12.4): what is claimed of the checker's answer and of a list that ends with a rebuild in another order.
 -- Assumes nothing: these are definitions.
-use Rattle.std.specs.Prelude.{◌≡◌, Bool, true, ◌↔◌, take}
+use Rattle.std.specs.Prelude.{◌≡◌, Bool, true, ◌↔◌, take, None, Ok, Err}
 use mathlib.Core.List.{List, ◌++◌, map}
 use Rattle.slices.specs.Bytes.{Bytes}
 use Rattle.policy.specs.Policy.{entries_of}
-use Rattle.quarrels.specs.declared.Verdict.TheVariants.{NoDump, NoQuarrel}
-use Rattle.quarrels.specs.Quarrel.{quarrels_of}
+use Rattle.quarrels.specs.Quarrel.{no_dump_error, quarrels_of}
 use Rattle.status.specs.Status.{is_success}
 use Rattle.rules.specs.Engine as rules
 use Rattle.rules.specs.Engine.{State, Call}
@@ -20,8 +19,8 @@ use Rattle.demand3.specs.Demand3.{powered_on, ProperFrom, entries_at}
 -- what it says of the bytes d, which hold the entries ds: that they are a dump, and none exactly under that condition on ds
 pub record Checks (d : Bytes) (ds : List Bytes) : Type 0 where
   pub entries : entries_of d ≡ ds
-  pub is_dump : quarrels_of d ≡ NoDump → ⊥
-  pub exactly : quarrels_of d ≡ NoQuarrel ↔ Unambiguous machine ds
+  pub is_dump : quarrels_of d ≡ Err no_dump_error → ⊥
+  pub exactly : quarrels_of d ≡ Ok None ↔ Unambiguous machine ds
 
 -- of what a dump that answered 0 hands out, in any state
 abbrev pub handed_out : State → Bytes → Bytes

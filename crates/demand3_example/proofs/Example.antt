@@ -1,6 +1,6 @@
 -- A history with rebuilds, computed by the rules: what each of its calls answers, that it is one of the lists that the claim
 -- is about, and what the claim then says of it.
-use Rattle.std.specs.Prelude.{ℕ, zero, suc, ◌≡◌, refl, Some, Bool, true, false, take, replicate}
+use Rattle.std.specs.Prelude.{ℕ, zero, suc, ◌≡◌, refl, Bool, true, false, take, replicate, None, Some, Ok}
 use Rattle.std.proofs.Common.{ap, ◌∙◌, inl, inr, arith}
 use mathlib.Core.List.{List, [], ◌∷◌, ◌++◌, map, Permᴰ}
 use Rattle.std.proofs.Math.Option.{Option, none, some}
@@ -16,8 +16,7 @@ use Rattle.patterns.specs.Common.{least_name}
 use Rattle.entry.specs.Entry.{well_formed, targets, rank}
 use Rattle.policy.specs.Dump.{dump_valid}
 use Rattle.quarrels.specs.Pairs.{row_from, pair_from}
-use Rattle.quarrels.specs.Quarrel.{quarrel, quarrels_of, buffer_after}
-use Rattle.quarrels.specs.declared.Verdict.TheVariants.{NoQuarrel, Found}
+use Rattle.quarrels.specs.Quarrel.{quarrel, first_quarrel, quarrels_of, buffer_after}
 use Rattle.status.specs.Status.{is_success, status_number}
 use Rattle.switches.specs.Switches.{fresh_switches}
 use Rattle.rules.specs.declared.Ground.TheVariants.{LockGround}
@@ -377,19 +376,19 @@ unfolding rules_opened
 complete_again = inr (refl, inr (refl, inr (refl, complete_exited)))
 
 -- WHAT THE CHECKER OF A DUMP ANSWERS (RULES.md, 10.11), computed. No quarrel in the first dump, and so it can be rebuilt in every order
-no_quarrel_lem : quarrels_of (flat d₁₂) ≡ NoQuarrel
+no_quarrel_lem : quarrels_of (flat d₁₂) ≡ Ok None
 unfolding checker_opened
 no_quarrel_lem = refl
 
 other_order : Permᴰ d₁₂ d₂₁
 other_order = Permᴰ.swap refl refl
 
-no_quarrel₃₂ : quarrels_of (flat d₃₂) ≡ NoQuarrel
+no_quarrel₃₂ : quarrels_of (flat d₃₂) ≡ Ok None
 unfolding checker_opened
 no_quarrel₃₂ = refl
 
 -- with the third entry behind it a pair, at the places 1 and 2, with the name "AA", and so no other order is permitted
-one_quarrel : quarrels_of (flat d₂₁₃) ≡ Found 1 2 4
+one_quarrel : quarrels_of (flat d₂₁₃) ≡ Ok (Some (first_quarrel 1 2 4))
 unfolding checker_opened
 one_quarrel = refl
 

@@ -2,11 +2,11 @@
 use Rattle.std.specs.Prelude.{◌≡◌, refl, true, false}
 use Rattle.list_dump.specs.Lines.{ascii, decimal_within, marks, entry_line, closing_line}
 
-first_entry : entry_line 0 44 1 65 ≡ ascii "0 size 44 lock 1 marks all\n"
+first_entry : entry_line 0 (record { size = 44; lock = 1; rank = 65 }) ≡ ascii "0 size 44 lock 1 marks all\n"
 unfolding entry_line marks decimal_within
 first_entry = refl
 
-second_entry : entry_line 1 50 0 1 ≡ ascii "1 size 50 lock 0 marks 1\n"
+second_entry : entry_line 1 (record { size = 50; lock = 0; rank = 1 }) ≡ ascii "1 size 50 lock 0 marks 1\n"
 unfolding entry_line marks decimal_within
 second_entry = refl
 

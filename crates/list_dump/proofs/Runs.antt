@@ -8,18 +8,16 @@ use Rattle.lists.specs.Lists.{All, nil, more}
 use Rattle.lists.proofs.ListsLaws.{all_right}
 use Rattle.limits.specs.Limits.{policy_bytes, max_piece}
 use Rattle.slices.proofs.TestLaws.{and_intro}
-use Rattle.slices.proofs.PartLaws.{part_none}
 use Rattle.slices.specs.Bytes.{Bytes}
 use Rattle.slices.specs.Chunks.{flat, chunks, chunks_from}
 use Rattle.slices.proofs.ChunksLaws.{flat_append, flat_one}
 use Rattle.policy.proofs.PolicyLaws.{WellFormed}
 use Rattle.reader.specs.declared.Verdict.{Verdict}
 use Rattle.reader.specs.declared.Listing.{Listing}
-use Rattle.reader.specs.declared.Listing.TheVariants.{Entry, NoEntry}
-use Rattle.reader.specs.Reading.{good_of, good_from, ended, verdict_of, listed, listing}
+use Rattle.reader.specs.Reading.{good_of, good_from, ended, verdict_of, listed}
 use Rattle.reader.proofs.ReadingLaws.{good_entries, good_grows, past_ended, ended_stays, ended_verdict}
 use Rattle.reader.proofs.ListingLaws.{listing_none, listing_entry}
-use Rattle.reader.specs.Reader.{reader_bytes, good, is_piece, fresh, fed, after_feed, verdict_in, listing_in}
+use Rattle.reader.specs.Reader.{reader_bytes, is_piece, fresh, fed, after_feed, verdict_in, listing_in}
 use Rattle.reader.specs.Pieces.{HandsOut, end, next}
 use Rattle.reader.specs.HasRead.{HasRead}
 use Rattle.reader.proofs.HasReadLaws.{fresh_read, fed_read, read_verdict, read_listing}
@@ -57,14 +55,14 @@ unfolding listing_lines
 lines_more i [] fs = let e : i + 0 ≡ i = omega arith in rw e refl
 lines_more i (e ∷ es) fs =
     let k : i + 1 + length es ≡ i + length (e ∷ es) = omega arith in
-    rw (lines_more (i + 1) es fs, k) (sym (append_assoc (entry_line i _ _ _) (listing_lines (i + 1) (map listed es)) (listing_lines (i + length (e ∷ es)) (map listed fs))))
+    rw (lines_more (i + 1) es fs, k) (sym (append_assoc (entry_line i (listed e)) (listing_lines (i + 1) (map listed es)) (listing_lines (i + length (e ∷ es)) (map listed fs))))
 
 -- ---- the entries that a reader hands out from the end of the first ones, es, on
 pub handed : {r d : Bytes} → HasRead r d → (es ms : List Bytes) → All WellFormed ms → good_of d ≡ es ++ ms → HandsOut r (length (flat es)) (map listed ms)
 unfolding flat
 handed {r} {d} h es [] nil e = end (read_listing h (length (flat es)) ∙ rw (e, append-nil es, drop-length (flat es)) listing_none)
 handed {r} {d} h es (m ∷ ms) (more w a) e =
-    let k : listing_in r (length (flat es)) ≡ listed m =
+    let k : listing_in r (length (flat es)) ≡ Some (listed m) =
     read_listing h (length (flat es)) ∙ rw (e, flat_append es (m ∷ ms), drop_at (flat es) (m ++ flat ms) (length (flat es)) refl) (listing_entry m (flat ms) w) in
     next k (rw (flat_append es (m ∷ []), flat_one, length-append) at (handed h (es ++ (m ∷ [])) ms a (rw (append_assoc es (m ∷ []) ms) e)))
 
@@ -79,33 +77,31 @@ pub record Listed (r : Bytes) (ls : List Listing) (index : ℕ) (output₀ : Opt
 pub listed_start : (r : Bytes) (ls : List Listing) (index at : ℕ) (c : Option Bytes) → HandsOut r at ls → Listed r ls index c index at c
 listed_start r ls index at c h = record { ahead = ls; hands = h; text = []; written = appends_none c; lines = refl }
 
-ahead_entry : {r : Bytes} {at : ℕ} (ls : List Listing) (s l k : ℕ) → HandsOut r at ls → listing_in r at ≡ Entry s l k → (ms : List Listing) × (ls ≡ Entry s l k ∷ ms) × HandsOut r (at + s) ms
-ahead_entry [] s l k (end e) q = absurd (let z : ◌≡◌ {A = Listing} NoEntry (Entry s l k) = sym e ∙ q in cc)
-ahead_entry {r} {at} (Entry s₀ l₀ k₀ ∷ ms) s l k (next e h) q =
-    let z : ◌≡◌ {A = Listing} (Entry s₀ l₀ k₀) (Entry s l k) = sym e ∙ q in
-    let w : s₀ ≡ s = cc in
-    (ms, ap (λ (x : Listing). x ∷ ms) z, subst (λ (n : ℕ). HandsOut r (at + n) ms) w h)
-ahead_entry {r = r} {at = at} (NoEntry ∷ ms) s l k x q = elim x [ ]
+ahead_entry : {r : Bytes} {at : ℕ} (ls : List Listing) (l : Listing) → HandsOut r at ls → listing_in r at ≡ Some l → (ms : List Listing) × (ls ≡ l ∷ ms) × HandsOut r (at + l.size) ms
+ahead_entry [] l (end e) q = absurd (let z : ◌≡◌ {A = Option Listing} None (Some l) = sym e ∙ q in cc)
+ahead_entry {r} {at} (m ∷ ms) l (next e h) q =
+    let z : ◌≡◌ {A = Option Listing} (Some m) (Some l) = sym e ∙ q in
+    let w : m ≡ l = cc in
+    (ms, ap (λ (x : Listing). x ∷ ms) w, subst (λ (n : ℕ). HandsOut r (at + n) ms) (ap (λ (x : Listing). x.size) w) h)
 
-ahead_none : {r : Bytes} {at : ℕ} (ls : List Listing) → HandsOut r at ls → listing_in r at ≡ NoEntry → ls ≡ []
+ahead_none : {r : Bytes} {at : ℕ} (ls : List Listing) → HandsOut r at ls → listing_in r at ≡ None → ls ≡ []
 ahead_none [] (end e) q = refl
-ahead_none (Entry s l k ∷ ms) (next e h) q = absurd (let z : ◌≡◌ {A = Listing} NoEntry (Entry s l k) = sym q ∙ e in cc)
-ahead_none {r = r} {at = at} (NoEntry ∷ ms) x q = elim x [ ]
+ahead_none (l ∷ ms) (next e h) q = absurd (let z : ◌≡◌ {A = Option Listing} None (Some l) = sym q ∙ e in cc)
 
-pub listed_next : {r : Bytes} {ls : List Listing} {index i at : ℕ} {a b : Option Bytes} (s l k : ℕ) (c : Option Bytes) → Listed r ls index a i at b → listing_in r at ≡ Entry s l k
-    → Appends b c (entry_line i s l k) → Listed r ls index a (i + 1) (at + s) c
+pub listed_next : {r : Bytes} {ls : List Listing} {index i at : ℕ} {a b : Option Bytes} (l : Listing) (c : Option Bytes) → Listed r ls index a i at b → listing_in r at ≡ Some l
+    → Appends b c (entry_line i l) → Listed r ls index a (i + 1) (at + l.size) c
 unfolding listing_lines
-listed_next {r} {ls} {index} {i} {at} {a} {b} s l k c h q w =
-    let n = ahead_entry h.ahead s l k h.hands q in
+listed_next {r} {ls} {index} {i} {at} {a} {b} l c h q w =
+    let n = ahead_entry h.ahead l h.hands q in
     record {
       ahead = n.0;
       hands = n.2;
-      text = h.text ++ entry_line i s l k;
-      written = appends_more a b c h.text (entry_line i s l k) h.written w;
-      lines = h.lines ∙ ap (λ (m : List Listing). h.text ++ listing_lines i m) n.1 ∙ sym (append_assoc h.text (entry_line i s l k) (listing_lines (i + 1) n.0));
+      text = h.text ++ entry_line i l;
+      written = appends_more a b c h.text (entry_line i l) h.written w;
+      lines = h.lines ∙ ap (λ (m : List Listing). h.text ++ listing_lines i m) n.1 ∙ sym (append_assoc h.text (entry_line i l) (listing_lines (i + 1) n.0));
     }
 
-pub listed_all : {r : Bytes} {ls : List Listing} {index i at : ℕ} {a b : Option Bytes} → Listed r ls index a i at b → listing_in r at ≡ NoEntry → Appends a b (listing_lines index ls)
+pub listed_all : {r : Bytes} {ls : List Listing} {index i at : ℕ} {a b : Option Bytes} → Listed r ls index a i at b → listing_in r at ≡ None → Appends a b (listing_lines index ls)
 unfolding listing_lines
 listed_all {r} {ls} {index} {i} {at} {a} {b} h q =
     let e : listing_lines index ls ≡ h.text = h.lines ∙ ap (λ (m : List Listing). h.text ++ listing_lines i m) (ahead_none h.ahead h.hands q) ∙ append-nil h.text in
@@ -153,13 +149,6 @@ whole {p} {r} d (Some y) a b c t e w = go e
     go (inr f) = rw (t.consumed, ended_stays p y f, ended_verdict p y f) s
 
 -- ---- what the reader says
--- behind the good entries none begins
-pub past_good : {v : Verdict} (r : Bytes) (at : ℕ) → v ≡ verdict_in r → v.bytes ≤ at → listing_in r at ≡ NoEntry
-unfolding verdict_in listing_in
-past_good r at e h =
-    let k : good r ≤ at = rw e at h in
-    ap listing (part_none at (good r) r k) ∙ listing_none
-
 -- that the reading has ended
 pub says_ended : {v : Verdict} {r d : Bytes} → HasRead r d → v ≡ verdict_in r → v.ended ≡ true → ended d ≡ true
 unfolding verdict_of

@@ -15,6 +15,7 @@ use Rattle.slices.proofs.OverwriteLaws.{length_overwrite}
 use Rattle.std.specs.Fmt.{decimal as printed}
 use Rattle.std.proofs.lemmas.Fmt.{decimal_digit, decimal_step, length-decimal-le}
 use Rattle.reader.specs.declared.Verdict.{Verdict}
+use Rattle.reader.specs.declared.Listing.{Listing}
 use Rattle.list_dump.specs.Lines.{ascii, digit, decimal_within, decimal, field, marks, entry_line, closing_line, IsPrefixLen, Put}
 
 -- a text copied into the line is put there
@@ -78,16 +79,16 @@ unfolding marks
 marks_number rank n = rw (ne_eqb rank whole_namespace_rank n) refl
 
 -- THE LINE OF AN ENTRY, put in five parts
-pub entry_line_lem : (l₀ l₁ l₂ l₃ l₄ l₅ : Bytes) (a b c d r index size lock rank : ℕ) → r ≤ length l₀ → Put l₀ 0 (decimal index) l₁ a → Put l₁ a (field " size " size) l₂ b
-    → Put l₂ b (field " lock " lock) l₃ c → Put l₃ c (ascii " marks " ++ marks rank) l₄ d → Put l₄ d (ascii "\n") l₅ r
-    → (take r l₅ ≡ entry_line index size lock rank) × IsPrefixLen r l₅
+pub entry_line_lem : (l₀ l₁ l₂ l₃ l₄ l₅ : Bytes) (a b c d r index : ℕ) (l : Listing) → r ≤ length l₀ → Put l₀ 0 (decimal index) l₁ a → Put l₁ a (field " size " l.size) l₂ b
+    → Put l₂ b (field " lock " l.lock) l₃ c → Put l₃ c (ascii " marks " ++ marks l.rank) l₄ d → Put l₄ d (ascii "\n") l₅ r
+    → (take r l₅ ≡ entry_line index l) × IsPrefixLen r l₅
 unfolding entry_line
-entry_line_lem l₀ l₁ l₂ l₃ l₄ l₅ a b c d r index size lock rank h p q s t u =
-    let two = put_two l₁ l₀ l₂ (decimal index) (field " size " size) 0 a b p q in
-    let three = put_two l₂ l₀ l₃ (decimal index ++ field " size " size) (field " lock " lock) 0 b c two s in
-    let four = put_two l₃ l₀ l₄ (decimal index ++ field " size " size ++ field " lock " lock) (ascii " marks " ++ marks rank) 0 c d three t in
-    let five = put_two l₄ l₀ l₅ (decimal index ++ field " size " size ++ field " lock " lock ++ (ascii " marks " ++ marks rank)) (ascii "\n") 0 d r four u in
-    put_all l₅ l₀ (entry_line index size lock rank) r five h
+entry_line_lem l₀ l₁ l₂ l₃ l₄ l₅ a b c d r index l h p q s t u =
+    let two = put_two l₁ l₀ l₂ (decimal index) (field " size " l.size) 0 a b p q in
+    let three = put_two l₂ l₀ l₃ (decimal index ++ field " size " l.size) (field " lock " l.lock) 0 b c two s in
+    let four = put_two l₃ l₀ l₄ (decimal index ++ field " size " l.size ++ field " lock " l.lock) (ascii " marks " ++ marks l.rank) 0 c d three t in
+    let five = put_two l₄ l₀ l₅ (decimal index ++ field " size " l.size ++ field " lock " l.lock ++ (ascii " marks " ++ marks l.rank)) (ascii "\n") 0 d r four u in
+    put_all l₅ l₀ (entry_line index l) r five h
 
 -- THE LAST LINE, put in two parts or in three
 pub bad_line : (l₀ l₁ l₂ : Bytes) (a r : ℕ) (v : Verdict) → v.whole ≡ false → r ≤ length l₀ → Put l₀ 0 (field "bad at " v.bytes) l₁ a → Put l₁ a (ascii "\n") l₂ r

@@ -5,6 +5,7 @@ use Prim.Native.String.{String, [] as end, ◌∷◌ as ◌then◌}
 use Rattle.limits.specs.Limits.{whole_namespace_rank}
 use Rattle.slices.specs.Bytes.{Bytes}
 use Rattle.reader.specs.declared.Verdict.{Verdict}
+use Rattle.reader.specs.declared.Listing.{Listing}
 
 -- a text in ASCII
 abbrev pub ascii : String → Bytes
@@ -33,8 +34,8 @@ unfoldable pub marks : ℕ → Bytes
 marks rank = cond (eqb rank whole_namespace_rank) (ascii "all") (decimal rank)
 
 -- THE LINE OF AN ENTRY: its place in the dump, its Size, its lock type, its marks
-unfoldable pub entry_line : ℕ → ℕ → ℕ → ℕ → Bytes
-entry_line index size lock rank = decimal index ++ field " size " size ++ field " lock " lock ++ (ascii " marks " ++ marks rank) ++ ascii "\n"
+unfoldable pub entry_line : ℕ → Listing → Bytes
+entry_line index l = decimal index ++ field " size " l.size ++ field " lock " l.lock ++ (ascii " marks " ++ marks l.rank) ++ ascii "\n"
 
 -- THE LAST LINE: how many entries there are and how many bytes they take; or the first byte of the first entry that is not good
 unfoldable pub closing_line : Verdict → Bytes

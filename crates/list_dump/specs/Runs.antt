@@ -3,7 +3,6 @@ use Rattle.std.specs.Prelude.{ℕ, ◌+◌, ◌≡◌, ◌<◌, Option, List, []
 use Rattle.std.specs.Io.KnownBytes.{Appends, Consumes, IsAtEnd}
 use Rattle.slices.specs.Bytes.{Bytes}
 use Rattle.reader.specs.declared.Listing.{Listing}
-use Rattle.reader.specs.declared.Listing.TheVariants.{Entry, NoEntry}
 use Rattle.reader.specs.Reading.{good_of, ended, verdict_of, listed}
 use Rattle.reader.specs.HasRead.{HasRead}
 use Rattle.list_dump.specs.Lines.{entry_line, closing_line}
@@ -15,8 +14,7 @@ use Rattle.list_dump.specs.declared.Turn.TheVariants.{More, End}
 -- a line for each entry that is told, of which the first has the place i in the dump
 unfoldable pub listing_lines : ℕ → List Listing → Bytes
 listing_lines i [] = []
-listing_lines i (Entry size lock rank ∷ ls) = entry_line i size lock rank ++ listing_lines (i + 1) ls
-listing_lines i (NoEntry ∷ ls) = listing_lines (i + 1) ls
+listing_lines i (l ∷ ls) = entry_line i l ++ listing_lines (i + 1) ls
 
 -- the lines of the good entries of a dump, up to the first that is not good
 abbrev pub entry_lines : Bytes → Bytes

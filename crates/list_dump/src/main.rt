@@ -70,15 +70,15 @@ fn put_marks(line: &mut [u8], n: usize, rank: u32) -> usize
 }
 
 // The line of an entry, from the start of line on; answers its length.
-fn put_entry(line: &mut [u8], index: u64, size: u32, lock: u32, rank: u32) -> usize
+fn put_entry(line: &mut [u8], index: u64, listing: Listing) -> usize
     requires { length line.old ≡ 128 }
-    ensures text { take result line.new ≡ entry_line index size lock rank }
+    ensures text { take result line.new ≡ entry_line index listing }
     ensures counts { IsPrefixLen result line.new }
 {
     let a = put_number(line, 0, index);
-    let b = put_field(line, a, b" size ", size as u64);
-    let c = put_field(line, b, b" lock ", lock as u64);
-    let d = put_marks(line, c, rank);
+    let b = put_field(line, a, b" size ", listing.size as u64);
+    let c = put_field(line, b, b" lock ", listing.lock as u64);
+    let d = put_marks(line, c, listing.rank);
     put(line, d, b"\n")
 }
 
@@ -124,17 +124,11 @@ impl fmt::Display for Failure {
 }
 
 // Writes the line of an entry.
-fn write_entry<W: Write>(
-    output: &mut W,
-    index: u64,
-    size: u32,
-    lock: u32,
-    rank: u32,
-) -> io::Result<()>
-    ensures { OnOk result (Appends (W.contents output.old) (W.contents output.new) (entry_line index size lock rank)) }
+fn write_entry<W: Write>(output: &mut W, index: u64, listing: Listing) -> io::Result<()>
+    ensures { OnOk result (Appends (W.contents output.old) (W.contents output.new) (entry_line index listing)) }
 {
     let mut line = [0u8; LINE];
-    let n = put_entry(&mut line, index, size, lock, rank);
+    let n = put_entry(&mut line, index, listing);
     output.write_all(&line[..n])
 }
 
@@ -157,20 +151,12 @@ fn list_entries<W: Write>(
     ensures { OnOk result ((ls : List Listing) → HandsOut reader.now from ls
         → Appends (W.contents output.old) (W.contents output.new) (listing_lines index ls)) }
 {
-    let to = reader::verdict_of(reader).bytes as usize;
     let mut i = index as u64;
     let mut at = from as usize;
-    while at < to {
-        match reader::listing_at(reader, at) {
-            Listing::Entry { size, lock, rank } => {
-                write_entry(output, i, size, lock, rank)?;
-                i += 1;
-                at += size as usize;
-            }
-            Listing::NoEntry => {
-                return Ok(());
-            }
-        }
+    while let Some(listing) = reader::listing_at(reader, at) {
+        write_entry(output, i, listing)?;
+        i += 1;
+        at += listing.size as usize;
     }
     Ok(())
 }

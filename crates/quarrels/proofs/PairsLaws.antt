@@ -1,6 +1,6 @@
 -- What the search over pairs of places finds: `finds_first` says that the pair found is one for which the test holds, and the first; `first_found` that this
 -- first pair is found; `no_pair_exactly` that none is found exactly if the test holds for none. Assumes nothing.
-use Rattle.std.specs.Prelude.{◌≡◌, ◌⊎◌, ◌↔◌, eqb, Bool, cond}
+use Rattle.std.specs.Prelude.{◌≡◌, ◌⊎◌, ◌↔◌, eqb, Bool, cond, Option, Some, None}
 use Rattle.std.proofs.Math.Path.{refl, subst}
 use Rattle.std.proofs.Common.{sym, ap, ap₂, ◌∙◌, inl, inr, ⊎_elim, eqb-true}
 use Rattle.std.proofs.lemmas.Bool.{eqb-false, false≢true}
@@ -9,8 +9,7 @@ use Prim.Native.Nat.{ℕ, zero, suc, ◌+◌, ◌<◌}
 use native.Mathlib.Omega.{arith}
 use Rattle.lists.proofs.ListsLaws.{Less, less}
 use Rattle.quarrels.specs.declared.Pair.{Pair}
-use Rattle.quarrels.specs.declared.Pair.TheVariants.{Places, NoPair}
-use Rattle.quarrels.specs.Pairs.{row_from, pair_from, first_pair}
+use Rattle.quarrels.specs.Pairs.{pair, row_from, pair_from, first_pair}
 
 -- ---- what is found
 
@@ -58,20 +57,20 @@ module _ (f : ℕ → ℕ → Bool) (n : ℕ) where
       rest x y o w (⊎_elim (λ l. ⊎_elim (λ k. nb (inl k)) (λ k. nb (inr (k, w))) (at_or_under x i l)) (λ l. let z = l.1 in omega arith)) u
 
   -- what an answer for the pairs from i, j on says
-  abbrev Facts : ℕ → ℕ → Pair → Type 0
-  Facts i j (Places a b) = (a < b) × (b < n) × (f a b ≡ true) × Clear i j a b
-  Facts i j NoPair = Clear i j n 0
+  abbrev Facts : ℕ → ℕ → Option Pair → Type 0
+  Facts i j (Some p) = (p.earlier < p.later) × (p.later < n) × (f p.earlier p.later ≡ true) × Clear i j p.earlier p.later
+  Facts i j None = Clear i j n 0
 
-  facts_map : (i j i' j' : ℕ) → ((a b : ℕ) → Clear i j a b → Clear i' j' a b) → (o : Pair) → Facts i j o → Facts i' j' o
-  facts_map i j i' j' g (Places a b) h = (h.0, h.1, h.2, g a b h.3)
-  facts_map i j i' j' g NoPair h = g n 0 h
+  facts_map : (i j i' j' : ℕ) → ((a b : ℕ) → Clear i j a b → Clear i' j' a b) → (o : Option Pair) → Facts i j o → Facts i' j' o
+  facts_map i j i' j' g (Some p) h = (h.0, h.1, h.2, g p.earlier p.later h.3)
+  facts_map i j i' j' g None h = g n 0 h
 
-  row_facts : (i j k : ℕ) → i < j → j + k ≡ n → (o : Pair) → Facts (i + 1) 0 o → Facts i j (row_from f i j k o)
+  row_facts : (i j k : ℕ) → i < j → j + k ≡ n → (o : Option Pair) → Facts (i + 1) 0 o → Facts i j (row_from f i j k o)
   unfolding row_from
   row_facts i j zero ij e o h = subst (λ (m : ℕ). Facts i m o) (omega arith) (facts_map (i + 1) 0 i n (clear_row i) o h)
   row_facts i j (suc k) ij e o h = go (f i j) refl (row_facts i (j + 1) k (omega arith) (omega arith) o h)
     where
-      go : (b : Bool) → f i j ≡ b → Facts i (j + 1) (row_from f i (j + 1) k o) → Facts i j (cond b (Places i j) (row_from f i (j + 1) k o))
+      go : (b : Bool) → f i j ≡ b → Facts i (j + 1) (row_from f i (j + 1) k o) → Facts i j (cond b (Some (pair i j)) (row_from f i (j + 1) k o))
       go true t r = (ij, omega arith, t, clear_none i j)
       go false t r = facts_map i (j + 1) i j (λ a b. clear_more i j a b t) (row_from f i (j + 1) k o) r
 
@@ -93,24 +92,24 @@ module _ (f : ℕ → ℕ → Bool) (n : ℕ) where
   not_before x y = ⊎_elim (λ l. omega arith) (λ l. let q = l.1 in omega arith)
 
   -- the pair found is a pair for which the test holds, and the first
-  pub finds_first : (a b : ℕ) → first_pair f n ≡ Places a b → (a < b) × (b < n) × (f a b ≡ true) × ((x y : ℕ) → x < y → y < n → Before x y a b → f x y ≡ false)
+  pub finds_first : (a b : ℕ) → first_pair f n ≡ Some (pair a b) → (a < b) × (b < n) × (f a b ≡ true) × ((x y : ℕ) → x < y → y < n → Before x y a b → f x y ≡ false)
   finds_first a b e = let h = subst (Facts 0 0) e facts in (h.0, h.1, h.2, λ x y o w u. h.3 x y o w (not_before x y) u)
 
   -- none is found exactly if the test holds for none
-  pub no_pair_exactly : first_pair f n ≡ NoPair ↔ ((x y : ℕ) → x < y → y < n → f x y ≡ false)
+  pub no_pair_exactly : first_pair f n ≡ None ↔ ((x y : ℕ) → x < y → y < n → f x y ≡ false)
   no_pair_exactly = ((λ e x y o w. subst (Facts 0 0) e facts x y o w (not_before x y) (inl (omega arith))), λ all. go all (first_pair f n) refl)
     where
-      go : ((x y : ℕ) → x < y → y < n → f x y ≡ false) → (o : Pair) → first_pair f n ≡ o → first_pair f n ≡ NoPair
-      go all (Places a b) e = let h = finds_first a b e in absurd (false≢true (sym (all a b h.0 h.1) ∙ h.2))
-      go all NoPair e = e
+      go : ((x y : ℕ) → x < y → y < n → f x y ≡ false) → (o : Option Pair) → first_pair f n ≡ o → first_pair f n ≡ None
+      go all (Some p) e = let h = finds_first p.earlier p.later e in absurd (false≢true (sym (all p.earlier p.later h.0 h.1) ∙ h.2))
+      go all None e = e
 
   -- a pair for which the test holds, and for none before it, is the one found
-  pub first_found : (a b : ℕ) → a < b → b < n → f a b ≡ true → ((x y : ℕ) → x < y → y < n → Before x y a b → f x y ≡ false) → first_pair f n ≡ Places a b
+  pub first_found : (a b : ℕ) → a < b → b < n → f a b ≡ true → ((x y : ℕ) → x < y → y < n → Before x y a b → f x y ≡ false) → first_pair f n ≡ Some (pair a b)
   first_found a b o w t clear = go (first_pair f n) refl
     where
-      go : (p : Pair) → first_pair f n ≡ p → first_pair f n ≡ Places a b
-      go NoPair e = absurd (false≢true (sym (no_pair_exactly.0 e a b o w) ∙ t))
-      go (Places x y) e =
-          let h = finds_first x y e in
-          e ∙ ⊎_elim (λ l. absurd (false≢true (sym (clear x y h.0 h.1 l) ∙ h.2)))
-          (⊎_elim (λ l. absurd (false≢true (sym (h.3 a b o w l) ∙ t))) (λ l. ap₂ Places l.0 l.1)) (which x y a b)
+      go : (p : Option Pair) → first_pair f n ≡ p → first_pair f n ≡ Some (pair a b)
+      go None e = absurd (false≢true (sym (no_pair_exactly.0 e a b o w) ∙ t))
+      go (Some p) e =
+          let h = finds_first p.earlier p.later e in
+          e ∙ ⊎_elim (λ l. absurd (false≢true (sym (clear p.earlier p.later h.0 h.1 l) ∙ h.2)))
+          (⊎_elim (λ l. absurd (false≢true (sym (h.3 a b o w l) ∙ t))) (λ l. ap₂ (λ x y. Some (pair x y)) l.0 l.1)) (which p.earlier p.later a b)

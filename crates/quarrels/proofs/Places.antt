@@ -4,6 +4,7 @@ use Prim.Native.Nat.{ℕ, zero, suc, ◌+◌, ◌-◌, ◌≤◌, ◌<◌}
 use mathlib.Core.Path.{◌≡◌, refl, sym, ap, ap₂, subst⁻¹, ◌∙◌}
 use mathlib.Core.List.{List, [], ◌∷◌}
 use mathlib.Core.Bool.{true, false}
+use Rattle.std.specs.Prelude.{Some, None}
 use mathlib.Core.Logic.{inl, inr}
 use native.Mathlib.Omega.{arith}
 use lib.ListN.{length, get_or}
@@ -25,7 +26,7 @@ use Rattle.entry.specs.Entry.{offset_to_name, name_of}
 use Rattle.policy.specs.Policy.{entries_of}
 use Rattle.policy.specs.Dump.{dump_valid}
 use Rattle.policy.proofs.DumpLaws.{dump_flat, dump_entries}
-use Rattle.quarrels.specs.declared.Pair.TheVariants.{Places, NoPair}
+use Rattle.quarrels.specs.Pairs.{pair}
 use Rattle.quarrels.proofs.PairsLaws.{Before, no_pair_exactly, first_found}
 use Rattle.quarrels.specs.Quarrel.{quarrel_at, pair_of}
 use Rattle.quarrels.proofs.QuarrelLaws.{at, all_at, formed_at, apart_at}
@@ -99,7 +100,7 @@ module _ (d : Bytes) (v : dump_valid d ≡ true) (b : (k : ℕ) → get_or d k 0
     other_signs = signs_differ (at es i) (at es j) both q
 
   -- where no unit of the dump is '#' no two do
-  pub none_signed : has_sign d ≡ false → NoPair ≡ pair_of es
+  pub none_signed : has_sign d ≡ false → None ≡ pair_of es
   unfolding group_of
   none_signed z =
       sym ((no_pair_exactly (quarrel_at es) n).1 (λ i j o w. forced_off (quarrel_at es i j) (λ q.
@@ -217,8 +218,8 @@ module _ (d : Bytes) (v : dump_valid d ≡ true) (b : (k : ℕ) → get_or d k 0
       walk_skip (on {j} p u d) w = walk_past j u d (walk_skip p w) (less j n)
 
   -- the pair found
-  pub found_here : (i j : ℕ) → j < n → Walks es i j → quarrel_at es i j ≡ true → Places i j ≡ pair_of es
+  pub found_here : (i j : ℕ) → j < n → Walks es i j → quarrel_at es i j ≡ true → Some (pair i j) ≡ pair_of es
   found_here i j l w q = sym (first_found (quarrel_at es) n i j (w.inside l).order l q w.clear)
 
-  pub found_none : (i : ℕ) → n ≤ i → Clear es i 0 → NoPair ≡ pair_of es
+  pub found_none : (i : ℕ) → n ≤ i → Clear es i 0 → None ≡ pair_of es
   found_none i h c = sym ((no_pair_exactly (quarrel_at es) n).1 (λ x y o w. c x y o w (inl (omega arith))))

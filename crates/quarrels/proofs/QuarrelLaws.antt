@@ -1,5 +1,5 @@
 -- What the checker's answer says (RULES.md, 10.11): `quarrel_exactly`, `none_exactly`, `found_first`. Assumes nothing.
-use Rattle.std.specs.Prelude.{ℕ, zero, suc, ◌<◌, ◌≡◌, List, [], ◌∷◌, Bool, ◌||◌, ◌⊎◌, ◌↔◌, get_or}
+use Rattle.std.specs.Prelude.{ℕ, zero, suc, ◌<◌, ◌≡◌, List, [], ◌∷◌, Bool, ◌||◌, ◌⊎◌, ◌↔◌, get_or, Option, Some, None, Ok, Err}
 use Rattle.std.proofs.Math.Path.{refl, ap}
 use Rattle.std.proofs.Common.{sym, ◌∙◌, inl, inr, arith, eq-eqb, eqb-true}
 use Rattle.std.proofs.Math.Bool.{true, false}
@@ -23,11 +23,9 @@ use Rattle.policy.proofs.PolicyLaws.{Entries}
 use Rattle.policy.specs.Dump.{dump_valid}
 use Rattle.policy.proofs.DumpLaws.{dump_entries}
 use Rattle.quarrels.specs.declared.Pair.{Pair}
-use Rattle.quarrels.specs.declared.Pair.TheVariants.{Places, NoPair}
-use Rattle.quarrels.specs.declared.Verdict.{Verdict}
-use Rattle.quarrels.specs.declared.Verdict.TheVariants.{NoDump, NoQuarrel, Found}
+use Rattle.quarrels.specs.Pairs.{pair}
 use Rattle.quarrels.proofs.PairsLaws as pairs
-use Rattle.quarrels.specs.Quarrel.{least_common, least_variable, quarrel, quarrel_at, pair_of, least_at, answer_for, quarrels_of, buffer_for, buffer_after}
+use Rattle.quarrels.specs.Quarrel.{least_common, least_variable, quarrel, quarrel_at, pair_of, least_at, Verdict, no_dump_error, first_quarrel, answer_for, quarrels_of, buffer_for, buffer_after}
 
 -- THE MEANING (RULES.md, 10.11): equal ranks, and some variable, of all that a set can name, is targeted by both
 pub record Quarrelling (e f : Bytes) : Type 0 where
@@ -178,7 +176,7 @@ module _ (es : List Bytes) (a : Entries es) where
   at_exactly i j o w = quarrel_exactly (at es i) (at es j) (formed_at i (omega arith)) (formed_at j w) (apart_at i j o w)
 
   -- no pair is found exactly if no two entries of equal rank target one variable
-  pub none_found : pair_of es ≡ NoPair ↔ ((v : Variable) → named v ≡ true → Pairs (RanksDiffer rank (λ e. targets e v)) es)
+  pub none_found : pair_of es ≡ None ↔ ((v : Variable) → named v ≡ true → Pairs (RanksDiffer rank (λ e. targets e v)) es)
   none_found = (
     (λ h v n. at_pairs (RanksDiffer rank (λ e. targets e v)) es (λ i j o w p q r.
         false≢true (sym ((pairs.no_pair_exactly (quarrel_at es) (length es)).0 h i j o w) ∙ (at_exactly i j o w).1 (record { ranks = r; of = v; taken = n; first = p; second = q })))),
@@ -186,7 +184,7 @@ module _ (es : List Bytes) (a : Entries es) where
         forced_off (quarrel_at es i j) (λ t. let q = (at_exactly i j o w).0 t in absurd (pairs_at (RanksDiffer rank (λ e. targets e q.of)) es (u q.of q.taken) i j o w q.first q.second q.ranks)))),
   )
 
-  pub pair_found : (i j : ℕ) → pair_of es ≡ Places i j → FirstQuarrel es i j (least_at es i j)
+  pub pair_found : (i j : ℕ) → pair_of es ≡ Some (pair i j) → FirstQuarrel es i j (least_at es i j)
   pair_found i j h =
       let k = pairs.finds_first (quarrel_at es) (length es) i j h in
       let q = target_least (at es i) (at es j) k.2 in
@@ -203,24 +201,24 @@ module _ (es : List Bytes) (a : Entries es) where
 
 -- the answer by numbers
 abbrev kind : Verdict → ℕ
-kind NoDump = 0
-kind NoQuarrel = 1
-kind (Found i j n) = 2
+kind (Err _) = 0
+kind (Ok None) = 1
+kind (Ok (Some q)) = 2
 
 abbrev earlier_of : Verdict → ℕ
-earlier_of NoDump = 0
-earlier_of NoQuarrel = 0
-earlier_of (Found i j n) = i
+earlier_of (Err _) = 0
+earlier_of (Ok None) = 0
+earlier_of (Ok (Some q)) = q.pair.earlier
 
 abbrev later_of : Verdict → ℕ
-later_of NoDump = 0
-later_of NoQuarrel = 0
-later_of (Found i j n) = j
+later_of (Err _) = 0
+later_of (Ok None) = 0
+later_of (Ok (Some q)) = q.pair.later
 
 abbrev length_of : Verdict → ℕ
-length_of NoDump = 0
-length_of NoQuarrel = 0
-length_of (Found i j n) = n
+length_of (Err _) = 0
+length_of (Ok None) = 0
+length_of (Ok (Some q)) = q.length
 
 -- of a dump: which of the three answers it is
 module _ (d : Bytes) where
@@ -229,48 +227,48 @@ module _ (d : Bytes) where
 
   -- the cases of the answer, with what they rest on
   data Case : Type 0 where
-    no_dump : dump_valid d ≡ false → quarrels_of d ≡ NoDump → ((b : Bytes) → buffer_after d b ≡ b) → Case
-    no_quarrel : dump_valid d ≡ true → pair_of es ≡ NoPair → quarrels_of d ≡ NoQuarrel → ((b : Bytes) → buffer_after d b ≡ b) → Case
-    found : dump_valid d ≡ true → (i j : ℕ) → pair_of es ≡ Places i j → quarrels_of d ≡ Found i j (length (least_at es i j))
+    no_dump : dump_valid d ≡ false → quarrels_of d ≡ Err no_dump_error → ((b : Bytes) → buffer_after d b ≡ b) → Case
+    no_quarrel : dump_valid d ≡ true → pair_of es ≡ None → quarrels_of d ≡ Ok None → ((b : Bytes) → buffer_after d b ≡ b) → Case
+    found : dump_valid d ≡ true → (i j : ℕ) → pair_of es ≡ Some (pair i j) → quarrels_of d ≡ Ok (Some (first_quarrel i j (length (least_at es i j))))
         → ((b : Bytes) → buffer_after d b ≡ overwrite b 0 (least_at es i j)) → Case
 
   case : Case
   unfolding quarrels_of buffer_after
   case = go (dump_valid d) (pair_of es) refl refl
     where
-      go : (v : Bool) (p : Pair) → dump_valid d ≡ v → pair_of es ≡ p → Case
+      go : (v : Bool) (p : Option Pair) → dump_valid d ≡ v → pair_of es ≡ p → Case
       go false p v e = no_dump v (rw v) (λ b. rw v)
-      go true NoPair v e = no_quarrel v e (rw v (ap (answer_for es) e)) (λ b. rw v (ap (λ q. buffer_for es q b) e))
-      go true (Places i j) v e = found v i j e (rw v (ap (answer_for es) e)) (λ b. rw v (ap (λ q. buffer_for es q b) e))
+      go true None v e = no_quarrel v e (rw v (ap (answer_for es) e)) (λ b. rw v (ap (λ q. buffer_for es q b) e))
+      go true (Some p) v e = found v p.earlier p.later e (rw v (ap (answer_for es) e)) (λ b. rw v (ap (λ q. buffer_for es q b) e))
 
   -- ---- WHEN IT IS WHICH ANSWER
   other : {x y : Verdict} → quarrels_of d ≡ x → quarrels_of d ≡ y → kind x ≡ kind y
   other e f = ap kind (sym e ∙ f)
 
   -- 2 exactly if the bytes are no dump
-  pub no_dump_exactly : quarrels_of d ≡ NoDump ↔ (dump_valid d ≡ false)
+  pub no_dump_exactly : quarrels_of d ≡ Err no_dump_error ↔ (dump_valid d ≡ false)
   no_dump_exactly = (go case, λ v. back v case)
     where
-      go : Case → quarrels_of d ≡ NoDump → dump_valid d ≡ false
+      go : Case → quarrels_of d ≡ Err no_dump_error → dump_valid d ≡ false
       go (no_dump v e b) h = v
       go (no_quarrel v p e b) h = absurd (omega (arith, other h e))
       go (found v i j p e b) h = absurd (omega (arith, other h e))
 
-      back : dump_valid d ≡ false → Case → quarrels_of d ≡ NoDump
+      back : dump_valid d ≡ false → Case → quarrels_of d ≡ Err no_dump_error
       back n (no_dump v e b) = e
       back n (no_quarrel v p e b) = absurd (false≢true (sym n ∙ v))
       back n (found v i j p e b) = absurd (false≢true (sym n ∙ v))
 
   -- none exactly if no two entries of equal rank target one variable, of all that a set can name
-  pub none_exactly : quarrels_of d ≡ NoQuarrel ↔ ((dump_valid d ≡ true) × ((v : Variable) → named v ≡ true → Pairs (RanksDiffer rank (λ e. targets e v)) (entries_of d)))
+  pub none_exactly : quarrels_of d ≡ Ok None ↔ ((dump_valid d ≡ true) × ((v : Variable) → named v ≡ true → Pairs (RanksDiffer rank (λ e. targets e v)) (entries_of d)))
   none_exactly = (go case, λ u. back u case)
     where
-      go : Case → quarrels_of d ≡ NoQuarrel → (dump_valid d ≡ true) × ((v : Variable) → named v ≡ true → Pairs (RanksDiffer rank (λ e. targets e v)) es)
+      go : Case → quarrels_of d ≡ Ok None → (dump_valid d ≡ true) × ((v : Variable) → named v ≡ true → Pairs (RanksDiffer rank (λ e. targets e v)) es)
       go (no_dump v e b) h = absurd (omega (arith, other h e))
       go (no_quarrel v p e b) h = (v, (none_found es (dump_entries d v)).0 p)
       go (found v i j p e b) h = absurd (omega (arith, other h e))
 
-      back : (dump_valid d ≡ true) × ((v : Variable) → named v ≡ true → Pairs (RanksDiffer rank (λ e. targets e v)) es) → Case → quarrels_of d ≡ NoQuarrel
+      back : (dump_valid d ≡ true) × ((v : Variable) → named v ≡ true → Pairs (RanksDiffer rank (λ e. targets e v)) es) → Case → quarrels_of d ≡ Ok None
       back u (no_dump v e b) = absurd (false≢true (sym v ∙ u.0))
       back u (no_quarrel v p e b) = e
       back u (found v i j p e b) =
@@ -278,7 +276,7 @@ module _ (d : Bytes) where
           pairs_at (RanksDiffer rank (λ x. targets x _)) es (u.1 _ f.taken) i j f.order f.within f.earlier f.later f.ranks)
 
   -- a pair that is found is the first, with the least name
-  pub found_first : (i j n : ℕ) → quarrels_of d ≡ Found i j n → FirstQuarrel (entries_of d) i j (least_at (entries_of d) i j)
+  pub found_first : (i j n : ℕ) → quarrels_of d ≡ Ok (Some (first_quarrel i j n)) → FirstQuarrel (entries_of d) i j (least_at (entries_of d) i j)
       × (n ≡ length (least_at (entries_of d) i j)) × ((b : Bytes) → buffer_after d b ≡ overwrite b 0 (least_at (entries_of d) i j))
   found_first i j n h = go case
     where
@@ -294,7 +292,7 @@ module _ (d : Bytes) where
           rw (c, g) at t
 
   -- its places are among those of a dump
-  pub found_places : (i j n : ℕ) → quarrels_of d ≡ Found i j n → (i < max_entries) × (j < max_entries)
+  pub found_places : (i j n : ℕ) → quarrels_of d ≡ Ok (Some (first_quarrel i j n)) → (i < max_entries) × (j < max_entries)
   found_places i j n h = go case
     where
       f : FirstQuarrel es i j (least_at es i j)
@@ -306,7 +304,7 @@ module _ (d : Bytes) where
       go (found v x y p e b) = let k = (dump_entries d v).few in let o = f.order in let w = f.within in (omega arith, omega arith)
 
   -- the buffer stays as it was but for a pair that is found
-  pub buffer_kept : (b : Bytes) → ((i j n : ℕ) → quarrels_of d ≡ Found i j n → ⊥) → buffer_after d b ≡ b
+  pub buffer_kept : (b : Bytes) → ((i j n : ℕ) → quarrels_of d ≡ Ok (Some (first_quarrel i j n)) → ⊥) → buffer_after d b ≡ b
   buffer_kept b h = go case
     where
       go : Case → buffer_after d b ≡ b

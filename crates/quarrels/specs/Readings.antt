@@ -1,6 +1,6 @@
 -- The proved bench readings of the checker of dumps (RULES.md, 13), under one claim: what it answers, and the buffer afterwards from end to end.
 -- Assumes nothing.
-use Rattle.std.specs.Prelude.{ℕ, ◌*◌, ◌≡◌, refl, List, [], ◌∷◌, ◌++◌, true, length, replicate, drop}
+use Rattle.std.specs.Prelude.{ℕ, ◌*◌, ◌≡◌, refl, List, [], ◌∷◌, ◌++◌, true, length, replicate, drop, Some, None, Ok, Err}
 use Rattle.lists.specs.Lists.{All, nil, more}
 use Rattle.slices.specs.Test.{◌and◌}
 use Rattle.slices.specs.Bytes.{Bytes, le16, le32, le16_bytes, le32_bytes, pairwise, same, overwrite}
@@ -12,10 +12,8 @@ use Rattle.entry.specs.Encoding.{Lock, offset_for, size_for, encode_lock, encode
 use Rattle.entry.specs.Encoding.Lock.{plain, on_var_state}
 use Rattle.policy.specs.Policy.{length_by}
 use Rattle.policy.specs.Dump.{dump_valid}
-use Rattle.quarrels.specs.declared.Verdict.{Verdict}
-use Rattle.quarrels.specs.declared.Verdict.TheVariants.{NoDump, NoQuarrel, Found}
 use Rattle.quarrels.specs.Pairs.{row_from, pair_from}
-use Rattle.quarrels.specs.Quarrel.{quarrel, quarrels_of, buffer_after}
+use Rattle.quarrels.specs.Quarrel.{Verdict, quarrel, quarrels_of, buffer_after}
 
 -- ---- how the readings are written down
 
@@ -55,9 +53,9 @@ old = replicate 18 9
 
 -- an answer in numbers: the status, and of a pair its places and the length of its name
 abbrev numbers : Verdict → List ℕ
-numbers NoDump = 2 ∷ []
-numbers NoQuarrel = 0 ∷ []
-numbers (Found i j n) = 0 ∷ i ∷ j ∷ n ∷ []
+numbers (Err _) = 2 ∷ []
+numbers (Ok None) = 0 ∷ []
+numbers (Ok (Some q)) = 0 ∷ q.pair.earlier ∷ q.pair.later ∷ q.length ∷ []
 
 -- the numbers, and behind them the buffer
 abbrev told : Bytes → List ℕ

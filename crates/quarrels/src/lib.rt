@@ -31,25 +31,23 @@ const END: u32 = limits::MAX_ENTRIES as u32;
 // The same for a group without an entry.
 const NONE: u8 = limits::MAX_ENTRIES as u8;
 
-// The first two entries that quarrel, by their places counted from 0; or none.
-#[derive(Clone, Copy)]
-pub enum Pair {
-    Places { earlier: usize, later: usize },
-    NoPair,
+// The places of two entries of a dump, counted from 0.
+#[derive(Clone, Copy, Debug, PartialEq, Eq)]
+pub struct Pair {
+    pub earlier: usize,
+    pub later: usize,
 }
 
-// What the check of a dump answers: that the bytes are no dump; that no two entries quarrel; or the first two that do, and the length of the
-// least name that both target.
-#[derive(Clone, Copy)]
-pub enum Verdict {
-    NoDump,
-    NoQuarrel,
-    Found {
-        earlier: usize,
-        later: usize,
-        length: usize,
-    },
+// The first two entries that quarrel, and the length of the least name that both target.
+#[derive(Clone, Copy, Debug, PartialEq, Eq)]
+pub struct FoundQuarrel {
+    pub pair: Pair,
+    pub length: usize,
 }
+
+// The bytes are no dump.
+#[derive(Clone, Copy, Debug, PartialEq, Eq)]
+pub struct NoDump;
 
 // The group of an entry: of two that quarrel it is the same. GROUPS where there is no '#' in its name, since such entries quarrel with none.
 fn group_of(e: &[u8]) -> usize
@@ -257,40 +255,38 @@ fn first_pair(
     first: &[u32; ENTRIES],
     masks: &[usize; NOTES],
     shown: &[usize; NOTES],
-) -> Pair
+) -> Option<Pair>
     requires { (count ≡ length (entries_of dump.now)) × (dump_valid dump.now ≡ true) × EntryEnds ends.now dump.now
         × Noted literal_mask_of (entries_of dump.now) masks.now 0 × Noted literals_of (entries_of dump.now) shown.now 0
         × Chains (group_at (entries_of dump.now)) (length (entries_of dump.now)) next.now 0 × Others (entries_of dump.now) first.now 0 }
     ensures { result ≡ pair_of (entries_of dump.now) }
 {
-    let mut found = Pair::NoPair;
     let mut i = 0;
-    'pairs: while i < count {
+    while i < count {
         let own = shown[i];
         let mask = masks[i];
         let mut j = place(first[i]);
         while j < count {
             if quarrel_at(dump, ends, masks, shown, i, j) {
-                found = Pair::Places {
+                return Some(Pair {
                     earlier: i,
                     later: j,
-                };
-                break 'pairs;
+                });
             }
             j = candidate(next, masks, shown, place(next[j]), own, mask);
         }
         i += 1;
     }
-    found
+    None
 }
 
 // Links and notes the entries of a dump that was found valid, and looks for the first two that quarrel. Without a '#' in it there is nothing to look for.
-fn pair_of(dump: &[u8], count: usize, ends: &[u16; ENTRIES]) -> Pair
+fn pair_of(dump: &[u8], count: usize, ends: &[u16; ENTRIES]) -> Option<Pair>
     requires { (count ≡ length (entries_of dump.now)) × EntryEnds ends.now dump.now × (dump_valid dump.now ≡ true) }
     ensures { result ≡ pair_of (entries_of dump.now) }
 {
     if !patterns::has_sign(dump) {
-        return Pair::NoPair;
+        return None;
     }
     let mut next = no_links();
     let mut first = no_links();
@@ -304,24 +300,22 @@ fn pair_of(dump: &[u8], count: usize, ends: &[u16; ENTRIES]) -> Pair
 
 // The quarrels of a dump: whether the bytes are one, and if so the first two entries that quarrel, with the least name that both target at the
 // front of the buffer.
-pub fn quarrels(dump: &[u8], name: &mut [u8; 128]) -> Verdict
+pub fn quarrels(dump: &[u8], name: &mut [u8; 128]) -> Result<Option<FoundQuarrel>, NoDump>
     ensures answer { result ≡ quarrels_of dump.now }
     ensures buffer { name.new ≡ buffer_after dump.now name.old }
 {
     let mut ends = policy::no_ends();
     let Some(extent) = policy::check_dump(dump, &mut ends) else {
-        return Verdict::NoDump;
+        return Err(NoDump);
     };
-    let pair = pair_of(dump, extent.count, &ends);
-    let Pair::Places { earlier, later } = pair else {
-        return Verdict::NoQuarrel;
+    let Some(pair) = pair_of(dump, extent.count, &ends) else {
+        return Ok(None);
     };
-    let own = entry::name_bytes(policy::entry_at(dump, &ends, earlier));
-    let other = entry::name_bytes(policy::entry_at(dump, &ends, later));
+    let own = entry::name_bytes(policy::entry_at(dump, &ends, pair.earlier));
+    let other = entry::name_bytes(policy::entry_at(dump, &ends, pair.later));
     patterns::put_least(own, other, name);
-    Verdict::Found {
-        earlier,
-        later,
+    Ok(Some(FoundQuarrel {
+        pair,
         length: own.len(),
-    }
+    }))
 }

@@ -1,6 +1,6 @@
 -- THE CLAIM OF THE READER (RULES.md, 10.12): however a dump is cut into pieces, the reader says of it what is said of it read whole (`in_pieces`); and what follows: `however_cut`,
 -- `whole_exactly`, `handed_stays`, `after_bad`, `refused_struck`, `piece_granted`, `piece_refused`. Assumes nothing.
-use Rattle.std.specs.Prelude.{ℕ, ◌≤◌, ◌<◌, ◌≡◌, refl, List, [], ◌∷◌, map, true, ◌⊎◌, ◌↔◌, length}
+use Rattle.std.specs.Prelude.{ℕ, ◌≤◌, ◌<◌, ◌≡◌, refl, List, [], ◌∷◌, map, true, ◌⊎◌, ◌↔◌, length, Some}
 use Rattle.std.proofs.Common.{sym, ap, ◌∙◌, append-nil, inl, inr, arith, le-leb}
 use Rattle.std.proofs.lemmas.Bool.{lt-leb}
 use Rattle.limits.specs.Limits.{max_piece}
@@ -10,7 +10,7 @@ use Rattle.slices.specs.Bytes.{Bytes}
 use Rattle.policy.specs.Dump.{dump_valid}
 use Rattle.status.specs.declared.Status.TheVariants.{Success, InvalidParameter}
 use Rattle.reader.specs.declared.Verdict.{Verdict}
-use Rattle.reader.specs.declared.Listing.TheVariants.{Entry}
+use Rattle.reader.specs.declared.Listing.{Listing}
 use Rattle.reader.specs.Reading.{verdict_of}
 use Rattle.reader.proofs.ReadingLaws.{whole_dump}
 use Rattle.reader.specs.Bad.{HasEnded}
@@ -34,8 +34,8 @@ module _ (r : Bytes) (n : length r ≡ reader_bytes) where
   whole_exactly ps = rw (in_pieces ps).verdict (whole_dump (arrived ps))
 
   -- where an entry was told, the same is told after any further pieces
-  pub handed_stays : (ps qs : List Bytes) (at size lock rank : ℕ) → listing_in (fed_all (fresh r) ps) at ≡ Entry size lock rank
-      → listing_in (fed_all (fed_all (fresh r) ps) qs) at ≡ Entry size lock rank
+  pub handed_stays : (ps qs : List Bytes) (at : ℕ) (l : Listing) → listing_in (fed_all (fresh r) ps) at ≡ Some l
+      → listing_in (fed_all (fed_all (fresh r) ps) qs) at ≡ Some l
   handed_stays ps qs = let h = all_read (fresh_read r n) ps in listing_stays (arrived qs) h (all_read h qs)
 
   -- AFTER A BAD ENTRY further pieces change nothing: no byte of the reader

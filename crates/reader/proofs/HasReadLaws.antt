@@ -1,6 +1,6 @@
 -- What a reader has that only its own calls write (`HasRead`), kept by each call: a fresh one has no bytes (`fresh_read`), and bytes fed come behind those that arrived
 -- (`fed_read`). What it says of them: `read_verdict`, `read_listing`. Assumes nothing.
-use Rattle.std.specs.Prelude.{ℕ, ◌+◌, ◌-◌, ◌≤◌, ◌<◌, ◌≡◌, List, [], ◌++◌, Bool, true, false, cond, length, get_or, take, drop, replicate, leb}
+use Rattle.std.specs.Prelude.{ℕ, ◌+◌, ◌-◌, ◌≤◌, ◌<◌, ◌≡◌, List, [], ◌++◌, Bool, true, false, cond, length, get_or, take, drop, replicate, leb, Some, None}
 use Rattle.std.proofs.Math.Path.{refl}
 use Rattle.std.proofs.Common.{sym, ap, ◌∙◌, append_assoc, inl, inr, arith, length-append, take-append-drop, drop_of_length-le, length-take-le, le-leb, le-ltb, ne_eqb, leb-true, leb-false}
 use Rattle.std.proofs.lemmas.List.{length-replicate, get_or-replicate, drop-append-le}
@@ -20,7 +20,7 @@ use Rattle.policy.proofs.FilterLaws.{marks_none}
 use Rattle.reader.specs.Reading.{good_from, good_of, good_bytes, behind, decided, ended, verdict_of, listing}
 use Rattle.reader.proofs.ReadingLaws.{good_entries, good_room, good_split, good_more, good_past, good_grows, decided_ended, past_ended, ended_bad, ended_stays, ended_more}
 use Rattle.reader.proofs.ListingLaws.{listing_none, listing_more}
-use Rattle.reader.specs.declared.Listing.TheVariants.{Entry, NoEntry}
+use Rattle.reader.specs.declared.Listing.{Listing}
 use Rattle.reader.specs.Reader.{filter_at, held_at, good_at, count_at, reader_bytes, held, put, stop, fresh, stopped_if_decided, taken, fed, verdict_in, listing_in}
 use Rattle.reader.proofs.ReaderLaws.{drop_written, take_written, take_put, le16_overwrite_behind, length_put, put_same, put_behind, part_put}
 use Rattle.reader.specs.HasRead.{Tells, Has, HasRead, going, stopped}
@@ -200,20 +200,20 @@ read_listing {r} {d} h at =
     ap listing (ap (λ (e : ℕ). part at e r) t.goods ∙ sym (part_take at n n r (omega arith)) ∙ ap (part at n) t.bytes ∙ part_rest at n (flat (good_of d)) (omega arith))
 
 -- what is told of a place is told of it when more bytes have arrived
-pub listing_stays : {r s d : Bytes} (x : Bytes) → HasRead r d → HasRead s (d ++ x) → (at size lock rank : ℕ) → listing_in r at ≡ Entry size lock rank → listing_in s at ≡ Entry size lock rank
-listing_stays {r} {s} {d} x h k at size lock rank e = read_listing k at ∙ go (less (good_bytes d) at)
+pub listing_stays : {r s d : Bytes} (x : Bytes) → HasRead r d → HasRead s (d ++ x) → (at : ℕ) (l : Listing) → listing_in r at ≡ Some l → listing_in s at ≡ Some l
+listing_stays {r} {s} {d} x h k at l e = read_listing k at ∙ go (less (good_bytes d) at)
   where
     g : flat (good_of (d ++ x)) ≡ flat (good_of d) ++ flat (good_grows d x).0
     g = ap flat (good_grows d x).1 ∙ flat_append (good_of d) (good_grows d x).0
 
-    t : listing (drop at (flat (good_of d))) ≡ Entry size lock rank
+    t : listing (drop at (flat (good_of d))) ≡ Some l
     t = sym (read_listing h at) ∙ e
 
-    go : Less (good_bytes d) at → listing (drop at (flat (good_of (d ++ x)))) ≡ Entry size lock rank
-    go (inl l) =
-        let z : drop at (flat (good_of d)) ≡ [] = drop_of_length-le (flat (good_of d)) {i = at} (omega (arith, l.0)) in
-        let n : NoEntry ≡ Entry size lock rank = sym listing_none ∙ ap listing (sym z) ∙ t in
+    go : Less (good_bytes d) at → listing (drop at (flat (good_of (d ++ x)))) ≡ Some l
+    go (inl b) =
+        let z : drop at (flat (good_of d)) ≡ [] = drop_of_length-le (flat (good_of d)) {i = at} (omega (arith, b.0)) in
+        let n : None ≡ Some l = sym listing_none ∙ ap listing (sym z) ∙ t in
         absurd (let z : ◌≡◌ {A = ℕ} 0 1 = cc in omega arith)
-    go (inr l) =
-        ap listing (ap (drop at) g ∙ drop-append-le at (flat (good_of d)) (flat (good_grows d x).0) l.0)
-        ∙ listing_more (drop at (flat (good_of d))) (flat (good_grows d x).0) size lock rank t
+    go (inr b) =
+        ap listing (ap (drop at) g ∙ drop-append-le at (flat (good_of d)) (flat (good_grows d x).0) b.0)
+        ∙ listing_more (drop at (flat (good_of d))) (flat (good_grows d x).0) l t

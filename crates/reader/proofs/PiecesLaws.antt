@@ -1,5 +1,5 @@
 -- What a reader has that only its own calls write, after any pieces (`all_read`), and so what it says (`reads_as`). Assumes nothing.
-use Rattle.std.specs.Prelude.{◌≡◌, refl, List, [], ◌∷◌, ◌++◌, map, Bool, true, false, cond, length}
+use Rattle.std.specs.Prelude.{◌≡◌, refl, List, [], ◌∷◌, ◌++◌, map, Bool, true, false, cond, length, Some}
 use Rattle.std.proofs.Common.{ap, ◌∙◌, append_assoc, append-nil, length-append, drop_at}
 use Rattle.std.proofs.Math.Seq.{drop-length}
 use Rattle.std.proofs.lemmas.Bool.{not-true}
@@ -34,7 +34,7 @@ handed : {r d : Bytes} → HasRead r d → (es ms : List Bytes) → All WellForm
 unfolding flat
 handed {r} {d} h es [] nil e = end (read_listing h (length (flat es)) ∙ rw (e, append-nil es, drop-length (flat es)) listing_none)
 handed {r} {d} h es (m ∷ ms) (more w a) e =
-    let k : listing_in r (length (flat es)) ≡ listed m =
+    let k : listing_in r (length (flat es)) ≡ Some (listed m) =
     read_listing h (length (flat es)) ∙ rw (e, flat_append es (m ∷ ms), drop_at (flat es) (m ++ flat ms) (length (flat es)) refl) (listing_entry m (flat ms) w) in
     next k (rw (flat_append es (m ∷ []), flat_one, length-append) at (handed h (es ++ (m ∷ [])) ms a (rw (append_assoc es (m ∷ []) ms) e)))
 

@@ -1,6 +1,6 @@
 -- The proved bench readings of the reader (RULES.md, 10.12 and 13), under one claim: the verdict and the good entries of the bytes that arrived. A reader that is fed the pieces
 -- says the same (`reader_says`). Assumes nothing.
-use Rattle.std.specs.Prelude.{ℕ, zero, suc, ◌+◌, ◌<◌, ◌≡◌, refl, List, [], ◌∷◌, ◌++◌, map, true, cond, length, take, drop, set, replicate}
+use Rattle.std.specs.Prelude.{ℕ, zero, suc, ◌+◌, ◌<◌, ◌≡◌, refl, List, [], ◌∷◌, ◌++◌, map, true, cond, length, take, drop, set, replicate, Option, Some, None}
 use Rattle.std.proofs.Common.{ap, ap₂, arith}
 use Rattle.limits.specs.Limits.{max_entries}
 use Rattle.lists.specs.Lists.{All, nil, more}
@@ -13,7 +13,6 @@ use Rattle.entry.specs.Entry.{lock_policy_type, header_ok, lock_ok, name_ok, wel
 use Rattle.policy.specs.Policy.{length_by}
 use Rattle.reader.specs.declared.Verdict.{Verdict}
 use Rattle.reader.specs.declared.Listing.{Listing}
-use Rattle.reader.specs.declared.Listing.TheVariants.{Entry, NoEntry}
 use Rattle.reader.specs.Reading.{may_follow, good_from, good_of, decided, ended, verdict_of, listed}
 use Rattle.reader.proofs.ReadingLaws.{good_few}
 use Rattle.reader.specs.Reader.{reader_bytes, fresh, verdict_in, listing_in}
@@ -52,13 +51,13 @@ abbrev numbers : Verdict → List ℕ
 numbers v = cond v.whole 1 0 ∷ cond v.ended 1 0 ∷ v.entries ∷ v.bytes ∷ []
 
 -- of each entry its Size, lock type and rank, and then what is told of those behind it
-abbrev fields : Listing → (ℕ → List ℕ) → List ℕ
-fields NoEntry behind = []
-fields (Entry size lock rank) behind = size ∷ lock ∷ rank ∷ behind size
+abbrev fields : Option Listing → (ℕ → List ℕ) → List ℕ
+fields None behind = []
+fields (Some l) behind = l.size ∷ l.lock ∷ l.rank ∷ behind l.size
 
 abbrev entries : List Bytes → List ℕ
 entries [] = []
-entries (e ∷ es) = fields (listed e) (λ size. entries es)
+entries (e ∷ es) = fields (Some (listed e)) (λ size. entries es)
 
 -- what the rule says of bytes
 abbrev told : Bytes → List ℕ

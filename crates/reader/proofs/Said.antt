@@ -14,7 +14,7 @@ use Rattle.entry.specs.Entry.{rank}
 use Rattle.policy.specs.Policy.{entry_length}
 use Rattle.policy.proofs.PolicyLaws.{entry_length-within}
 use Rattle.reader.specs.declared.Verdict.{Verdict}
-use Rattle.reader.specs.declared.Listing.TheVariants.{Entry, NoEntry}
+use Rattle.std.specs.Prelude.{Some, None}
 use Rattle.reader.specs.Reading.{listing}
 use Rattle.reader.specs.Reader.{held, good, count, verdict_in, listing_in}
 
@@ -35,11 +35,11 @@ module _ {p : Bytes} {g n : ℕ} (r : Bytes) (at : ℕ) (a : p ≡ part at g r) 
   bytes_is : part at (good r) r ≡ p
   bytes_is = sym (a ∙ ap (λ (k : ℕ). part at k r) b)
 
-  pub nothing_there : n ≡ 0 → NoEntry ≡ listing_in r at
+  pub nothing_there : n ≡ 0 → None ≡ listing_in r at
   unfolding listing_in listing
   nothing_there z = rw (bytes_is, ← e, z)
 
-  pub listed_there : {l k : ℕ} → (n ≡ 0 → ⊥) → l ≡ get_or (take n p) lock_type_at 0 → k ≡ rank (take n p) → Entry n l k ≡ listing_in r at
+  pub listed_there : {l k : ℕ} → (n ≡ 0 → ⊥) → l ≡ get_or (take n p) lock_type_at 0 → k ≡ rank (take n p) → Some (record { size = n; lock = l; rank = k }) ≡ listing_in r at
   unfolding listing_in listing
   listed_there z u v =
       let m : length (take n p) ≡ n = length-take-le n p (omega (arith, e, entry_length-within p)) in

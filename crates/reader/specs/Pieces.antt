@@ -1,9 +1,8 @@
 -- A dump cut into pieces (RULES.md, 10.12): what a reader was fed, and what it says. Assumes nothing: these are definitions.
-use Rattle.std.specs.Prelude.{ℕ, ◌+◌, ◌≡◌, List, [], ◌∷◌, ◌++◌, map, cond, take}
+use Rattle.std.specs.Prelude.{ℕ, ◌+◌, ◌≡◌, List, [], ◌∷◌, ◌++◌, map, cond, take, Some, None}
 use Rattle.slices.specs.Bytes.{Bytes}
 use Rattle.slices.specs.Chunks.{flat}
 use Rattle.reader.specs.declared.Listing.{Listing}
-use Rattle.reader.specs.declared.Listing.TheVariants.{Entry, NoEntry}
 use Rattle.reader.specs.Reading.{good_of, good_bytes, verdict_of, listed}
 use Rattle.reader.specs.Reader.{is_piece, after_feed, verdict_in, listing_in}
 
@@ -19,8 +18,8 @@ arrived (p ∷ ps) = cond (is_piece p) p [] ++ arrived ps
 
 -- what the calls hand out, one entry after the other from a byte on, up to the first place where there is none
 pub data HandsOut (r : Bytes) : ℕ → List Listing → Type 0 where
-  end : {at : ℕ} → listing_in r at ≡ NoEntry → HandsOut r at []
-  next : {at size lock rank : ℕ} {ls : List Listing} → listing_in r at ≡ Entry size lock rank → HandsOut r (at + size) ls → HandsOut r at (Entry size lock rank ∷ ls)
+  end : {at : ℕ} → listing_in r at ≡ None → HandsOut r at []
+  next : {at : ℕ} {l : Listing} {ls : List Listing} → listing_in r at ≡ Some l → HandsOut r (at + l.size) ls → HandsOut r at (l ∷ ls)
 
 -- what the reader r says is what is said of the bytes d read whole: the verdict with its numbers, and the entries; and the bytes of the good entries are its own first ones
 pub record ReadsAs (r d : Bytes) : Type 0 where

@@ -1,6 +1,6 @@
 -- The reader (RULES.md, 10.12) as the bytes that a caller lends, and what each call makes of them, whatever they are. `Claim.antt` has what that means for a
 -- reader that only its own calls write. Assumes nothing: these are definitions.
-use Rattle.std.specs.Prelude.{ℕ, ◌+◌, ◌-◌, List, [], ◌∷◌, Bool, not, ◌||◌, cond, length, get_or, take, set, replicate, eqb, leb, ltb}
+use Rattle.std.specs.Prelude.{ℕ, ◌+◌, ◌-◌, List, [], ◌∷◌, Bool, not, ◌||◌, cond, length, get_or, take, set, replicate, eqb, leb, ltb, Option}
 use Rattle.limits.specs.Limits.{max_entries, policy_bytes, max_piece}
 use Rattle.slices.specs.Test.{◌and◌}
 use Rattle.slices.specs.Bytes.{Bytes, le16, le16_bytes, part, overwrite}
@@ -112,5 +112,5 @@ unfoldable pub verdict_in : Bytes → Verdict
 verdict_in r = record { whole = is_open r and eqb (good r) (held r); ended = not (is_open r); entries = count r; bytes = good r }
 
 -- what it tells of the good entry that begins at a byte of the dump
-unfoldable pub listing_in : Bytes → ℕ → Listing
+unfoldable pub listing_in : Bytes → ℕ → Option Listing
 listing_in r at = listing (part at (good r) r)

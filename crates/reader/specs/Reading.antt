@@ -1,6 +1,6 @@
 -- What a reader says of the bytes of a dump (RULES.md, 10.12), as if it had them all at once: which entries are good, up to the first that is malformed,
 -- repeated, past the limits or cut short. Assumes nothing: these are definitions.
-use Rattle.std.specs.Prelude.{ℕ, ◌+◌, List, [], ◌∷◌, ◌++◌, Bool, not, ◌||◌, cond, length, take, drop, eqb, leb, ltb}
+use Rattle.std.specs.Prelude.{ℕ, ◌+◌, List, [], ◌∷◌, ◌++◌, Bool, not, ◌||◌, cond, length, take, drop, eqb, leb, ltb, Option, Some, None}
 use Rattle.limits.specs.Limits.{entry_header, max_entry_bytes, max_entries, policy_bytes}
 use Rattle.slices.specs.Test.{◌and◌}
 use Rattle.slices.specs.Bytes.{Bytes}
@@ -9,7 +9,6 @@ use Rattle.entry.specs.Entry.{size_field, lock_policy_type, rank, same_target}
 use Rattle.policy.specs.Policy.{entry_length, entries_of}
 use Rattle.reader.specs.declared.Verdict.{Verdict}
 use Rattle.reader.specs.declared.Listing.{Listing}
-use Rattle.reader.specs.declared.Listing.TheVariants.{Entry, NoEntry}
 
 -- the entry e may stand behind the entries es: within both limits, and it repeats none of them
 unfoldable pub may_follow : List Bytes → Bytes → Bool
@@ -54,8 +53,8 @@ verdict_of d =
 
 -- what is told of an entry: its Size, its lock type, its rank
 abbrev pub listed : Bytes → Listing
-listed e = Entry (length e) (lock_policy_type e) (rank e)
+listed e = record { size = length e; lock = lock_policy_type e; rank = rank e }
 
 -- and of the entry that the bytes begin with
-unfoldable pub listing : Bytes → Listing
-listing p = cond (eqb (entry_length p) 0) NoEntry (listed (take (entry_length p) p))
+unfoldable pub listing : Bytes → Option Listing
+listing p = cond (eqb (entry_length p) 0) None (Some (listed (take (entry_length p) p)))

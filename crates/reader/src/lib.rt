@@ -35,7 +35,7 @@ const STOPPED: usize = 65535;
 
 // What a reader says of the bytes that arrived: whether they are good entries and nothing else; whether the reading has ended, so that no further bytes change
 // anything; how many entries are good, up to the first that is not, and how many bytes they take.
-#[derive(Clone, Copy)]
+#[derive(Clone, Copy, Debug, PartialEq, Eq)]
 pub struct Verdict {
     pub whole: bool,
     pub ended: bool,
@@ -43,11 +43,12 @@ pub struct Verdict {
     pub bytes: u32,
 }
 
-// What it tells of a good entry: its Size, its lock type and its rank; or that none begins there.
-#[derive(Clone, Copy)]
-pub enum Listing {
-    Entry { size: u32, lock: u32, rank: u32 },
-    NoEntry,
+// What it tells of a good entry: its Size, its lock type and its rank.
+#[derive(Clone, Copy, Debug, PartialEq, Eq)]
+pub struct Listing {
+    pub size: u32,
+    pub lock: u32,
+    pub rank: u32,
 }
 
 // A bad entry was met: no more is taken.
@@ -271,21 +272,21 @@ fn verdict_in(r: &[u8]) -> Verdict
     }
 }
 
-fn listing_in(r: &[u8], at: usize) -> Listing
+fn listing_in(r: &[u8], at: usize) -> Option<Listing>
     requires { length r.now ≡ reader_bytes }
     ensures { result ≡ listing_in r.now at }
 {
     let p = slices::part(r, at, slices::get16(r, GOOD_AT));
     let size = policy::entry_length(p);
     if size == 0 {
-        return Listing::NoEntry;
+        return None;
     }
     let e = &p[..size];
-    Listing::Entry {
+    Some(Listing {
         size: size as u32,
         lock: slices::byte(e, limits::LOCK_TYPE_AT) as u32,
         rank: entry::rank(e) as u32,
-    }
+    })
 }
 
 // A reader to which nothing was fed. The bytes that arrived before stay where they are.
@@ -310,8 +311,8 @@ pub fn verdict_of(reader: &[u8; READER_BYTES]) -> Verdict
     verdict_in(reader)
 }
 
-// What it tells of the entry that begins at that byte of the dump, within the good ones.
-pub fn listing_at(reader: &[u8; READER_BYTES], at: usize) -> Listing
+// What it tells of the entry that begins at that byte of the dump, within the good ones; or that none does.
+pub fn listing_at(reader: &[u8; READER_BYTES], at: usize) -> Option<Listing>
     ensures { result ≡ listing_in reader.now at }
 {
     listing_in(reader, at)

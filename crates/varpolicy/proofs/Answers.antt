@@ -1,4 +1,5 @@
 -- The exported answers, by those of the engine's calls. Assumes nothing.
+use Rattle.std.specs.Prelude.{Option}
 use Prim.Native.Nat.{ℕ}
 use mathlib.Core.Path.{◌≡◌, sym, ap, ap₂, subst, ◌∙◌}
 use mathlib.Core.Bool.{Bool, cond}
@@ -11,8 +12,7 @@ use Rattle.switches.specs.declared.Switches.{Switches}
 use Rattle.switches.specs.declared.SwitchAnswer.{SwitchAnswer}
 use Rattle.switches.specs.SwitchBytes.{bytes_of}
 use Rattle.switches.proofs.SwitchBytesLaws.{bytes_read_back}
-use Rattle.quarrels.specs.declared.Verdict.{Verdict}
-use Rattle.quarrels.specs.Quarrel.{quarrels_of, buffer_after}
+use Rattle.quarrels.specs.Quarrel.{Verdict, quarrels_of, buffer_after}
 use Rattle.rules.specs.Engine.{State, Answer, Call, state_of, only_status, hand_back, with_report, step}
 use Rattle.engine.specs.declared.DumpAnswer.{DumpAnswer}
 use Rattle.engine.specs.declared.QueryAnswer.{QueryAnswer}
@@ -112,5 +112,5 @@ verdict_numbered v e k =
     ap {B = ReaderVerdict} (λ (n : ℕ). record { status = n; whole = v.whole; ended = v.ended; entries = v.entries; bytes = v.bytes }) k ∙ ap reader_verdict_of e
 
 -- what it tells of an entry, l, is what the record r says
-pub listing_numbered : {l m w : Listing} {r : ReaderEntry} → l ≡ w → l ≡ m → r ≡ reader_entry_of m → r ≡ reader_entry_of w
+pub listing_numbered : {l m w : Option Listing} {r : ReaderEntry} → l ≡ w → l ≡ m → r ≡ reader_entry_of m → r ≡ reader_entry_of w
 listing_numbered e k h = h ∙ ap reader_entry_of (sym k ∙ e)

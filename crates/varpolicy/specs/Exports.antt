@@ -1,12 +1,11 @@
 -- What the exported functions answer, beside the rules' answers: the status as its number, the switches in bytes, and every other value beside it.
 -- Assumes nothing: these are definitions.
-use Rattle.std.specs.Prelude.{ℕ, ◌+◌, ◌-◌, ◌≤◌, ◌≡◌, [], true, false, cond, eqb, length}
+use Rattle.std.specs.Prelude.{ℕ, ◌+◌, ◌-◌, ◌≤◌, ◌≡◌, [], true, false, cond, eqb, length, Some, None, Ok, Err}
+use Rattle.std.specs.Prelude as std
 use Rattle.std.proofs.Math.Option.{Option, none, some}
 use Rattle.slices.specs.Bytes.{Bytes, part}
 use Rattle.names.specs.Name.{Variable}
-use Rattle.quarrels.specs.declared.Verdict.{Verdict}
-use Rattle.quarrels.specs.declared.Verdict.TheVariants.{NoDump, NoQuarrel, Found}
-use Rattle.quarrels.specs.Quarrel.{quarrels_of, buffer_after}
+use Rattle.quarrels.specs.Quarrel.{Verdict, quarrels_of, buffer_after}
 use Rattle.store.specs.Record.{has_nv}
 use Rattle.status.specs.declared.Status.{Status}
 use Rattle.status.specs.declared.Status.TheVariants.{Success, InvalidParameter, NotFound}
@@ -21,7 +20,6 @@ use Rattle.rules.specs.Engine.Call.{read}
 use Rattle.engine.specs.declared.Reading.{Reading}
 use Rattle.reader.specs.declared.Verdict as reader
 use Rattle.reader.specs.declared.Listing.{Listing}
-use Rattle.reader.specs.declared.Listing.TheVariants.{Entry, NoEntry}
 use Rattle.varpolicy.specs.declared.Started.{Started}
 use Rattle.varpolicy.specs.declared.Dumped.{Dumped}
 use Rattle.varpolicy.specs.declared.Queried.{Queried}
@@ -136,9 +134,9 @@ abbrev pub no_pair : Status → Quarrelled
 no_pair s = record { status = status_number s; found = false; earlier = 0; later = 0; name_length = 0 }
 
 abbrev pub quarrelled_of : Verdict → Quarrelled
-quarrelled_of NoDump = no_pair InvalidParameter
-quarrelled_of NoQuarrel = no_pair Success
-quarrelled_of (Found i j n) = record { status = status_number Success; found = true; earlier = i; later = j; name_length = n }
+quarrelled_of (Err _) = no_pair InvalidParameter
+quarrelled_of (Ok None) = no_pair Success
+quarrelled_of (Ok (Some q)) = record { status = status_number Success; found = true; earlier = q.pair.earlier; later = q.pair.later; name_length = q.length }
 
 -- and the buffer afterwards
 abbrev pub quarrelled : Bytes → Bytes → Quarrelled × Bytes
@@ -149,6 +147,6 @@ abbrev pub reader_verdict_of : reader.Verdict → ReaderVerdict
 reader_verdict_of v = record { status = status_number Success; whole = v.whole; ended = v.ended; entries = v.entries; bytes = v.bytes }
 
 -- and of a good entry; 14 and zeros where none begins
-abbrev pub reader_entry_of : Listing → ReaderEntry
-reader_entry_of NoEntry = record { status = status_number NotFound; size = 0; lock = 0; rank = 0 }
-reader_entry_of (Entry s l k) = record { status = status_number Success; size = s; lock = l; rank = k }
+abbrev pub reader_entry_of : std.Option Listing → ReaderEntry
+reader_entry_of None = record { status = status_number NotFound; size = 0; lock = 0; rank = 0 }
+reader_entry_of (Some l) = record { status = status_number Success; size = l.size; lock = l.lock; rank = l.rank }

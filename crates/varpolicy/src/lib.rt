@@ -24,7 +24,7 @@ ghost use Rattle.reader.specs.Reader.{fresh, feed_status, after_feed, verdict_in
 ghost use Rattle.varpolicy.specs.Exports.{numbered, status_alone, started_answer, standing, dumped_answer, queried_answer, read_of, NumberedRead, reported_of, written_answer, is_settled_answer, no_pair, quarrelled, reader_verdict_of, reader_entry_of};
 
 use engine::{DumpAnswer, QueryAnswer, Reading, SetAnswer, SettledAnswer};
-use quarrels::Verdict;
+use quarrels::NoDump;
 use reader::Listing;
 use rules::Report;
 use status::Status;
@@ -513,18 +513,14 @@ pub extern "C" fn varpolicy_quarrels(dump: &[u8], name: &mut [u8; 128]) -> Quarr
     ensures { quarrelled dump.now name.old ≡ (result, name.new) }
 {
     match quarrels::quarrels(dump, name) {
-        Verdict::NoDump => no_pair(Status::InvalidParameter),
-        Verdict::NoQuarrel => no_pair(Status::Success),
-        Verdict::Found {
-            earlier,
-            later,
-            length,
-        } => Quarrelled {
+        Err(NoDump) => no_pair(Status::InvalidParameter),
+        Ok(None) => no_pair(Status::Success),
+        Ok(Some(first)) => Quarrelled {
             status: u32::from(Status::Success),
             found: true,
-            earlier: earlier as u32,
-            later: later as u32,
-            name_length: length,
+            earlier: first.pair.earlier as u32,
+            later: first.pair.later as u32,
+            name_length: first.length,
         },
     }
 }
@@ -570,13 +566,13 @@ pub extern "C" fn varpolicy_reader_entry(
     ensures { result ≡ reader_entry_of (listing_in reader.now at) }
 {
     match reader::listing_at(reader, at) {
-        Listing::NoEntry => ReaderEntry {
+        None => ReaderEntry {
             status: u32::from(Status::NotFound),
             size: 0,
             lock: 0,
             rank: 0,
         },
-        Listing::Entry { size, lock, rank } => ReaderEntry {
+        Some(Listing { size, lock, rank }) => ReaderEntry {
             status: u32::from(Status::Success),
             size,
             lock,

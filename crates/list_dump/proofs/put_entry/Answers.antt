@@ -18,9 +18,7 @@ returns-clause-text c =
     c.put_marks-d.result
     c.put.result
     c.args.index
-    c.args.size
-    c.args.lock
-    c.args.rank
+    c.args.listing
     (omega (arith, c.requires, c.put_number-a.ensures.bound, c.put_field-b.ensures.bound, c.put_field-c.ensures.bound, c.put_marks-d.ensures.bound, c.put.ensures.0))
     c.put_number-a.ensures.put
     c.put_field-b.ensures.put

@@ -12,10 +12,8 @@ use Rattle.quarrels.proofs.first_pair.Goals as goal
 pub loop-j-init : goal.loop-j-init
 loop-j-init c =
     let D : Bytes = c.args.dump.now in
-    let bytes : (k : ℕ) → get_or (D) k 0 < 256 = λ k. omega (arith, c.type_inv.dump k) in (
-      c.pairs.invariant.0,
-      walk_start (D) c.requires.1 (bytes) c.args.first.now c.pairs.i c.requires.6 c.place-j.ensures (omega (arith, c.pairs-test.true, c.requires.0)) c.pairs.invariant.1,
-    )
+    let bytes : (k : ℕ) → get_or (D) k 0 < 256 = λ k. omega (arith, c.type_inv.dump k) in
+    walk_start (D) c.requires.1 (bytes) c.args.first.now c.loop-i.i c.requires.6 c.place-j.ensures (omega (arith, c.loop-i-test.true, c.requires.0)) c.loop-i.invariant
 
 pub loop-j-smaller : goal.loop-j-smaller
 loop-j-smaller c =
@@ -29,22 +27,20 @@ pub loop-j-preserved : goal.loop-j-preserved
 loop-j-preserved c =
     let D : Bytes = c.args.dump.now in
     let bytes : (k : ℕ) → get_or (D) k 0 < 256 = λ k. omega (arith, c.type_inv.dump k) in
-    let inner : c.loop-j.j < length (entries_of (D)) = omega (arith, c.loop-j-test.true, c.requires.0) in (
-      c.loop-j.invariant.0,
-      walk_skip (D) c.requires.1 (bytes) c.args.next.now c.requires.5 c.pairs.i c.args.masks.now c.args.shown.now c.requires.3 c.requires.4 c.candidate-j.ensures
-          (walk_step (D) c.requires.1 (bytes) c.args.next.now c.requires.5 c.pairs.i c.loop-j.j (inner) c.loop-j.invariant.1 c.place.ensures
-          (sym c.quarrel_at.ensures ∙ c.if-quarrel_at.false)),
-    )
+    let inner : c.loop-j.j < length (entries_of (D)) = omega (arith, c.loop-j-test.true, c.requires.0) in
+    walk_skip (D) c.requires.1 (bytes) c.args.next.now c.requires.5 c.loop-i.i c.args.masks.now c.args.shown.now c.requires.3 c.requires.4 c.candidate-j.ensures
+    (walk_step (D) c.requires.1 (bytes) c.args.next.now c.requires.5 c.loop-i.i c.loop-j.j (inner) c.loop-j.invariant c.place.ensures
+    (sym c.quarrel_at.ensures ∙ c.if-quarrel_at.false))
 
-pub returns-after-pairs : goal.returns-after-pairs
-returns-after-pairs c =
+pub returns : goal.returns
+returns c =
     let D : Bytes = c.args.dump.now in
     let bytes : (k : ℕ) → get_or (D) k 0 < 256 = λ k. omega (arith, c.type_inv.dump k) in
-    c.pairs.invariant.0 ∙ found_none (D) c.requires.1 (bytes) c.pairs.i (omega (arith, c.pairs-test.false, c.requires.0)) c.pairs.invariant.1
+    found_none (D) c.requires.1 (bytes) c.loop-i.i (omega (arith, c.loop-i-test.false, c.requires.0)) c.loop-i.invariant
 
 pub returns-then-quarrel_at : goal.returns-then-quarrel_at
 returns-then-quarrel_at c =
     let D : Bytes = c.args.dump.now in
     let bytes : (k : ℕ) → get_or (D) k 0 < 256 = λ k. omega (arith, c.type_inv.dump k) in
     let inner : c.loop-j.j < length (entries_of (D)) = omega (arith, c.loop-j-test.true, c.requires.0) in
-    found_here (D) c.requires.1 (bytes) c.pairs.i c.loop-j.j (inner) c.loop-j.invariant.1 (sym c.quarrel_at.ensures ∙ c.if-quarrel_at.true)
+    found_here (D) c.requires.1 (bytes) c.loop-i.i c.loop-j.j (inner) c.loop-j.invariant (sym c.quarrel_at.ensures ∙ c.if-quarrel_at.true)
