@@ -11,7 +11,7 @@ use Rattle.entry.specs.Entry.{attributes_must_have, attributes_cant_have, rank}
 use Rattle.policy.specs.Choice.{place_of}
 use Rattle.bits.specs.Bits.{missing_bits, prohibited_bits, lowest_bit}
 use Rattle.rules.specs.declared.Ground.{Ground}
-use Rattle.rules.specs.declared.Ground.TheVariants.{SizeGround, AttributeGround, LockGround}
+use Rattle.rules.specs.declared.Ground.TheVariants.{AttributeGround}
 use Rattle.rules.specs.declared.Report.{Report}
 use Rattle.rules.specs.Set.{Request, Lookup, ground_of, ground_by}
 use Rattle.rules.specs.Report.{report_of, no_report, report_for, report_by}

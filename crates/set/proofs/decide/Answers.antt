@@ -3,12 +3,11 @@ use Rattle.rules.proofs.DecisionLaws.{taken_named, blocked_by, write_unblocked, 
 use Rattle.rules.specs.Set.{Request, request_of, request_status}
 use Rattle.policy.specs.Policy.{entries_of}
 use Rattle.slices.specs.Bytes.{Bytes}
-use Rattle.set.specs.Decided.{decided_by}
-use Rattle.set.proofs.Decisions.{spoken_ground, decided_silent, silent_report, decided_blocked, ground_in}
+use Rattle.set.proofs.Decisions.{decided_silent, silent_report, decided_blocked, ground_in}
 use Rattle.status.specs.Status.{is_success}
 use Rattle.status.proofs.StatusLaws.{differs_success}
 use Rattle.switches.specs.declared.Switches.{Switches}
-use mathlib.Core.Bool.{true, false}
+use mathlib.Core.Bool.{true}
 use mathlib.Core.List.{List}
 use mathlib.Core.Path.{◌≡◌, refl, sym, ap, ◌∙◌}
 use Rattle.set.proofs.decide.Goals as goal
