@@ -15,7 +15,7 @@ use Rattle.engine.proofs.settled.Goals as goal
 
 pub returns-in_default : goal.returns-in_default
 returns-in_default c =
-    settled_unsound_lem _ _ _ _ c.not_settled.ensures (check_unsound _ _ (sym c.check-checked.ensures ∙ c.in_default.is))
+    settled_unsound_lem _ _ _ _ c.not_settled.ensures (check_unsound _ _ (sym c.check.ensures ∙ c.in_default.is))
 
 pub returns-in_default-entries : goal.returns-in_default-entries
 returns-in_default-entries c =
@@ -24,14 +24,14 @@ returns-in_default-entries c =
 pub returns-then-not-is_name : goal.returns-then-not-is_name
 unfolding named
 returns-then-not-is_name c =
-    let checked : (sound c.args.nv.now c.args.vol.now ≡ true) × (c.in-Sound.ends ≡ ends_of c.args.nv.now c.args.vol.now) = check_sound _ _ _ (sym c.check-checked.ensures ∙ c.in-Sound.is) in
+    let checked : (sound c.args.nv.now c.args.vol.now ≡ true) × (c.in-Some.ends ≡ ends_of c.args.nv.now c.args.vol.now) = check_sound _ _ _ (sym c.check.ensures ∙ c.in-Some.is) in
     let valid : Checked c.args.policy.now c.in-Valid.count c.in-Valid.used = check_valid _ _ _ (sym c.check_noting-entries.ensures.answer ∙ c.in-Valid.is) in
     let n : is_name c.args.name.now ≡ false = sym c.is_name.ensures ∙ c.if-not-is_name.true in
     settled_unnamed _ _ _ _ (checked).0 (valid).valid c.not_settled-then-not-is_name.ensures (simp (n, and_no))
 
 pub is_settled-requires : goal.is_settled-requires
 is_settled-requires c =
-    let checked : (sound c.args.nv.now c.args.vol.now ≡ true) × (c.in-Sound.ends ≡ ends_of c.args.nv.now c.args.vol.now) = check_sound _ _ _ (sym c.check-checked.ensures ∙ c.in-Sound.is) in
+    let checked : (sound c.args.nv.now c.args.vol.now ≡ true) × (c.in-Some.ends ≡ ends_of c.args.nv.now c.args.vol.now) = check_sound _ _ _ (sym c.check.ensures ∙ c.in-Some.is) in
     let valid : Checked c.args.policy.now c.in-Valid.count c.in-Valid.used = check_valid _ _ _ (sym c.check_noting-entries.ensures.answer ∙ c.in-Valid.is) in (
       record { counted = (valid).counted; ends = c.check_noting-entries.ensures.noted (valid).valid },
       (checked).0,
@@ -41,7 +41,7 @@ is_settled-requires c =
 pub returns : goal.returns
 unfolding named ◌and◌
 returns c =
-    let checked : (sound c.args.nv.now c.args.vol.now ≡ true) × (c.in-Sound.ends ≡ ends_of c.args.nv.now c.args.vol.now) = check_sound _ _ _ (sym c.check-checked.ensures ∙ c.in-Sound.is) in
+    let checked : (sound c.args.nv.now c.args.vol.now ≡ true) × (c.in-Some.ends ≡ ends_of c.args.nv.now c.args.vol.now) = check_sound _ _ _ (sym c.check.ensures ∙ c.in-Some.is) in
     let valid : Checked c.args.policy.now c.in-Valid.count c.in-Valid.used = check_valid _ _ _ (sym c.check_noting-entries.ensures.answer ∙ c.in-Valid.is) in
     let Asked : Variable = variable c.args.namespace c.args.name.now in
     let sixteen : length c.args.namespace ≡ namespace_bytes = search rules in
