@@ -101,14 +101,9 @@ fn find(
     requires { (k < keys) × (length table.now ≡ notes) × Noted nonvolatile s.now table.now }
     ensures { Tried nonvolatile s.now (variable namespace.now name.now) result }
 {
-    let (first, last) = (table[k], table[KEYS + k]);
-    try_note(s, nonvolatile, first, namespace, name).or_else(|| try_note(
-        s,
-        nonvolatile,
-        last,
-        namespace,
-        name,
-    ))
+    let last = table[KEYS + k];
+    let first = try_note(s, nonvolatile, table[k], namespace, name);
+    first.or_else(|| try_note(s, nonvolatile, last, namespace, name))
 }
 
 // Where the variable's record stands, in whichever of two sound stores: where the notes lead, or by a search.
