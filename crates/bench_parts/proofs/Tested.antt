@@ -13,7 +13,7 @@ use Rattle.names.specs.Name.{Variable}
 use Rattle.store.specs.Record.{name_size, data_size, variable_of}
 use Rattle.store.specs.Parts.{HeaderFits}
 use Rattle.store.specs.declared.Found.{Found}
-use Rattle.store.specs.declared.Found.TheVariants.{Absent}
+use Rattle.std.specs.Prelude.{Option, None}
 use Rattle.stores.specs.Pair.{sound}
 use Rattle.stores.specs.Filter.{hash_of, slot_of}
 use Rattle.stores.specs.declared.Place.{Place}
@@ -22,11 +22,11 @@ use Rattle.bench_parts.specs.declared.Numbers.{Numbers}
 use Rattle.bench_parts.specs.Parts.{nothing, of_found, of_place, if_asked, found_in, slot_in, filled, copied, moved}
 
 -- ---- the answer of a place
-pub place_is : (p : Place) {nonvolatile : Bool} {found : Found} → p.nonvolatile ≡ nonvolatile → p.found ≡ found
+pub place_is : (p : Place) {nonvolatile : Bool} {found : Option Found} → p.nonvolatile ≡ nonvolatile → p.found ≡ found
     → of_found (cond nonvolatile 1 2) found ≡ of_place p
 place_is p e h = rw (e, h)
 
-pub place_absent : (p : Place) → p.found ≡ Absent → nothing ≡ of_place p
+pub place_absent : (p : Place) → p.found ≡ None → nothing ≡ of_place p
 place_absent p h = rw h
 
 -- ---- the answer behind a check

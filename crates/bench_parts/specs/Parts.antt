@@ -11,9 +11,7 @@ use Rattle.policy.specs.Policy.{entries_of, policy_valid}
 use Rattle.policy.specs.Choice.{choice_of}
 use Rattle.store.specs.Record.{name_size, data_size, variable_of}
 use Rattle.store.specs.declared.Found.{Found}
-use Rattle.store.specs.declared.Found.TheVariants.{At, Absent}
-use Rattle.stores.specs.declared.PairCheck.{PairCheck}
-use Rattle.stores.specs.declared.PairCheck.TheVariants.{Sound, Unsound}
+use Rattle.stores.specs.declared.Ends.{Ends}
 use Rattle.stores.specs.Pair.{sound}
 use Rattle.stores.specs.Filter.{hash_of, slot_of}
 use Rattle.stores.specs.declared.Place.{Place}
@@ -35,14 +33,14 @@ of_choice (Some x) = record { kind = 1; first = x.at; second = x.rank }
 of_choice None = nothing
 
 -- where the records of each store end
-abbrev pub of_pair : PairCheck → Numbers
-of_pair (Sound ends) = record { kind = 1; first = ends.nv; second = ends.vol }
-of_pair Unsound = nothing
+abbrev pub of_pair : Option Ends → Numbers
+of_pair (Some ends) = record { kind = 1; first = ends.nv; second = ends.vol }
+of_pair None = nothing
 
 -- the first byte of the record in the store of that kind, and its length
-abbrev pub of_found : ℕ → Found → Numbers
-of_found kind (At at len) = record { kind = kind; first = at; second = len }
-of_found kind Absent = nothing
+abbrev pub of_found : ℕ → Option Found → Numbers
+of_found kind (Some f) = record { kind = kind; first = f.at; second = f.len }
+of_found kind None = nothing
 
 -- the same of a place: 1 is the non-volatile store, 2 the volatile one
 abbrev pub of_place : Place → Numbers

@@ -9,7 +9,7 @@ ghost use Rattle.stores.specs.Pair.{pair_check};
 ghost use Rattle.bench_parts.specs.Parts.{of_policy, of_pair, of_place, chosen_in, found_in, slot_in, filled, copied, moved};
 
 use store::Found;
-use stores::{PairCheck, Place};
+use stores::Place;
 
 // What a part found, as numbers for C: which case, 0 for nothing, and the two numbers of that case.
 #[repr(C)]
@@ -64,10 +64,9 @@ pub extern "C" fn bench_choose(policy: &[u8], namespace: &[u8; 16], name: &[u8])
 pub extern "C" fn bench_check_stores(nv: &[u8], vol: &[u8]) -> Numbers
     ensures { result ≡ of_pair (pair_check nv.now vol.now) }
 {
-    let checked = stores::check(nv, vol);
-    match checked {
-        PairCheck::Sound(ends) => answer(1, ends.nv, ends.vol),
-        PairCheck::Unsound => answer(0, 0, 0),
+    match stores::check(nv, vol) {
+        Some(ends) => answer(1, ends.nv, ends.vol),
+        None => answer(0, 0, 0),
     }
 }
 
@@ -75,16 +74,13 @@ pub extern "C" fn bench_check_stores(nv: &[u8], vol: &[u8]) -> Numbers
 fn answer_place(place: Place) -> Numbers
     ensures { result ≡ of_place place }
 {
-    let found = place.found;
-    match found {
-        Found::At { at, len } => {
-            if place.nonvolatile {
-                answer(1, at, len)
-            } else {
-                answer(2, at, len)
-            }
-        }
-        Found::Absent => answer(0, 0, 0),
+    let Some(Found { at, len }) = place.found else {
+        return answer(0, 0, 0);
+    };
+    if place.nonvolatile {
+        answer(1, at, len)
+    } else {
+        answer(2, at, len)
     }
 }
 
@@ -93,8 +89,7 @@ fn answer_place(place: Place) -> Numbers
 pub extern "C" fn bench_find(nv: &[u8], vol: &[u8], namespace: &[u8; 16], name: &[u8]) -> Numbers
     ensures { result ≡ found_in nv.now vol.now (variable namespace.now name.now) }
 {
-    let checked = stores::check(nv, vol);
-    let PairCheck::Sound(ends) = checked else {
+    let Some(ends) = stores::check(nv, vol) else {
         return answer(0, 0, 0);
     };
     if name.len() == 0 {

@@ -20,7 +20,7 @@ ghost use Rattle.engine.specs.Answers.{dump_answer, query_answer, refused_readin
 use rules::Report;
 use set::Known;
 use status::Status;
-use stores::{PairCheck, Place};
+use stores::Place;
 use switches::{SwitchAnswer, Switches};
 
 // What a read tells: its status, the variable's attributes, which store holds it, and from where up to where its payload stands there. Zeros beside a refusal.
@@ -132,8 +132,7 @@ pub fn restart(nv: &[u8], vol: &[u8], policy: &mut [u8], disabling_allowed: bool
           state_of nv.now vol.now policy.new (cond (is_success result.status) result.switches w),
         ) }
 {
-    let checked = stores::check(nv, vol);
-    let PairCheck::Sound(_) = checked else {
+    let Some(_) = stores::check(nv, vol) else {
         return refused_start();
     };
     if policy.len() != limits::POLICY_BYTES {
@@ -269,8 +268,8 @@ fn reading_at(nv: &[u8], vol: &[u8], place: Place) -> Reading
         status: Status::Success,
         attributes: stores::attributes_at(nv, vol, place),
         nonvolatile: place.nonvolatile,
-        from: bounds.from,
-        to: bounds.to,
+        from: bounds.start,
+        to: bounds.end,
     }
 }
 
@@ -281,8 +280,7 @@ pub fn read(nv: &[u8], vol: &[u8], switches: Switches, namespace: [u8; 16], name
     ensures answers { (policy : Bytes)
         → ReadStep (state_of nv.now vol.now policy switches) (variable namespace name.now) result }
 {
-    let checked = stores::check(nv, vol);
-    let PairCheck::Sound(ends) = checked else {
+    let Some(ends) = stores::check(nv, vol) else {
         return refused_reading(Status::VolumeCorrupted);
     };
     if !names::is_name(name) {
@@ -349,8 +347,7 @@ pub fn set(
         (set (request_of namespace name.now attributes payload.now))
         ≡ (with_report result.status result.report, state_of nv.new vol.new policy.now switches) }
 {
-    let checked = stores::check(nv, vol);
-    let PairCheck::Sound(ends) = checked else {
+    let Some(ends) = stores::check(nv, vol) else {
         return corrupted_set();
     };
     let mut entry_ends = policy::no_ends();
@@ -408,8 +405,7 @@ pub fn settled<'a>(
     ensures { (w : Switches) → step (state_of nv.now vol.now policy.now w) (settled (variable namespace name.now))
         ≡ (settled_answer result, state_of nv.now vol.now policy.now w) }
 {
-    let checked = stores::check(nv, vol);
-    let PairCheck::Sound(ends) = checked else {
+    let Some(ends) = stores::check(nv, vol) else {
         return not_settled(Status::VolumeCorrupted);
     };
     let mut entry_ends = policy::no_ends();

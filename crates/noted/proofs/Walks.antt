@@ -24,7 +24,7 @@ use Rattle.store.specs.Parts.{is_found, record_in, Held, HeaderFits}
 use Rattle.store.proofs.PlaceLaws.{contains_place}
 use Rattle.store.proofs.DistinctLaws.{found_only}
 use Rattle.store.specs.declared.Found.{Found}
-use Rattle.store.specs.declared.Found.TheVariants.{At, Absent}
+use Rattle.std.specs.Prelude.{Option, Some, None}
 use Rattle.store.proofs.Walk.{Here, here, rest_at}
 use Rattle.stores.specs.Pair.{all_records, sound, lookup}
 use Rattle.stores.proofs.PairLaws.{sound_distinct}
@@ -144,12 +144,12 @@ module _ (b : Bool) (l : Bytes) (m : ℕ) (e : record_length b l ≡ m) (h : 0 <
 -- ---- what is tried, and what is found
 
 module _ (b : Bool) (s : Bytes) (v : Variable) where
-  pub tried_none : Tried b s v Absent
+  pub tried_none : Tried b s v None
   tried_none e = absurd (false≢true e)
 
   -- r is what the search of the record alone found
-  pub tried_here : {r : Found} (a m : ℕ) → Begins b s a → m ≡ record_size (name_size (drop a s)) (data_size (drop a s))
-      → r ≡ place_of b (take m (part a (length s) s)) v → is_found r ≡ true → Tried b s v (At a m)
+  pub tried_here : {r : Option Found} (a m : ℕ) → Begins b s a → m ≡ record_size (name_size (drop a s)) (data_size (drop a s))
+      → r ≡ place_of b (take m (part a (length s) s)) v → is_found r ≡ true → Tried b s v (Some (record { at = a; len = m }))
   tried_here a m w q k f e =
       let h = here_sized b s a m w q in
       let p = part_of a m s in
@@ -169,12 +169,12 @@ module _ (nv vol : Bytes) (v : Variable) (k : sound nv vol ≡ true) where
   unfolding lookup
   looked_up r a o = found_only (all_records nv vol) (sound_distinct nv vol k) v r a o
 
-  pub located_nv : {f : Found} → Tried true nv v f → {x : Bool} → x ≡ is_found f → x ≡ true → (record_in nv f ≡ lookup nv vol v) × Held nv f
+  pub located_nv : {f : Option Found} → Tried true nv v f → {x : Bool} → x ≡ is_found f → x ≡ true → (record_in nv f ≡ lookup nv vol v) × Held nv f
   located_nv t e h =
       let w = t (sym e ∙ h) in
       (w.is ∙ sym (looked_up w.found (among_left (records_of true nv) (records_of false vol) w.found w.stands) w.own), w.held)
 
-  pub located_vol : {f : Found} → Tried false vol v f → {x : Bool} → x ≡ is_found f → x ≡ true → (record_in vol f ≡ lookup nv vol v) × Held vol f
+  pub located_vol : {f : Option Found} → Tried false vol v f → {x : Bool} → x ≡ is_found f → x ≡ true → (record_in vol f ≡ lookup nv vol v) × Held vol f
   located_vol t e h =
       let w = t (sym e ∙ h) in
       (w.is ∙ sym (looked_up w.found (among_right (records_of true nv) (records_of false vol) w.found w.stands) w.own), w.held)

@@ -1,5 +1,5 @@
 -- Notes of where the records of a store begin, and what a search by them finds. Assumes nothing: these are definitions.
-use Rattle.std.specs.Prelude.{ℕ, suc, ◌+◌, ◌≤◌, ◌<◌, ◌≡◌, List, Bool, true, length, get_or, take, drop}
+use Rattle.std.specs.Prelude.{ℕ, suc, ◌+◌, ◌≤◌, ◌<◌, ◌≡◌, List, Bool, true, length, get_or, take, drop, Option}
 use Rattle.std.proofs.Math.Option.{some}
 use Rattle.lists.specs.Lists.{Among}
 use Rattle.slices.specs.Bytes.{Bytes}
@@ -31,13 +31,13 @@ abbrev pub Noted : Bool → Bytes → List ℕ → Type 0
 Noted non_volatile s t = (k : ℕ) → NoteOf non_volatile s (get_or t k 0)
 
 -- what is found is a record of the store and of the variable
-pub record Leads (non_volatile : Bool) (s : Bytes) (v : Variable) (f : Found) : Type 0 where
+pub record Leads (non_volatile : Bool) (s : Bytes) (v : Variable) (o : Option Found) : Type 0 where
   pub found : Bytes
-  pub is : record_in s f ≡ some found
+  pub is : record_in s o ≡ some found
   pub own : is_of v found ≡ true
   pub stands : Among found (records_of non_volatile s)
-  pub held : Held s f
+  pub held : Held s o
 
 -- or nothing is found
-abbrev pub Tried : Bool → Bytes → Variable → Found → Type 0
-Tried non_volatile s v f = is_found f ≡ true → Leads non_volatile s v f
+abbrev pub Tried : Bool → Bytes → Variable → Option Found → Type 0
+Tried non_volatile s v o = is_found o ≡ true → Leads non_volatile s v o

@@ -75,20 +75,18 @@ pub fn note(s: &[u8], nonvolatile: bool, end: usize, table: &mut [u16; NOTES])
 }
 
 // The record that a note leads to, if it is the variable's.
-fn try_note(s: &[u8], nonvolatile: bool, note: u16, namespace: &[u8], name: &[u8]) -> Found
+fn try_note(s: &[u8], nonvolatile: bool, note: u16, namespace: &[u8], name: &[u8]) -> Option<Found>
     requires { NoteOf nonvolatile s.now note }
     ensures { Tried nonvolatile s.now (variable namespace.now name.now) result }
 {
     if note == 0 {
-        return Found::Absent;
+        return None;
     }
     let at = note as usize - 1;
     let r = &s[at..];
     let size = store::record_size(slices::get32(r, 8), slices::get32(r, 12));
-    match store::find_within(&r[..size], nonvolatile, size, namespace, name) {
-        Found::At { at: _, len: _ } => Found::At { at, len: size },
-        Found::Absent => Found::Absent,
-    }
+    store::find_within(&r[..size], nonvolatile, size, namespace, name)?;
+    Some(Found { at, len: size })
 }
 
 // The variable's record in a store, if the notes lead to it.
@@ -99,15 +97,13 @@ fn find(
     k: usize,
     namespace: &[u8],
     name: &[u8],
-) -> Found
+) -> Option<Found>
     requires { (k < keys) × (length table.now ≡ notes) × Noted nonvolatile s.now table.now }
     ensures { Tried nonvolatile s.now (variable namespace.now name.now) result }
 {
+    let last = table[KEYS + k];
     let first = try_note(s, nonvolatile, table[k], namespace, name);
-    if store::is_found(first) {
-        return first;
-    }
-    try_note(s, nonvolatile, table[KEYS + k], namespace, name)
+    first.or_else(|| try_note(s, nonvolatile, last, namespace, name))
 }
 
 // Where the variable's record stands, in whichever of two sound stores: where the notes lead, or by a search.
@@ -127,14 +123,14 @@ pub fn locate(
 {
     let k = key(name);
     let first = find(nv, true, in_nv, k, namespace, name);
-    if store::is_found(first) {
+    if first.is_some() {
         return Place {
             nonvolatile: true,
             found: first,
         };
     }
     let second = find(vol, false, in_vol, k, namespace, name);
-    if store::is_found(second) {
+    if second.is_some() {
         return Place {
             nonvolatile: false,
             found: second,

@@ -15,7 +15,7 @@ use Rattle.entry.specs.declared.LockRule.{LockRule}
 use Rattle.entry.specs.declared.LockRule.TheVariants.{NoLock, LockNow, LockOnCreate, LockOnVarState}
 use Rattle.store.specs.Parts.{payload_in}
 use Rattle.store.specs.declared.Found.{Found}
-use Rattle.store.specs.declared.Found.TheVariants.{At, Absent}
+use Rattle.std.specs.Prelude as std
 use Rattle.stores.specs.Pair.{lookup}
 use Rattle.stores.specs.declared.Place.{Place}
 use Rattle.stores.specs.Place.{Within, place_in, is_somewhere, record_at, payload_at}
@@ -34,9 +34,9 @@ pub exists_at : (nv vol : Bytes) (p : Place) → exists (record_at nv vol p) ≡
 unfolding exists
 exists_at nv vol p = go p.found
   where
-    go : (f : Found) → exists (record_at nv vol (record { nonvolatile = p.nonvolatile; found = f })) ≡ is_somewhere (record { nonvolatile = p.nonvolatile; found = f })
-    go (At at len) = refl
-    go Absent = refl
+    go : (o : std.Option Found) → exists (record_at nv vol (record { nonvolatile = p.nonvolatile; found = o })) ≡ is_somewhere (record { nonvolatile = p.nonvolatile; found = o })
+    go (std.Some f) = refl
+    go std.None = refl
 
 pub exists_place : (nv vol : Bytes) (v : Variable) (p : Place) → p ≡ place_in nv vol v → is_somewhere p ≡ exists (lookup nv vol v)
 exists_place nv vol v p e = sym (ap exists (lookup_place nv vol v ∙ ap (record_at nv vol) (sym e)) ∙ exists_at nv vol p)

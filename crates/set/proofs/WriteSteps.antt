@@ -14,7 +14,7 @@ use Rattle.store.specs.Record.{has_nv, has_append}
 use Rattle.store.specs.Store.{has_room}
 use Rattle.store.specs.Parts.{payload_in}
 use Rattle.store.specs.declared.Found.{Found}
-use Rattle.store.specs.declared.Found.TheVariants.{At, Absent}
+use Rattle.std.specs.Prelude as std
 use Rattle.status.specs.declared.Status.TheVariants.{InvalidParameter, OutOfResources}
 use Rattle.stores.specs.Pair.{lookup}
 use Rattle.stores.specs.declared.Place.{Place}
@@ -31,10 +31,10 @@ other_at : (nv vol : Bytes) (p : Place) (a : ℕ) → other_attributes (record_a
 unfolding other_attributes
 other_at nv vol p a = go p.found
   where
-    go : (x : Found) → other_attributes (record_at nv vol (record { nonvolatile = p.nonvolatile; found = x })) a
+    go : (x : std.Option Found) → other_attributes (record_at nv vol (record { nonvolatile = p.nonvolatile; found = x })) a
         ≡ (is_somewhere (record { nonvolatile = p.nonvolatile; found = x }) && not (eqb (attributes_at nv vol (record { nonvolatile = p.nonvolatile; found = x })) (a % 8)))
-    go (At at len) = refl
-    go Absent = refl
+    go (std.Some f) = refl
+    go std.None = refl
 
 pub other_by : {f : Bool} {n : ℕ} (nv vol : Bytes) (v : Variable) (p : Place) (a : ℕ) → p ≡ place_in nv vol v → f ≡ is_somewhere p → n ≡ attributes_at nv vol p
     → other_attributes (lookup nv vol v) a ≡ (f && not (eqb n (a % 8)))

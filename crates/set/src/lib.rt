@@ -409,8 +409,7 @@ fn has_room(
         → result ≡ has_room (has_nv attributes) (store_of attributes nv.now vol.now) (variable namespace.now name.now)
         (encode_record (stored_attributes attributes) (variable namespace.now name.now) p) }
 {
-    let place = known.place;
-    let found = place.found;
+    let found = known.place.found;
     if store::has_nv(attributes) {
         return store::has_room(nv, true, known.ends.nv, found, namespace, name, n);
     }
@@ -554,11 +553,10 @@ fn delete(nv: &mut [u8], vol: &mut [u8], known: Known, namespace: &[u8; 16], nam
     ensures vol_after { vol.new ≡ without_variable false vol.old (variable namespace.now name.now) }
 {
     let place = known.place;
-    let found = place.found;
     if place.nonvolatile {
-        store::remove(nv, true, known.ends.nv, found, namespace, name);
+        store::remove(nv, true, known.ends.nv, place.found, namespace, name);
     } else {
-        store::remove(vol, false, known.ends.vol, found, namespace, name);
+        store::remove(vol, false, known.ends.vol, place.found, namespace, name);
     }
 }
 
@@ -567,7 +565,7 @@ fn put(
     s: &mut [u8],
     nonvolatile: bool,
     end: usize,
-    found: Found,
+    found: Option<Found>,
     namespace: &[u8; 16],
     name: &[u8],
     attributes: u32,
@@ -604,8 +602,7 @@ fn put_variable(
     ensures vol_after { vol.new ≡ decision_store Store false vol.old (lookup nv.old vol.old (variable namespace.now name.now))
         (request_of namespace.now name.now attributes payload.now) }
 {
-    let place = known.place;
-    let found = place.found;
+    let found = known.place.found;
     if store::has_nv(attributes) {
         put(
             nv,

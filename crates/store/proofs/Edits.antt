@@ -20,7 +20,8 @@ use Rattle.store.specs.Parts.{resized}
 use Rattle.store.specs.Store.{records_of, end_of, store_ok, place_of, records_with, without_variable, has_room, with_record}
 use Rattle.store.proofs.StoreLaws.{store_ok-free, length_records, end_of-within, pack_records, with_fits}
 use Rattle.store.proofs.PlaceLaws.{Split, place_absent, split_at, parts_at, end_at}
-use Rattle.store.specs.declared.Found.TheVariants.{At, Absent}
+use Rattle.store.specs.declared.Found.{Found}
+use Rattle.std.specs.Prelude.{Some, None}
 
 leb_same : (a b c d : ℕ) → (a ≤ b → c ≤ d) → (c ≤ d → a ≤ b) → leb a b ≡ leb c d
 leb_same a b c d f g = go (leb a b) refl
@@ -55,11 +56,11 @@ overwrite_padded n a x b q i e f =
 
 module _ (non_volatile : Bool) (s : Bytes) (v : Variable) where
   -- ---- where the record was found
-  module _ (at len : ℕ) (f : place_of non_volatile s v ≡ At at len) where
-    abbrev pub w : Split (is_of v) (records_of non_volatile s) 0 at len
-    w = split_at non_volatile s v at len f
+  module _ (f : Found) (is : place_of non_volatile s v ≡ Some f) where
+    abbrev pub w : Split (is_of v) (records_of non_volatile s) 0 f.at f.len
+    w = split_at non_volatile s v f is
 
-    start : at ≡ length (flat w.before)
+    start : f.at ≡ length (flat w.before)
     start = w.start ∙ zero-add (length (flat w.before))
 
     -- all from there on
@@ -67,18 +68,18 @@ module _ (non_volatile : Bool) (s : Bytes) (v : Variable) where
     rest = w.here ++ (flat w.behind ++ drop (end_of non_volatile s) s)
 
     -- room in its place
-    resized_record : (new : ℕ) → resized s at len new (end_of non_volatile s) ≡ padded (length s) 255 (flat w.before ++ (take new rest ++ flat w.behind))
+    resized_record : (new : ℕ) → resized s f.at f.len new (end_of non_volatile s) ≡ padded (length s) 255 (flat w.before ++ (take new rest ++ flat w.behind))
     resized_record new =
-        resized_parts (flat w.before) w.here (flat w.behind) (drop (end_of non_volatile s) s) new (parts_at non_volatile s v at len f) start w.size
-        (end_at non_volatile s v at len f ∙ ap (λ (n : ℕ). n + length (flat w.behind)) (sums at len start w.size))
+        resized_parts (flat w.before) w.here (flat w.behind) (drop (end_of non_volatile s) s) new (parts_at non_volatile s v f is) start w.size
+        (end_at non_volatile s v f is ∙ ap (λ (n : ℕ). n + length (flat w.behind)) (sums f.at f.len start w.size))
       where
         sums : {b h : ℕ} (a l : ℕ) → a ≡ b → l ≡ h → a + l ≡ b + h
         sums a l p q = omega arith
 
-    pub removed : {t : Bytes} {end : ℕ} → end ≡ end_of non_volatile s → t ≡ resized s at len 0 end → t ≡ without_variable non_volatile s v
+    pub removed : {t : Bytes} {end : ℕ} → end ≡ end_of non_volatile s → t ≡ resized s f.at f.len 0 end → t ≡ without_variable non_volatile s v
     unfolding without_variable packed
     removed {t} {end} h g =
-        let e : t ≡ resized s at len 0 (end_of non_volatile s) = rw h at g in
+        let e : t ≡ resized s f.at f.len 0 (end_of non_volatile s) = rw h at g in
         e ∙ resized_record 0 ∙ rw (w.out, flat_append)
 
     pub with_at : (q : Bytes) → records_with non_volatile s v q ≡ w.before ++ (q ∷ w.behind)
@@ -86,42 +87,42 @@ module _ (non_volatile : Bool) (s : Bytes) (v : Variable) where
     with_at q = rw w.held (w.into q)
 
     -- how long the records are then
-    length_rewritten : (q : Bytes) → length (flat (records_with non_volatile s v q)) + len ≡ end_of non_volatile s + length q
+    length_rewritten : (q : Bytes) → length (flat (records_with non_volatile s v q)) + f.len ≡ end_of non_volatile s + length q
     unfolding flat
     length_rewritten q =
-        let k = end_at non_volatile s v at len f in
+        let k = end_at non_volatile s v f is in
         let h = start in
         rw (with_at q, flat_append, length-append, length-append) (omega arith)
 
     -- whether they fit
-    pub room_at : {n end : ℕ} (q : Bytes) → end ≡ end_of non_volatile s → n ≡ length q → leb n (length s - (end - len)) ≡ has_room non_volatile s v q
+    pub room_at : {n end : ℕ} (q : Bytes) → end ≡ end_of non_volatile s → n ≡ length q → leb n (length s - (end - f.len)) ≡ has_room non_volatile s v q
     unfolding has_room
     room_at {n} {end} q h k =
         let l = length_rewritten q in
-        let e = end_at non_volatile s v at len f in
+        let e = end_at non_volatile s v f is in
         let i = end_of-within non_volatile s in
-        leb_same n (length s - (end - len)) (length (flat (records_with non_volatile s v q))) (length s) (λ x. omega arith) (λ x. omega arith)
+        leb_same n (length s - (end - f.len)) (length (flat (records_with non_volatile s v q))) (length s) (λ x. omega arith) (λ x. omega arith)
 
-    pub fits_at_place : {n end : ℕ} (q : Bytes) → end ≡ end_of non_volatile s → n ≡ length q → has_room non_volatile s v q ≡ true → end + n ≤ length s + len
+    pub fits_at_place : {n end : ℕ} (q : Bytes) → end ≡ end_of non_volatile s → n ≡ length q → has_room non_volatile s v q ≡ true → end + n ≤ length s + f.len
     fits_at_place q h k r = omega (arith, length_rewritten q, with_fits non_volatile s v q r)
 
     -- the room for it, whatever stands there
     length_room : (q : Bytes) → has_room non_volatile s v q ≡ true → length (take (length q) rest) ≡ length q
     length_room q r =
-        let k : length s ≡ length (flat w.before) + length rest = ap length (parts_at non_volatile s v at len f) ∙ length-append (flat w.before) rest in
-        length-take-le (length q) rest (omega (arith, start, end_at non_volatile s v at len f, fits_at_place q refl refl r))
+        let k : length s ≡ length (flat w.before) + length rest = ap length (parts_at non_volatile s v f is) ∙ length-append (flat w.before) rest in
+        length-take-le (length q) rest (omega (arith, start, end_at non_volatile s v f is, fits_at_place q refl refl r))
 
-    pub rewritten : {t₁ t₂ : Bytes} {n end : ℕ} (q : Bytes) → end ≡ end_of non_volatile s → n ≡ length q → has_room non_volatile s v q ≡ true → t₁ ≡ resized s at len n end → t₂ ≡ overwrite t₁ at q
+    pub rewritten : {t₁ t₂ : Bytes} {n end : ℕ} (q : Bytes) → end ≡ end_of non_volatile s → n ≡ length q → has_room non_volatile s v q ≡ true → t₁ ≡ resized s f.at f.len n end → t₂ ≡ overwrite t₁ f.at q
         → t₂ ≡ with_record non_volatile s v q
     unfolding with_record packed flat
     rewritten {t₁} {t₂} {n} {end} q h k r g e =
         let j : t₁ ≡ padded (length s) 255 (flat w.before ++ (take (length q) rest ++ flat w.behind)) = g ∙ rw (h, k) (resized_record (length q)) in
-        e ∙ ap (λ (l : Bytes). overwrite l at q) j
-        ∙ overwrite_padded (length s) (flat w.before) (take (length q) rest) (flat w.behind) q at start (length_room q r)
+        e ∙ ap (λ (l : Bytes). overwrite l f.at q) j
+        ∙ overwrite_padded (length s) (flat w.before) (take (length q) rest) (flat w.behind) q f.at start (length_room q r)
         ∙ rw (with_at q, flat_append)
 
   -- ---- where there is none
-  module _ (f : place_of non_volatile s v ≡ Absent) where
+  module _ (f : place_of non_volatile s v ≡ None) where
     none : contains (is_of v) (records_of non_volatile s) ≡ false
     none = place_absent (is_of v) (records_of non_volatile s) 0 f
 

@@ -1,5 +1,5 @@
 -- Laws of the place of a record. Assumes nothing.
-use Rattle.std.specs.Prelude.{ℕ, ◌+◌, ◌≤◌, Bool, ◌||◌, take}
+use Rattle.std.specs.Prelude.{ℕ, ◌+◌, ◌≤◌, Bool, ◌||◌, Option, Some, None, take}
 use Rattle.std.proofs.Math.Path.{◌≡◌, refl, sym, ap}
 use Rattle.std.proofs.Common.{◌∙◌, subst, arith, zero-add, take-append-drop, drop-drop}
 use mathlib.Core.List.{List, [], ◌∷◌, ◌++◌, append_assoc}
@@ -19,8 +19,7 @@ use Rattle.store.specs.Parts.{HeaderFits, is_found, record_in, payload_in, bound
 use Rattle.store.specs.Store.{records_of, end_of, place_from, place_of}
 use Rattle.store.proofs.StoreLaws.{records_ok, length_records, end_of-within}
 use Rattle.store.specs.declared.Found.{Found}
-use Rattle.store.specs.declared.Found.TheVariants.{At, Absent}
-use Rattle.store.specs.declared.Bounds.{Bounds}
+use Rattle.std.specs.declared.ops.Range.{Range}
 
 -- where the first that the test takes stands: those before it, itself, and those behind
 pub record Split (p : Bytes → Bool) (rs : List Bytes) (from at len : ℕ) : Type 0 where
@@ -37,16 +36,16 @@ pub record Split (p : Bytes → Bool) (rs : List Bytes) (from at len : ℕ) : Ty
   pub into : (q : Bytes) → replace p q rs ≡ before ++ (q ∷ behind)
 
 module _ (p : Bytes → Bool) where
-  pub place_split : (rs : List Bytes) (from at len : ℕ) → place_from p from rs ≡ At at len → Split p rs from at len
+  pub place_split : (rs : List Bytes) (from : ℕ) (f : Found) → place_from p from rs ≡ Some f → Split p rs from f.at f.len
   unfolding place_from contains find remove replace flat
-  place_split [] from at len e = let z : ◌≡◌ {A = ℕ} 0 1 = cc in absurd (omega arith)
-  place_split (r ∷ rs) from at len e = go (p r) refl (place_split rs (from + length r) at len)
+  place_split [] from f e = let z : ◌≡◌ {A = ℕ} 0 1 = cc in absurd (omega arith)
+  place_split (r ∷ rs) from f e = go (p r) refl (place_split rs (from + length r) f)
     where
-      go : (b : Bool) → p r ≡ b → (place_from p (from + length r) rs ≡ At at len → Split p rs (from + length r) at len) → Split p (r ∷ rs) from at len
+      go : (b : Bool) → p r ≡ b → (place_from p (from + length r) rs ≡ Some f → Split p rs (from + length r) f.at f.len) → Split p (r ∷ rs) from f.at f.len
       go true q ih =
-          let f : At from (length r) ≡ At at len = rw q at e in
-          let i : from ≡ at = cc in
-          let j : length r ≡ len = cc in
+          let g : Some (record { at = from; len = length r }) ≡ Some f = rw q at e in
+          let i : from ≡ f.at = cc in
+          let j : length r ≡ f.len = cc in
           record {
             before = [];
             here = r;
@@ -77,29 +76,29 @@ module _ (p : Bytes → Bool) where
           }
 
   -- there is none
-  pub place_absent : (rs : List Bytes) (from : ℕ) → place_from p from rs ≡ Absent → contains p rs ≡ false
+  pub place_absent : (rs : List Bytes) (from : ℕ) → place_from p from rs ≡ None → contains p rs ≡ false
   unfolding place_from contains
   place_absent [] from e = refl
   place_absent (r ∷ rs) from e = go (p r) refl (place_absent rs (from + length r))
     where
-      go : (b : Bool) → p r ≡ b → (place_from p (from + length r) rs ≡ Absent → contains p rs ≡ false) → (p r || contains p rs) ≡ false
+      go : (b : Bool) → p r ≡ b → (place_from p (from + length r) rs ≡ None → contains p rs ≡ false) → (p r || contains p rs) ≡ false
       go true q ih =
-          let f : At from (length r) ≡ Absent = rw q at e in
+          let f : ◌≡◌ {A = Option Found} (Some (record { at = from; len = length r })) None = rw q at e in
           let z : ◌≡◌ {A = ℕ} 0 1 = cc in absurd (omega arith)
       go false q ih = rw q (ih (rw q at e))
 
-  pub absent_place : (rs : List Bytes) (from : ℕ) → contains p rs ≡ false → place_from p from rs ≡ Absent
+  pub absent_place : (rs : List Bytes) (from : ℕ) → contains p rs ≡ false → place_from p from rs ≡ None
   unfolding contains place_from
   absent_place [] from h = refl
   absent_place (r ∷ rs) from h = rw (or_left_off (p r) (contains p rs) h) (absent_place rs (from + length r) (or_right_off (p r) (contains p rs) h))
 
 module _ (non_volatile : Bool) (s : Bytes) (v : Variable) where
-  pub find_absent : place_of non_volatile s v ≡ Absent → find (is_of v) (records_of non_volatile s) ≡ none
+  pub find_absent : place_of non_volatile s v ≡ None → find (is_of v) (records_of non_volatile s) ≡ none
   find_absent e = find_none (is_of v) (records_of non_volatile s) (place_absent (is_of v) (records_of non_volatile s) 0 e)
 
-  module _ (at len : ℕ) (e : place_of non_volatile s v ≡ At at len) where
-    pub split_at : Split (is_of v) (records_of non_volatile s) 0 at len
-    split_at = place_split (is_of v) (records_of non_volatile s) 0 at len e
+  module _ (f : Found) (e : place_of non_volatile s v ≡ Some f) where
+    pub split_at : Split (is_of v) (records_of non_volatile s) 0 f.at f.len
+    split_at = place_split (is_of v) (records_of non_volatile s) 0 f e
 
     -- the store's bytes, taken apart at the record
     pub parts_at : s ≡ flat split_at.before ++ (split_at.here ++ (flat split_at.behind ++ drop (end_of non_volatile s) s))
@@ -111,7 +110,7 @@ module _ (non_volatile : Bool) (s : Bytes) (v : Variable) where
         ∙ ap (λ (l : Bytes). l ++ drop (end_of non_volatile s) s) (sym (flat_chunks (record_length non_volatile) (record_length-within non_volatile) s) ∙ b)
         ∙ simp append_assoc
 
-    pub end_at : end_of non_volatile s ≡ at + len + length (flat split_at.behind)
+    pub end_at : end_of non_volatile s ≡ f.at + f.len + length (flat split_at.behind)
     unfolding flat
     end_at =
         let w = split_at in
@@ -119,53 +118,53 @@ module _ (non_volatile : Bool) (s : Bytes) (v : Variable) where
         let k = w.size in
         sym (length_records non_volatile s) ∙ rw (w.is, flat_append, length-append, length-append) (omega arith)
 
-    pub place_within : at + len ≤ end_of non_volatile s
+    pub place_within : f.at + f.len ≤ end_of non_volatile s
     place_within = omega (arith, end_at)
 
     -- the record is the part of the store at its place
-    pub part_at : part at (at + len) s ≡ split_at.here
+    pub part_at : part f.at (f.at + f.len) s ≡ split_at.here
     part_at =
         let w = split_at in
-        part_of at len s ∙ seam (flat w.before) w.here (flat w.behind ++ drop (end_of non_volatile s) s) parts_at (w.start ∙ zero-add (length (flat w.before))) w.size
+        part_of f.at f.len s ∙ seam (flat w.before) w.here (flat w.behind ++ drop (end_of non_volatile s) s) parts_at (w.start ∙ zero-add (length (flat w.before))) w.size
       where
         seam : {l : Bytes} {a n : ℕ} (x h y : Bytes) → l ≡ x ++ (h ++ y) → a ≡ length x → n ≡ length h → take n (drop a l) ≡ h
         seam x h y e f g = rw (e, f, g, drop-append_seam, take-append_seam)
 
-    pub find_at : find (is_of v) (records_of non_volatile s) ≡ some (part at (at + len) s)
+    pub find_at : find (is_of v) (records_of non_volatile s) ≡ some (part f.at (f.at + f.len) s)
     find_at = split_at.found ∙ ap some (sym part_at)
 
-    pub ok_at : record_ok non_volatile (part at (at + len) s) ≡ true
+    pub ok_at : record_ok non_volatile (part f.at (f.at + f.len) s) ≡ true
     ok_at =
         let w = split_at in
         ap (record_ok non_volatile) part_at
         ∙ all_here (all_right w.before (w.here ∷ w.behind) (subst (All (λ (r : Bytes). record_ok non_volatile r ≡ true)) w.is (records_ok non_volatile s)))
 
-    pub fits_at : HeaderFits (part at (at + len) s)
+    pub fits_at : HeaderFits (part f.at (f.at + f.len) s)
     fits_at =
-        let r : Bytes = part at (at + len) s in
+        let r : Bytes = part f.at (f.at + f.len) s in
         rw take-length at (begins_fits non_volatile (length r) r (begins non_volatile (length r) r (ok_length non_volatile r ok_at) (ok_some non_volatile r ok_at)))
 
   -- what was found: whether the store holds the variable, and its record, which lies within
   pub contains_place : contains (is_of v) (records_of non_volatile s) ≡ is_found (place_of non_volatile s v)
   contains_place = go (place_of non_volatile s v) refl
     where
-      go : (f : Found) → place_of non_volatile s v ≡ f → contains (is_of v) (records_of non_volatile s) ≡ is_found f
-      go (At at len) e = (split_at at len e).held
-      go Absent e = place_absent (is_of v) (records_of non_volatile s) 0 e
+      go : (o : Option Found) → place_of non_volatile s v ≡ o → contains (is_of v) (records_of non_volatile s) ≡ is_found o
+      go (Some f) e = (split_at f e).held
+      go None e = place_absent (is_of v) (records_of non_volatile s) 0 e
 
   pub find_place : find (is_of v) (records_of non_volatile s) ≡ record_in s (place_of non_volatile s v)
   find_place = go (place_of non_volatile s v) refl
     where
-      go : (f : Found) → place_of non_volatile s v ≡ f → find (is_of v) (records_of non_volatile s) ≡ record_in s f
-      go (At at len) e = find_at at len e
-      go Absent e = find_absent e
+      go : (o : Option Found) → place_of non_volatile s v ≡ o → find (is_of v) (records_of non_volatile s) ≡ record_in s o
+      go (Some f) e = find_at f e
+      go None e = find_absent e
 
   pub place_held : Held s (place_of non_volatile s v)
   place_held = go (place_of non_volatile s v) refl
     where
-      go : (f : Found) → place_of non_volatile s v ≡ f → Held s f
-      go (At at len) e = (omega (arith, place_within at len e, end_of-within non_volatile s), fits_at at len e)
-      go Absent e = tt
+      go : (o : Option Found) → place_of non_volatile s v ≡ o → Held s o
+      go (Some f) e = (omega (arith, place_within f e, end_of-within non_volatile s), fits_at f e)
+      go None e = tt
 
 -- ---- where the payload of what was found stands
 -- a part of a part
@@ -174,22 +173,22 @@ part_part at len from n s h =
     ap (part from (from + n)) (part_of at len s) ∙ part_take from (from + n) len (drop at s) h ∙ part_of from n (drop at s)
     ∙ ap (take n) (drop-drop from at s) ∙ sym (part_of (at + from) n s)
 
-fields_within : (s : Bytes) (at len : ℕ) → Held s (At at len) → 32 + name_size (part at (at + len) s) + data_size (part at (at + len) s) ≤ len
-fields_within s at len w = omega (arith, w.1.fits, length_part at (at + len) s w.0)
+fields_within : (s : Bytes) (f : Found) → Held s (Some f) → 32 + name_size (part f.at (f.at + f.len) s) + data_size (part f.at (f.at + f.len) s) ≤ f.len
+fields_within s f w = omega (arith, w.1.fits, length_part f.at (f.at + f.len) s w.0)
 
-ordered : (s : Bytes) (f : Found) → Held s f → ((bounds_in s f).from ≤ (bounds_in s f).to) × ((bounds_in s f).to ≤ length s)
-ordered s (At at len) w = (omega arith, omega (arith, w.0, fields_within s at len w))
-ordered s Absent w = (omega arith, omega arith)
+ordered : (s : Bytes) (o : Option Found) → Held s o → ((bounds_in s o).start ≤ (bounds_in s o).end) × ((bounds_in s o).end ≤ length s)
+ordered s (Some f) w = (omega arith, omega (arith, w.0, fields_within s f w))
+ordered s None w = (omega arith, omega arith)
 
-taken : (s : Bytes) (f : Found) → Held s f → part (bounds_in s f).from (bounds_in s f).to s ≡ payload_in (record_in s f)
+taken : (s : Bytes) (o : Option Found) → Held s o → part (bounds_in s o).start (bounds_in s o).end s ≡ payload_in (record_in s o)
 unfolding payload_of
-taken s (At at len) w =
-    let n : ℕ = name_size (part at (at + len) s) in
-    let d : ℕ = data_size (part at (at + len) s) in
-    let k : at + 32 + n ≡ at + (32 + n) = omega arith in
-    ap (λ (x : ℕ). part x (x + d) s) k ∙ sym (part_part at len (32 + n) d s (fields_within s at len w))
-taken s Absent w = refl
+taken s (Some f) w =
+    let n : ℕ = name_size (part f.at (f.at + f.len) s) in
+    let d : ℕ = data_size (part f.at (f.at + f.len) s) in
+    let k : f.at + 32 + n ≡ f.at + (32 + n) = omega arith in
+    ap (λ (x : ℕ). part x (x + d) s) k ∙ sym (part_part f.at f.len (32 + n) d s (fields_within s f w))
+taken s None w = refl
 
-pub bounds_payload : {b : Bounds} (s : Bytes) (f : Found) → b ≡ bounds_in s f → Held s f
-    → (b.from ≤ b.to) × (b.to ≤ length s) × (part b.from b.to s ≡ payload_in (record_in s f))
-bounds_payload s f e w = rw e ((ordered s f w).0, (ordered s f w).1, taken s f w)
+pub bounds_payload : {b : Range ℕ} (s : Bytes) (o : Option Found) → b ≡ bounds_in s o → Held s o
+    → (b.start ≤ b.end) × (b.end ≤ length s) × (part b.start b.end s ≡ payload_in (record_in s o))
+bounds_payload s o e w = rw e ((ordered s o w).0, (ordered s o w).1, taken s o w)

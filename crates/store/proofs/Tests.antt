@@ -16,7 +16,7 @@ use Rattle.names.specs.Name.{is_terminated}
 use Rattle.store.specs.Record.{attributes_of, name_size, data_size, namespace_of, name_of, is_of, record_size, has_bs, has_nv, attributes_ok, header_ok, body_ok, record_ok, record_length}
 use Rattle.store.specs.Parts.{variable, bounds_in}
 use Rattle.store.specs.declared.Found.{Found}
-use Rattle.store.specs.declared.Found.TheVariants.{At}
+use Rattle.std.specs.Prelude.{Option, Some}
 use Rattle.store.proofs.RecordLaws.{mark_is, length_short, length_header, length_ok, length_not, ok_parts, name_size-take, data_size-take}
 
 -- ---- the header
@@ -94,6 +94,6 @@ module _ {x : Bool} {n : Bytes} (g u r : Bytes) (p : n ≡ name_of r) (e : x ≡
   same_name {y} {m} h q f = f ∙ rw (← p, ← q, ← e, h, and_yes (same m g))
 
 -- ---- where the payload stands
-pub bounds_are : {n d : ℕ} {f : Found} (s : Bytes) (at len : ℕ) → f ≡ At at len → n ≡ name_size (part at (at + len) s) → d ≡ data_size (part at (at + len) s)
-    → record { from = at + 32 + n; to = at + 32 + n + d } ≡ bounds_in s f
-bounds_are s at len e p q = rw (e, p, q)
+pub bounds_are : {n d : ℕ} {o : Option Found} (s : Bytes) (f : Found) → o ≡ Some f → n ≡ name_size (part f.at (f.at + f.len) s) → d ≡ data_size (part f.at (f.at + f.len) s)
+    → record { start = f.at + 32 + n; end = f.at + 32 + n + d } ≡ bounds_in s o
+bounds_are s f e p q = rw (e, p, q)

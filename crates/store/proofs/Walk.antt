@@ -21,7 +21,7 @@ use Rattle.store.proofs.VariableLaws.{is_of-name}
 use Rattle.store.specs.Parts.{HeaderFits}
 use Rattle.store.specs.Store.{records_of, end_of, place_from}
 use Rattle.store.specs.declared.Found.{Found}
-use Rattle.store.specs.declared.Found.TheVariants.{At, Absent}
+use Rattle.std.specs.Prelude.{Option, Some, None}
 
 -- the record of m bytes at an index before the end
 pub record Here (non_volatile : Bool) (at m : ℕ) (s : Bytes) : Type 0 where
@@ -70,19 +70,19 @@ module _ (non_volatile : Bool) where
       go (suc m) e = absurd (let z = used_step (record_length non_volatile) (record_length-within non_volatile) (suc m) (drop at s) e (omega arith) in omega arith)
 
   -- ---- the search
-  pub place_stop : (p : Bytes → Bool) (at : ℕ) (l : Bytes) → record_length non_volatile l ≡ 0 → place_from p at (records_of non_volatile l) ≡ Absent
+  pub place_stop : (p : Bytes → Bool) (at : ℕ) (l : Bytes) → record_length non_volatile l ≡ 0 → place_from p at (records_of non_volatile l) ≡ None
   unfolding place_from
   place_stop p at l e = rw (chunks_stop (record_length non_volatile) l e)
 
   place_step : (n : ℕ) (p : Bytes → Bool) (at : ℕ) (l : Bytes) → record_length non_volatile l ≡ n → 0 < n
-      → place_from p at (records_of non_volatile l) ≡ cond (p (take n l)) (At at n) (place_from p (at + n) (records_of non_volatile (drop n l)))
+      → place_from p at (records_of non_volatile l) ≡ cond (p (take n l)) (Some (record { at = at; len = n })) (place_from p (at + n) (records_of non_volatile (drop n l)))
   unfolding place_from
   place_step n p at l e h =
       let k : n ≤ length l = rw e at (record_length-within non_volatile l) in
       rw (chunks_step (record_length non_volatile) (record_length-within non_volatile) n l e h, length-take-le n l k)
 
-  module _ {f : Found} (at n : ℕ) (p : Bytes → Bool) (s : Bytes) (w : Here non_volatile at n s) (q : f ≡ place_from p at (records_of non_volatile (drop at s))) where
-    pub place_here : p (take n (drop at s)) ≡ true → At at n ≡ f
+  module _ {f : Option Found} (at n : ℕ) (p : Bytes → Bool) (s : Bytes) (w : Here non_volatile at n s) (q : f ≡ place_from p at (records_of non_volatile (drop at s))) where
+    pub place_here : p (take n (drop at s)) ≡ true → Some (record { at = at; len = n }) ≡ f
     place_here t = sym (q ∙ place_step n p at (drop at s) w.is w.some ∙ rw t)
 
     pub place_again : p (take n (drop at s)) ≡ false → f ≡ place_from p (at + n) (records_of non_volatile (drop (at + n) s))

@@ -1,7 +1,8 @@
 -- What the functions on records ask of what they are given, and what the edits leave.
 -- Assumes nothing: these are definitions.
-use Rattle.std.specs.Prelude.{ℕ, ◌+◌, ◌-◌, ◌≤◌, ◌≡◌, [], ◌++◌, Bool, true, false, length, take, drop}
-use Rattle.std.proofs.Math.Option.{Option, none, some}
+use Rattle.std.specs.Prelude.{ℕ, ◌+◌, ◌-◌, ◌≤◌, ◌≡◌, [], ◌++◌, Bool, true, Option, Some, None, is_some, length, take, drop}
+use Rattle.std.proofs.Math.Option.{none, some}
+use Rattle.std.proofs.Math.Option as maybe
 use Rattle.limits.specs.Limits.{max_payload, record_header}
 use Rattle.slices.specs.Bytes.{Bytes, part, padded}
 use Rattle.slices.specs.Chunks.{find}
@@ -9,8 +10,7 @@ use Rattle.names.specs.Name.{Variable, named}
 use Rattle.store.specs.Record.{attributes_of, name_size, data_size, payload_of, is_of, attributes_ok}
 use Rattle.store.specs.Store.{records_of}
 use Rattle.store.specs.declared.Found.{Found}
-use Rattle.store.specs.declared.Found.TheVariants.{At, Absent}
-use Rattle.store.specs.declared.Bounds.{Bounds}
+use Rattle.std.specs.declared.ops.Range.{Range}
 pub use Rattle.names.specs.Name.{variable}
 
 -- the fields that the header tells lie within the bytes
@@ -27,35 +27,34 @@ pub record Storable (non_volatile : Bool) (attributes : ℕ) (v : Variable) (pay
   pub most : length payload ≤ max_payload
 
 -- what a found record says: its attributes and its payload; zero and nothing where there is none
-abbrev pub attributes_in : Option Bytes → ℕ
+abbrev pub attributes_in : maybe.Option Bytes → ℕ
 attributes_in none = 0
 attributes_in (some r) = attributes_of r
 
-abbrev pub payload_in : Option Bytes → Bytes
+abbrev pub payload_in : maybe.Option Bytes → Bytes
 payload_in none = []
 payload_in (some r) = payload_of r
 
 -- whether a record was found, and the record
-abbrev pub is_found : Found → Bool
-is_found (At at len) = true
-is_found Absent = false
+abbrev pub is_found : Option Found → Bool
+is_found = is_some
 
-abbrev pub record_in : Bytes → Found → Option Bytes
-record_in s (At at len) = some (part at (at + len) s)
-record_in s Absent = none
+abbrev pub record_in : Bytes → Option Found → maybe.Option Bytes
+record_in s (Some f) = some (part f.at (f.at + f.len) s)
+record_in s None = none
 
 -- where its payload stands in the store, behind the header and the name; 0 and 0 where there is none
-abbrev pub bounds_in : Bytes → Found → Bounds
-bounds_in s (At at len) = record {
-  from = at + record_header + name_size (part at (at + len) s);
-  to = at + record_header + name_size (part at (at + len) s) + data_size (part at (at + len) s);
+abbrev pub bounds_in : Bytes → Option Found → Range ℕ
+bounds_in s (Some f) = record {
+  start = f.at + record_header + name_size (part f.at (f.at + f.len) s);
+  end = f.at + record_header + name_size (part f.at (f.at + f.len) s) + data_size (part f.at (f.at + f.len) s);
 }
-bounds_in s Absent = record { from = 0; to = 0 }
+bounds_in s None = record { start = 0; end = 0 }
 
 -- what was found lies within the store, and so do the fields that its header tells
-abbrev pub Held : Bytes → Found → Type 0
-Held s (At at len) = (at + len ≤ length s) × HeaderFits (part at (at + len) s)
-Held s Absent = Unit
+abbrev pub Held : Bytes → Option Found → Type 0
+Held s (Some f) = (f.at + f.len ≤ length s) × HeaderFits (part f.at (f.at + f.len) s)
+Held s None = Unit
 
 -- a payload joined to what the variable's record in the store holds
 abbrev pub joined : Bool → Bytes → Variable → Bytes → Bytes

@@ -1,6 +1,6 @@
 -- A store (RULES.md, 6.2): its records from byte 0 on, then only 0xFF.
 -- Assumes nothing: these are definitions.
-use Rattle.std.specs.Prelude.{ℕ, ◌+◌, List, [], ◌∷◌, Bool, cond, length, drop, leb}
+use Rattle.std.specs.Prelude.{ℕ, ◌+◌, List, [], ◌∷◌, Bool, cond, length, drop, leb, Option, Some, None}
 use Rattle.limits.specs.Limits.{max_store}
 use Rattle.slices.specs.Test.{◌and◌}
 use Rattle.slices.specs.Bytes.{Bytes, all_are}
@@ -8,7 +8,6 @@ use Rattle.slices.specs.Chunks.{flat, chunks, used, packed, remove, replace_or_a
 use Rattle.names.specs.Name.{Variable}
 use Rattle.store.specs.Record.{record_length, is_of}
 use Rattle.store.specs.declared.Found.{Found}
-use Rattle.store.specs.declared.Found.TheVariants.{At, Absent}
 
 -- the records of a store, each as its bytes
 abbrev pub records_of : Bool → Bytes → List Bytes
@@ -27,12 +26,12 @@ unfoldable pub store_ok : Bool → Bytes → Bool
 store_ok non_volatile s = leb (length s) max_store and all_are 255 (drop (end_of non_volatile s) s)
 
 -- where the first record that the test takes stands, among records that begin at the byte at
-unfoldable pub place_from : (Bytes → Bool) → ℕ → List Bytes → Found
-place_from p at [] = Absent
-place_from p at (r ∷ rs) = cond (p r) (At at (length r)) (place_from p (at + length r) rs)
+unfoldable pub place_from : (Bytes → Bool) → ℕ → List Bytes → Option Found
+place_from p at [] = None
+place_from p at (r ∷ rs) = cond (p r) (Some (record { at = at; len = length r })) (place_from p (at + length r) rs)
 
 -- where the variable's record stands
-abbrev pub place_of : Bool → Bytes → Variable → Found
+abbrev pub place_of : Bool → Bytes → Variable → Option Found
 place_of non_volatile s v = place_from (is_of v) 0 (records_of non_volatile s)
 
 -- the store without the variable: the gap closed

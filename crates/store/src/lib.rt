@@ -7,21 +7,15 @@ ghost use Rattle.slices.specs.Bytes.{Bytes, le32_bytes, all_are, overwrite};
 ghost use Rattle.slices.specs.Chunks.{find};
 ghost use Rattle.store.specs.Record.{has_nv, has_bs, has_rt, has_append, attributes_of, name_size, data_size, namespace_of, name_of, record_size, attributes_ok, record_mark, header_ok, body_ok, record_length, is_of, encode_record};
 ghost use Rattle.store.specs.Store.{records_of, end_of, store_ok, place_of, without_variable, has_room, with_record};
-ghost use Rattle.store.specs.Parts.{variable, HeaderFits, Storable, is_found, record_in, attributes_in, payload_in, bounds_in, Held, joined, resized};
+ghost use Rattle.store.specs.Parts.{variable, HeaderFits, Storable, record_in, attributes_in, payload_in, bounds_in, Held, joined, resized};
 
-#[derive(Clone, Copy)]
-pub enum Found {
-    // The variable's record begins at `at` and is `len` bytes long.
-    At { at: usize, len: usize },
-    // The variable has none.
-    Absent,
-}
+use std::ops::Range;
 
-// A part of a store: from the byte `from` up to, and without, the byte `to`.
+// Where a record was found: it begins at `at` and is `len` bytes long.
 #[derive(Clone, Copy)]
-pub struct Bounds {
-    pub from: usize,
-    pub to: usize,
+pub struct Found {
+    pub at: usize,
+    pub len: usize,
 }
 
 // The bits of an attribute word.
@@ -144,7 +138,13 @@ fn is_of(r: &[u8], namespace: &[u8], name: &[u8]) -> bool
 
 // Where the variable's record stands in a store whose records end at `end`. What is known to be a record is not tested again.
 // The first four bytes of its name rule most records out: a name of one unit has its closing zero unit there.
-pub fn find_within(s: &[u8], nonvolatile: bool, end: usize, namespace: &[u8], name: &[u8]) -> Found
+pub fn find_within(
+    s: &[u8],
+    nonvolatile: bool,
+    end: usize,
+    namespace: &[u8],
+    name: &[u8],
+) -> Option<Found>
     requires { end ≡ end_of nonvolatile s.now }
     ensures { result ≡ place_of nonvolatile s.now (variable namespace.now name.now) }
 {
@@ -155,22 +155,12 @@ pub fn find_within(s: &[u8], nonvolatile: bool, end: usize, namespace: &[u8], na
         let size = record_size(slices::get32(r, 8), slices::get32(r, 12));
         if slices::get32(r, limits::RECORD_HEADER) == first {
             if is_of(&r[..size], namespace, name) {
-                return Found::At { at: at, len: size };
+                return Some(Found { at, len: size });
             }
         }
         at += size;
     }
-    Found::Absent
-}
-
-// Whether a record was found.
-pub fn is_found(found: Found) -> bool
-    ensures { result ≡ is_found found }
-{
-    match found {
-        Found::At { at: _, len: _ } => true,
-        Found::Absent => false,
-    }
+    None
 }
 
 // The attributes of a record.
@@ -181,50 +171,39 @@ pub fn attributes(r: &[u8]) -> u32
 }
 
 // The attributes of the record that was found; 0 where there is none.
-pub fn attributes_found(s: &[u8], found: Found) -> u32
+pub fn attributes_found(s: &[u8], found: Option<Found>) -> u32
     requires { Held s.now found }
     ensures { result ≡ attributes_in (record_in s.now found) }
 {
-    match found {
-        Found::At { at, len } => attributes(&s[at..at + len]),
-        Found::Absent => 0,
-    }
+    found.map_or(0, |r| attributes(&s[r.at..r.at + r.len]))
 }
 
 // Where the payload of the record that was found stands, behind the header and the name; 0 and 0 where there is none.
-pub fn payload_bounds(s: &[u8], found: Found) -> Bounds
+pub fn payload_bounds(s: &[u8], found: Option<Found>) -> Range<usize>
     requires { Held s.now found }
     ensures { result ≡ bounds_in s.now found }
 {
-    match found {
-        Found::At { at, len } => {
-            let record = &s[at..at + len];
-            let from = at + limits::RECORD_HEADER + slices::get32(record, 8);
-            Bounds {
-                from,
-                to: from + slices::get32(record, 12),
-            }
-        }
-        Found::Absent => Bounds { from: 0, to: 0 },
-    }
+    let Some(r) = found else {
+        return 0..0;
+    };
+    let record = &s[r.at..r.at + r.len];
+    let from = r.at + limits::RECORD_HEADER + slices::get32(record, 8);
+    from..from + slices::get32(record, 12)
 }
 
 // The payload of the record that was found, as a part of the store; an empty part where there is none.
-pub fn payload(s: &[u8], found: Found) -> &[u8]
+pub fn payload(s: &[u8], found: Option<Found>) -> &[u8]
     requires { Held s.now found }
     ensures { result.now ≡ payload_in (record_in s.now found) }
 {
-    let bounds = payload_bounds(s, found);
-    let from = bounds.from;
-    let to = bounds.to;
-    &s[from..to]
+    &s[payload_bounds(s, found)]
 }
 
 // The same of the variable's record, where it was found.
 pub fn payload_found<'a>(
     s: &'a [u8],
     nonvolatile: bool,
-    found: Found,
+    found: Option<Found>,
     namespace: &[u8],
     name: &[u8],
 ) -> &'a [u8]
@@ -259,7 +238,7 @@ pub fn remove(
     s: &mut [u8],
     nonvolatile: bool,
     end: usize,
-    found: Found,
+    found: Option<Found>,
     namespace: &[u8],
     name: &[u8],
 )
@@ -267,8 +246,8 @@ pub fn remove(
     ensures { s.new ≡ without_variable nonvolatile s.old (variable namespace.now name.now) }
 {
     match found {
-        Found::At { at, len } => resize_record(s, at, len, 0, end),
-        Found::Absent => (),
+        Some(r) => resize_record(s, r.at, r.len, 0, end),
+        None => (),
     }
 }
 
@@ -329,7 +308,7 @@ pub fn has_room(
     s: &[u8],
     nonvolatile: bool,
     end: usize,
-    found: Found,
+    found: Option<Found>,
     namespace: &[u8],
     name: &[u8],
     n: usize,
@@ -339,8 +318,8 @@ pub fn has_room(
 {
     let size = record_size(name.len() + 2, n);
     match found {
-        Found::At { at: _, len } => size <= s.len() - (end - len),
-        Found::Absent => size <= s.len() - end,
+        Some(r) => size <= s.len() - (end - r.len),
+        None => size <= s.len() - end,
     }
 }
 
@@ -349,7 +328,7 @@ pub fn write(
     s: &mut [u8],
     nonvolatile: bool,
     end: usize,
-    found: Found,
+    found: Option<Found>,
     attributes: u8,
     namespace: &[u8],
     name: &[u8],
@@ -361,11 +340,17 @@ pub fn write(
     ensures { s.new ≡ with_record nonvolatile s.old (variable namespace.now name.now) (encode_record attributes (variable namespace.now name.now) payload.now) }
 {
     match found {
-        Found::At { at, len } => {
-            resize_record(s, at, len, record_size(name.len() + 2, payload.len()), end);
-            put_record(s, at, attributes, namespace, name, payload);
+        Some(r) => {
+            resize_record(
+                s,
+                r.at,
+                r.len,
+                record_size(name.len() + 2, payload.len()),
+                end,
+            );
+            put_record(s, r.at, attributes, namespace, name, payload);
         }
-        Found::Absent => put_record(s, end, attributes, namespace, name, payload),
+        None => put_record(s, end, attributes, namespace, name, payload),
     }
 }
 
@@ -374,7 +359,7 @@ pub fn append(
     s: &mut [u8],
     nonvolatile: bool,
     end: usize,
-    found: Found,
+    found: Option<Found>,
     attributes: u8,
     namespace: &[u8],
     name: &[u8],

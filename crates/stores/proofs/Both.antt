@@ -17,10 +17,10 @@ use Rattle.slices.proofs.ItemsLaws.{distinct_left}
 use Rattle.store.specs.Record.{same_variable}
 use Rattle.store.specs.Store.{records_of, end_of, store_ok}
 use Rattle.store.proofs.StoreLaws.{end_of-within}
-use Rattle.stores.specs.Pair.{all_records, sound, sound_alone, pair_check}
+use Rattle.stores.specs.Pair.{all_records, ends_of, sound, sound_alone, pair_check}
 use Rattle.stores.specs.Filter.{scanned}
-use Rattle.stores.specs.declared.Scanned.TheVariants.{End, Repeated}
-use Rattle.stores.specs.declared.PairCheck.TheVariants.{Sound, Unsound}
+use Rattle.std.specs.Prelude.{Option, Some, None, cond}
+use Rattle.std.specs.Bool.{then_some}
 
 -- what an answer of a scan says
 pub record Ended (non_volatile : Bool) (s : Bytes) (os : List Bytes) (k : ℕ) : Type 0 where
@@ -29,23 +29,23 @@ pub record Ended (non_volatile : Bool) (s : Bytes) (os : List Bytes) (k : ℕ) :
   pub within : k ≤ length s
 
 module _ (non_volatile : Bool) (s : Bytes) (os : List Bytes) where
-  pub ends_at : (k : ℕ) → scanned non_volatile s os ≡ End k → Ended non_volatile s os k
+  pub ends_at : (k : ℕ) → scanned non_volatile s os ≡ Some k → Ended non_volatile s os k
   unfolding scanned
   ends_at k e = go (distinct same_variable (os ++ records_of non_volatile s)) refl
     where
       go : (b : Bool) → distinct same_variable (os ++ records_of non_volatile s) ≡ b → Ended non_volatile s os k
       go true q =
-          let f : End (end_of non_volatile s) ≡ End k = rw q at e in
+          let f : Some (end_of non_volatile s) ≡ Some k = rw q at e in
           let g : k ≡ end_of non_volatile s = cc in
           record { free = q; is = g; within = rw g (end_of-within non_volatile s) }
-      go false q = let f : Repeated ≡ End k = rw q at e in absurd (let z : ◌≡◌ {A = ℕ} 0 1 = cc in omega arith)
+      go false q = let f : ◌≡◌ {A = Option ℕ} None (Some k) = rw q at e in absurd (let z : ◌≡◌ {A = ℕ} 0 1 = cc in omega arith)
 
-  pub repeated_in : scanned non_volatile s os ≡ Repeated → distinct same_variable (os ++ records_of non_volatile s) ≡ false
+  pub repeated_in : scanned non_volatile s os ≡ None → distinct same_variable (os ++ records_of non_volatile s) ≡ false
   unfolding scanned
   repeated_in e = go (distinct same_variable (os ++ records_of non_volatile s)) refl
     where
       go : (b : Bool) → distinct same_variable (os ++ records_of non_volatile s) ≡ b → distinct same_variable (os ++ records_of non_volatile s) ≡ false
-      go true q = let f : End (end_of non_volatile s) ≡ Repeated = rw q at e in absurd (let z : ◌≡◌ {A = ℕ} 0 1 = cc in omega arith)
+      go true q = let f : ◌≡◌ {A = Option ℕ} (Some (end_of non_volatile s)) None = rw q at e in absurd (let z : ◌≡◌ {A = ℕ} 0 1 = cc in omega arith)
       go false q = q
 
 -- a store's own test, from the bytes behind its records
@@ -58,30 +58,30 @@ unfolding store_ok
 long non_volatile s h = rw (lt-leb (length s) max_store h) (and_off (all_are 255 (drop (end_of non_volatile s) s)))
 
 module _ (nv vol : Bytes) where
-  unsound : sound nv vol ≡ false → Unsound ≡ pair_check nv vol
+  unsound : sound nv vol ≡ false → None ≡ pair_check nv vol
   unfolding pair_check
   unsound e = rw e
 
-  pub long_first : max_store < length nv → Unsound ≡ pair_check nv vol
+  pub long_first : max_store < length nv → None ≡ pair_check nv vol
   unfolding sound
   long_first h = unsound (rw (long true nv h) (and_off _))
 
-  pub long_second : max_store < length vol → Unsound ≡ pair_check nv vol
+  pub long_second : max_store < length vol → None ≡ pair_check nv vol
   unfolding sound ◌and◌
   long_second h = unsound (rw (long false vol h) (and_no (store_ok true nv)))
 
-  twice : distinct same_variable (all_records nv vol) ≡ false → Unsound ≡ pair_check nv vol
+  twice : distinct same_variable (all_records nv vol) ≡ false → None ≡ pair_check nv vol
   unfolding sound
   twice h = unsound (rw (h, and_no (store_ok false vol)) (and_no (store_ok true nv)))
 
-  pub repeated_first : distinct same_variable (records_of true nv) ≡ false → Unsound ≡ pair_check nv vol
+  pub repeated_first : distinct same_variable (records_of true nv) ≡ false → None ≡ pair_check nv vol
   repeated_first h = twice (go (distinct same_variable (all_records nv vol)) refl)
     where
       go : (b : Bool) → distinct same_variable (all_records nv vol) ≡ b → distinct same_variable (all_records nv vol) ≡ false
       go true q = absurd (let k = sym (distinct_left same_variable (records_of true nv) (records_of false vol) q) ∙ h in let z : ◌≡◌ {A = ℕ} 0 1 = cc in omega arith)
       go false q = q
 
-  pub repeated_second : distinct same_variable (all_records nv vol) ≡ false → Unsound ≡ pair_check nv vol
+  pub repeated_second : distinct same_variable (all_records nv vol) ≡ false → None ≡ pair_check nv vol
   repeated_second h = twice h
 
   module _ {x y : Bool} {i j : ℕ} (h : length nv ≤ max_store) (k : length vol ≤ max_store) (p : i ≡ end_of true nv) (q : Ended false vol (records_of true nv) j)
@@ -90,12 +90,13 @@ module _ (nv vol : Bytes) where
     unfolding sound
     both_are = rw (free_is true nv h p e, free_is false vol k q.is f, q.free, and_yes y) (sym (and_eager x y))
 
-    pub check_sound : (x && y) ≡ true → Sound (record { nv = i; vol = j }) ≡ pair_check nv vol
+    pub check_is : then_some (x && y) (record { nv = i; vol = j }) ≡ pair_check nv vol
     unfolding pair_check
-    check_sound z = rw (both_are ∙ z, p, q.is)
-
-    pub check_unsound : (x && y) ≡ false → Unsound ≡ pair_check nv vol
-    check_unsound z = unsound (both_are ∙ z)
+    check_is = rw (both_are, p, q.is) (go (x && y))
+      where
+        go : (b : Bool) → then_some b (ends_of nv vol) ≡ cond b (Some (ends_of nv vol)) None
+        go true = refl
+        go false = refl
 
 -- the non-volatile store alone
 pub long_alone : (nv : Bytes) → max_store < length nv → false ≡ sound_alone nv

@@ -1,10 +1,11 @@
 -- Laws of the two stores: a set or a deletion keeps them sound and changes no variable but its own; and what is found where.
 -- Assumes nothing.
-use Rattle.std.specs.Prelude.{ℕ, ◌+◌, ◌≤◌, ◌≡◌, refl, List, Bool, cond, replicate}
+use Rattle.std.specs.Prelude.{ℕ, ◌+◌, ◌≤◌, ◌≡◌, refl, List, Bool, cond, replicate, Option, Some, None}
 use Rattle.std.proofs.Common.{sym, ◌∙◌, append-nil, arith}
 use Rattle.std.proofs.Math.Path.{ap}
 use Rattle.std.proofs.Math.Bool.{true, false}
-use Rattle.std.proofs.Math.Option.{Option, none, some}
+use Rattle.std.proofs.Math.Option.{none, some}
+use Rattle.std.proofs.Math.Option as maybe
 use Rattle.limits.specs.Limits.{max_store}
 use Rattle.slices.proofs.TestLaws.{and_left, and_right, and_intro}
 use Rattle.slices.specs.Bytes.{Bytes, part}
@@ -17,10 +18,9 @@ use Rattle.store.proofs.VariableLaws.{is_of-variable, is_of-like, is_of-other, s
 use Rattle.store.specs.Store.{records_of, store_ok, place_of, without_variable, has_room, with_record}
 use Rattle.store.proofs.StoreLaws.{records_ok, records_without, store_ok-without, records_with_lem, store_ok-with, records_erased, store_ok-erased}
 use Rattle.store.proofs.PlaceLaws.{find_at}
-use Rattle.store.specs.declared.Found.TheVariants.{At}
+use Rattle.store.specs.declared.Found.{Found}
 use Rattle.stores.specs.Pair.{all_records, sound, sound_alone, lookup, ends_of, pair_check}
 use Rattle.stores.specs.declared.Ends.{Ends}
-use Rattle.stores.specs.declared.PairCheck.TheVariants.{Sound, Unsound}
 
 module _ (nv vol : Bytes) where
   -- ---- what soundness says
@@ -93,8 +93,8 @@ module _ (nv vol : Bytes) (v : Variable) where
   unfolding lookup
   lookup_either = find_either (is_of v) (records_of true nv) (records_of false vol)
 
-  pub lookup_nv : (at len : ℕ) → place_of true nv v ≡ At at len → lookup nv vol v ≡ some (part at (at + len) nv)
-  lookup_nv at len f = lookup_either ∙ rw (find_at true nv v at len f)
+  pub lookup_nv : (f : Found) → place_of true nv v ≡ Some f → lookup nv vol v ≡ some (part f.at (f.at + f.len) nv)
+  lookup_nv f e = lookup_either ∙ rw (find_at true nv v f e)
 
   -- what is found once the volatile store is erased was found before
   pub lookup_erased : (n : ℕ) (r : Bytes) → lookup nv (replicate n 255) v ≡ some r → lookup nv vol v ≡ some r
@@ -112,7 +112,7 @@ module _ (nv vol : Bytes) (v : Variable) where
     pub looked : Looked
     looked = go (find (is_of v) (records_of true nv)) refl (sym lookup_either ∙ e)
       where
-        go : (o : Option Bytes) → find (is_of v) (records_of true nv) ≡ o → or_else (find (is_of v) (records_of true nv)) (find (is_of v) (records_of false vol)) ≡ some r → Looked
+        go : (o : maybe.Option Bytes) → find (is_of v) (records_of true nv) ≡ o → or_else (find (is_of v) (records_of true nv)) (find (is_of v) (records_of false vol)) ≡ some r → Looked
         go (some x) h k =
             let j : find (is_of v) (records_of true nv) ≡ some r = h ∙ rw h at k in
             let m = all_find (is_of v) (records_of true nv) r j (records_ok true nv) in
@@ -138,7 +138,7 @@ module _ (nv vol : Bytes) (v : Variable) where
   pub none_nv : lookup nv vol v ≡ none → contains (is_of v) (records_of true nv) ≡ false
   none_nv e = none_contains (is_of v) (records_of true nv) (go (find (is_of v) (records_of true nv)) refl (sym lookup_either ∙ e))
     where
-      go : (o : Option Bytes) → find (is_of v) (records_of true nv) ≡ o → or_else (find (is_of v) (records_of true nv)) (find (is_of v) (records_of false vol)) ≡ none → find (is_of v) (records_of true nv) ≡ none
+      go : (o : maybe.Option Bytes) → find (is_of v) (records_of true nv) ≡ o → or_else (find (is_of v) (records_of true nv)) (find (is_of v) (records_of false vol)) ≡ none → find (is_of v) (records_of true nv) ≡ none
       go (some x) h k = let j : some x ≡ none = rw h at k in absurd (let z : ◌≡◌ {A = ℕ} 0 1 = cc in omega arith)
       go none h k = h
 
@@ -198,18 +198,18 @@ module _ (nv vol : Bytes) (v : Variable) where
 
 -- ---- what the check's answer tells
 
-pub check_sound : (nv vol : Bytes) (e : Ends) → pair_check nv vol ≡ Sound e → (sound nv vol ≡ true) × (e ≡ ends_of nv vol)
+pub check_sound : (nv vol : Bytes) (e : Ends) → pair_check nv vol ≡ Some e → (sound nv vol ≡ true) × (e ≡ ends_of nv vol)
 unfolding pair_check
 check_sound nv vol e h = go (sound nv vol) refl h
   where
-    go : (t : Bool) → sound nv vol ≡ t → cond t (Sound (ends_of nv vol)) Unsound ≡ Sound e → (sound nv vol ≡ true) × (e ≡ ends_of nv vol)
+    go : (t : Bool) → sound nv vol ≡ t → cond t (Some (ends_of nv vol)) None ≡ Some e → (sound nv vol ≡ true) × (e ≡ ends_of nv vol)
     go true k l = (k, cc)
     go false k l = let z : ◌≡◌ {A = ℕ} 0 1 = cc in absurd (omega arith)
 
-pub check_unsound : (nv vol : Bytes) → pair_check nv vol ≡ Unsound → sound nv vol ≡ false
+pub check_unsound : (nv vol : Bytes) → pair_check nv vol ≡ None → sound nv vol ≡ false
 unfolding pair_check
 check_unsound nv vol h = go (sound nv vol) refl h
   where
-    go : (t : Bool) → sound nv vol ≡ t → cond t (Sound (ends_of nv vol)) Unsound ≡ Unsound → sound nv vol ≡ false
+    go : (t : Bool) → sound nv vol ≡ t → cond t (Some (ends_of nv vol)) None ≡ None → sound nv vol ≡ false
     go true k l = let z : ◌≡◌ {A = ℕ} 0 1 = cc in absurd (omega arith)
     go false k l = k

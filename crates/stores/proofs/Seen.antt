@@ -21,7 +21,7 @@ use Rattle.store.proofs.VariableLaws.{is_of-variable, same_variable-sym, same_va
 use Rattle.store.specs.Parts.{variable}
 use Rattle.store.specs.Store.{records_of, end_of}
 use Rattle.stores.specs.Filter.{slots, hash_of, slot_of, fingerprint_of, key_of, Filter, scanned}
-use Rattle.stores.specs.declared.Scanned.TheVariants.{End, Repeated}
+use Rattle.std.specs.Prelude.{Some, None}
 
 -- ---- the filter
 key_like : (r q : Bytes) → same_variable r q ≡ true → key_of q ≡ key_of r
@@ -123,14 +123,14 @@ module _ (non_volatile : Bool) (at n : ℕ) (s : Bytes) (os : List Bytes) (t : B
           let g' : slot_of (key_of r) < length t = rw w.filter.room (rw slot_is at g) in
           rw slot_is (seen_more x u g' (rw (slot_is, fingerprint_is) at d))
 
-  pub ends : n ≡ 0 → End at ≡ scanned non_volatile s os
+  pub ends : n ≡ 0 → Some at ≡ scanned non_volatile s os
   unfolding scanned
-  ends z = rw (seen_end z, w.free) (ap End (used_here first (record_length-within non_volatile) at n s e z w.end))
+  ends z = rw (seen_end z, w.free) (ap Some (used_here first (record_length-within non_volatile) at n s e z w.end))
 
   pub ends_filter : n ≡ 0 → Filter t (os ++ records_of non_volatile s)
   ends_filter z = rw (seen_end z) w.filter
 
-pub scanned_repeated : (non_volatile : Bool) (s : Bytes) (os : List Bytes) → distinct same_variable (os ++ records_of non_volatile s) ≡ false → Repeated ≡ scanned non_volatile s os
+pub scanned_repeated : (non_volatile : Bool) (s : Bytes) (os : List Bytes) → distinct same_variable (os ++ records_of non_volatile s) ≡ false → None ≡ scanned non_volatile s os
 unfolding scanned
 scanned_repeated non_volatile s os e = rw e
 

@@ -1,6 +1,6 @@
 -- A filter over the records seen: a slot for each hash.
 -- Assumes nothing: these are definitions.
-use Rattle.std.specs.Prelude.{ℕ, ◌+◌, ◌*◌, ◌/◌, ◌%◌, ◌≡◌, List, ◌++◌, Bool, cond, length}
+use Rattle.std.specs.Prelude.{ℕ, ◌+◌, ◌*◌, ◌/◌, ◌%◌, ◌≡◌, List, ◌++◌, Bool, cond, length, Option, Some, None}
 use Rattle.slices.specs.Bytes.{Bytes}
 use Rattle.slices.specs.Hash.{hash_from}
 use Rattle.slices.specs.Filter.{Marked}
@@ -9,8 +9,6 @@ use Rattle.slices.proofs.ChunksLaws.{All}
 use Rattle.names.specs.Name.{Variable}
 use Rattle.store.specs.Record.{variable_of, same_variable}
 use Rattle.store.specs.Store.{records_of, end_of}
-use Rattle.stores.specs.declared.Scanned.{Scanned}
-use Rattle.stores.specs.declared.Scanned.TheVariants.{End, Repeated}
 
 -- the hash of a variable
 unfoldable pub hash_of : Variable → ℕ
@@ -34,6 +32,6 @@ pub record Filter (t : Bytes) (rs : List Bytes) : Type 0 where
   pub room : length t ≡ slots
   pub marks : All (λ r. Marked t (slot_of (key_of r)) (fingerprint_of (key_of r))) rs
 
--- what a scan of a store finds, behind the records os
-unfoldable pub scanned : Bool → Bytes → List Bytes → Scanned
-scanned non_volatile s os = cond (distinct same_variable (os ++ records_of non_volatile s)) (End (end_of non_volatile s)) Repeated
+-- what a scan of a store behind the records os finds: where its records end, or none where a variable stands twice
+unfoldable pub scanned : Bool → Bytes → List Bytes → Option ℕ
+scanned non_volatile s os = cond (distinct same_variable (os ++ records_of non_volatile s)) (Some (end_of non_volatile s)) None

@@ -1,7 +1,7 @@
 -- The two stores: the non-volatile one and the volatile one.
 -- Assumes nothing: these are definitions.
-use Rattle.std.specs.Prelude.{List, ◌++◌, Bool, true, false, cond}
-use Rattle.std.proofs.Math.Option.{Option}
+use Rattle.std.specs.Prelude.{List, ◌++◌, Bool, true, false, cond, Option, Some, None}
+use Rattle.std.proofs.Math.Option as maybe
 use Rattle.slices.specs.Test.{◌and◌}
 use Rattle.slices.specs.Bytes.{Bytes}
 use Rattle.slices.specs.Chunks.{distinct, find}
@@ -9,8 +9,6 @@ use Rattle.names.specs.Name.{Variable}
 use Rattle.store.specs.Record.{same_variable, is_of}
 use Rattle.store.specs.Store.{records_of, end_of, store_ok}
 use Rattle.stores.specs.declared.Ends.{Ends}
-use Rattle.stores.specs.declared.PairCheck.{PairCheck}
-use Rattle.stores.specs.declared.PairCheck.TheVariants.{Sound, Unsound}
 
 -- the records of both stores
 abbrev pub all_records : Bytes → Bytes → List Bytes
@@ -28,9 +26,10 @@ sound_alone nv = store_ok true nv and distinct same_variable (records_of true nv
 abbrev pub ends_of : Bytes → Bytes → Ends
 ends_of nv vol = record { nv = end_of true nv; vol = end_of false vol }
 
-unfoldable pub pair_check : Bytes → Bytes → PairCheck
-pair_check nv vol = cond (sound nv vol) (Sound (ends_of nv vol)) Unsound
+-- what the check of the pair finds: where the records end, if it is sound
+unfoldable pub pair_check : Bytes → Bytes → Option Ends
+pair_check nv vol = cond (sound nv vol) (Some (ends_of nv vol)) None
 
 -- the variable's record, in whichever store holds it
-unfoldable pub lookup : Bytes → Bytes → Variable → Option Bytes
+unfoldable pub lookup : Bytes → Bytes → Variable → maybe.Option Bytes
 lookup nv vol v = find (is_of v) (all_records nv vol)

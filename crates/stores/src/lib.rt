@@ -12,7 +12,8 @@ ghost use Rattle.stores.specs.Pair.{sound_alone, ends_of, pair_check};
 ghost use Rattle.stores.specs.Filter.{slots, hash_of, slot_of, fingerprint_of, Filter, scanned};
 ghost use Rattle.stores.specs.Place.{place_in, is_somewhere, attributes_at, payload_at, bounds_at, Within};
 
-use store::{Bounds, Found};
+use std::ops::Range;
+use store::Found;
 
 // The slots of the filter; `specs/Filter.antt` has the same for the proofs.
 const SLOTS: usize = 8192;
@@ -22,21 +23,6 @@ const SLOTS: usize = 8192;
 pub struct Ends {
     pub nv: usize,
     pub vol: usize,
-}
-
-// What the check of the two stores finds.
-#[derive(Clone, Copy)]
-pub enum PairCheck {
-    Sound(Ends),
-    Unsound,
-}
-
-// What a scan of one store finds.
-#[derive(Clone, Copy)]
-pub enum Scanned {
-    // No variable stands twice; the records end here.
-    End(usize),
-    Repeated,
 }
 
 // A hash of the namespace and the name of a record.
@@ -74,7 +60,7 @@ fn has_within(s: &[u8], nonvolatile: bool, end: usize, namespace: &[u8], name: &
     requires { end ≡ end_of nonvolatile s.now }
     ensures { result ≡ contains (is_of (variable namespace.now name.now)) (records_of nonvolatile s.now) }
 {
-    store::is_found(store::find_within(s, nonvolatile, end, namespace, name))
+    store::find_within(s, nonvolatile, end, namespace, name).is_some()
 }
 
 // Whether the record r has a variable of o or of s.
@@ -95,7 +81,8 @@ fn is_repeated(
     has_within(o, other, oend, namespace, name) | has_within(s, nonvolatile, end, namespace, name)
 }
 
-// Walks the records of s behind those of o, which the filter t has: no variable may stand twice. The filter then has both.
+// Walks the records of s behind those of o, which the filter t has, and answers where they end. No variable may stand twice: there is no answer then. The filter
+// then has both.
 fn scan(
     s: &[u8],
     nonvolatile: bool,
@@ -103,7 +90,7 @@ fn scan(
     other: bool,
     oend: usize,
     t: &mut [u8; SLOTS],
-) -> Scanned
+) -> Option<usize>
     requires { (oend ≡ end_of other o.now) × (distinct same_variable (records_of other o.now) ≡ true) × Filter t.old (records_of other o.now) }
     ensures answer { result ≡ scanned nonvolatile s.now (records_of other o.now) }
     ensures filter { distinct same_variable (records_of other o.now ++ records_of nonvolatile s.now) ≡ true
@@ -113,7 +100,7 @@ fn scan(
     loop {
         let n = store::record_length(&s[at..], nonvolatile);
         if n == 0 {
-            return Scanned::End(at);
+            return Some(at);
         }
         let next = at + n;
         let h = hash(&s[at..next]);
@@ -122,7 +109,7 @@ fn scan(
         let v = t[k];
         if (v == 255) | (v == f) {
             if is_repeated(&s[at..next], o, other, oend, &s[..at], nonvolatile, at) {
-                return Scanned::Repeated;
+                return None;
             }
         }
         t[k] = joined(v, f);
@@ -137,31 +124,24 @@ fn empty() -> [u8; SLOTS]
     [0u8; SLOTS]
 }
 
-// The check for 10 of both stores.
-pub fn check(nv: &[u8], vol: &[u8]) -> PairCheck
+// The check for 10 of both stores: where their records end, if the pair is sound.
+pub fn check(nv: &[u8], vol: &[u8]) -> Option<Ends>
     ensures { result ≡ pair_check nv.now vol.now }
 {
     if limits::MAX_STORE < nv.len() {
-        return PairCheck::Unsound;
+        return None;
     }
     if limits::MAX_STORE < vol.len() {
-        return PairCheck::Unsound;
+        return None;
     }
     let mut t = empty();
-    let Scanned::End(nv_end) = scan(nv, true, &nv[..0], true, 0, &mut t) else {
-        return PairCheck::Unsound;
-    };
-    let Scanned::End(vol_end) = scan(vol, false, nv, true, nv_end, &mut t) else {
-        return PairCheck::Unsound;
-    };
-    if slices::all_are(&nv[nv_end..], 255) & slices::all_are(&vol[vol_end..], 255) {
-        PairCheck::Sound(Ends {
-            nv: nv_end,
-            vol: vol_end,
-        })
-    } else {
-        PairCheck::Unsound
-    }
+    let nv_end = scan(nv, true, &nv[..0], true, 0, &mut t)?;
+    let vol_end = scan(vol, false, nv, true, nv_end, &mut t)?;
+    let free = slices::all_are(&nv[nv_end..], 255) & slices::all_are(&vol[vol_end..], 255);
+    free.then_some(Ends {
+        nv: nv_end,
+        vol: vol_end,
+    })
 }
 
 // The check of the non-volatile store alone: what power-on asks.
@@ -172,7 +152,7 @@ pub fn check_alone(nv: &[u8]) -> bool
         return false;
     }
     let mut t = empty();
-    let Scanned::End(end) = scan(nv, true, &nv[..0], true, 0, &mut t) else {
+    let Some(end) = scan(nv, true, &nv[..0], true, 0, &mut t) else {
         return false;
     };
     slices::all_are(&nv[end..], 255)
@@ -182,7 +162,7 @@ pub fn check_alone(nv: &[u8]) -> bool
 #[derive(Clone, Copy)]
 pub struct Place {
     pub nonvolatile: bool,
-    pub found: Found,
+    pub found: Option<Found>,
 }
 
 // Where the variable stands.
@@ -191,18 +171,16 @@ pub fn locate(nv: &[u8], vol: &[u8], ends: Ends, namespace: &[u8], name: &[u8]) 
     ensures { result ≡ place_in nv.now vol.now (variable namespace.now name.now) }
 {
     let in_nv = store::find_within(nv, true, ends.nv, namespace, name);
-    match in_nv {
-        Found::At { at: _, len: _ } => Place {
+    if in_nv.is_some() {
+        return Place {
             nonvolatile: true,
             found: in_nv,
-        },
-        Found::Absent => {
-            let in_vol = store::find_within(vol, false, ends.vol, namespace, name);
-            Place {
-                nonvolatile: false,
-                found: in_vol,
-            }
-        }
+        };
+    }
+    let in_vol = store::find_within(vol, false, ends.vol, namespace, name);
+    Place {
+        nonvolatile: false,
+        found: in_vol,
     }
 }
 
@@ -210,8 +188,7 @@ pub fn locate(nv: &[u8], vol: &[u8], ends: Ends, namespace: &[u8], name: &[u8]) 
 pub fn is_somewhere(place: Place) -> bool
     ensures { result ≡ is_somewhere place }
 {
-    let found = place.found;
-    store::is_found(found)
+    place.found.is_some()
 }
 
 // The attributes of the record at a place; 0 where there is none.
@@ -219,24 +196,22 @@ pub fn attributes_at(nv: &[u8], vol: &[u8], place: Place) -> u32
     requires { Within nv.now vol.now place }
     ensures { result ≡ attributes_at nv.now vol.now place }
 {
-    let found = place.found;
     if place.nonvolatile {
-        store::attributes_found(nv, found)
+        store::attributes_found(nv, place.found)
     } else {
-        store::attributes_found(vol, found)
+        store::attributes_found(vol, place.found)
     }
 }
 
 // Where the payload of the record at a place stands in the store that holds it; 0 and 0 where there is none.
-pub fn payload_bounds(nv: &[u8], vol: &[u8], place: Place) -> Bounds
+pub fn payload_bounds(nv: &[u8], vol: &[u8], place: Place) -> Range<usize>
     requires { Within nv.now vol.now place }
     ensures { result ≡ bounds_at nv.now vol.now place }
 {
-    let found = place.found;
     if place.nonvolatile {
-        store::payload_bounds(nv, found)
+        store::payload_bounds(nv, place.found)
     } else {
-        store::payload_bounds(vol, found)
+        store::payload_bounds(vol, place.found)
     }
 }
 
@@ -245,10 +220,9 @@ pub fn payload_at<'a>(nv: &'a [u8], vol: &'a [u8], place: Place) -> &'a [u8]
     requires { Within nv.now vol.now place }
     ensures { result.now ≡ payload_at nv.now vol.now place }
 {
-    let found = place.found;
     if place.nonvolatile {
-        store::payload(nv, found)
+        store::payload(nv, place.found)
     } else {
-        store::payload(vol, found)
+        store::payload(vol, place.found)
     }
 }

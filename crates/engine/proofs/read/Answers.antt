@@ -16,18 +16,18 @@ use Rattle.engine.proofs.read.Goals as goal
 
 pub returns-in_default : goal.returns-in_default
 returns-in_default c =
-    let both = reads _ _ _ _ (c.refused_reading.ensures ∙ reading_unsound _ _ _ _ (check_unsound _ _ (sym c.check-checked.ensures ∙ c.in_default.is))) in record { is = both.0; answers = both.1 }
+    let both = reads _ _ _ _ (c.refused_reading.ensures ∙ reading_unsound _ _ _ _ (check_unsound _ _ (sym c.check.ensures ∙ c.in_default.is))) in record { is = both.0; answers = both.1 }
 
 pub returns-then-not-is_name : goal.returns-then-not-is_name
 unfolding named
 returns-then-not-is_name c =
-    let checked : (sound c.args.nv.now c.args.vol.now ≡ true) × (c.in-Sound.ends ≡ ends_of c.args.nv.now c.args.vol.now) = check_sound _ _ _ (sym c.check-checked.ensures ∙ c.in-Sound.is) in
+    let checked : (sound c.args.nv.now c.args.vol.now ≡ true) × (c.in-Some.ends ≡ ends_of c.args.nv.now c.args.vol.now) = check_sound _ _ _ (sym c.check.ensures ∙ c.in-Some.is) in
     let n : is_name c.args.name.now ≡ false = sym c.is_name.ensures ∙ c.if-not-is_name.true in
     let both = reads _ _ _ _ (c.refused_reading-then-not-is_name.ensures ∙ reading_unnamed _ _ _ _ (checked).0 (simp (n, and_no))) in record { is = both.0; answers = both.1 }
 
 pub locate-place-requires : goal.locate-place-requires
 locate-place-requires c =
-    let checked : (sound c.args.nv.now c.args.vol.now ≡ true) × (c.in-Sound.ends ≡ ends_of c.args.nv.now c.args.vol.now) = check_sound _ _ _ (sym c.check-checked.ensures ∙ c.in-Sound.is) in
+    let checked : (sound c.args.nv.now c.args.vol.now ≡ true) × (c.in-Some.ends ≡ ends_of c.args.nv.now c.args.vol.now) = check_sound _ _ _ (sym c.check.ensures ∙ c.in-Some.is) in
     (checked).1
 
 pub is_shown-requires : goal.is_shown-requires
@@ -38,7 +38,7 @@ is_shown-requires c =
 pub returns-then-not-is_shown : goal.returns-then-not-is_shown
 unfolding named ◌and◌
 returns-then-not-is_shown c =
-    let checked : (sound c.args.nv.now c.args.vol.now ≡ true) × (c.in-Sound.ends ≡ ends_of c.args.nv.now c.args.vol.now) = check_sound _ _ _ (sym c.check-checked.ensures ∙ c.in-Sound.is) in
+    let checked : (sound c.args.nv.now c.args.vol.now ≡ true) × (c.in-Some.ends ≡ ends_of c.args.nv.now c.args.vol.now) = check_sound _ _ _ (sym c.check.ensures ∙ c.in-Some.is) in
     let Asked : Variable = variable c.args.namespace c.args.name.now in
     let good : named (Asked) ≡ true = let l : length c.args.namespace ≡ namespace_bytes = search rules in
     let n : is_name c.args.name.now ≡ true = sym c.is_name.ensures ∙ c.if-not-is_name.false in
@@ -54,7 +54,7 @@ reading_at-requires c =
 pub returns : goal.returns
 unfolding named ◌and◌
 returns c =
-    let checked : (sound c.args.nv.now c.args.vol.now ≡ true) × (c.in-Sound.ends ≡ ends_of c.args.nv.now c.args.vol.now) = check_sound _ _ _ (sym c.check-checked.ensures ∙ c.in-Sound.is) in
+    let checked : (sound c.args.nv.now c.args.vol.now ≡ true) × (c.in-Some.ends ≡ ends_of c.args.nv.now c.args.vol.now) = check_sound _ _ _ (sym c.check.ensures ∙ c.in-Some.is) in
     let Asked : Variable = variable c.args.namespace c.args.name.now in
     let good : named (Asked) ≡ true = let l : length c.args.namespace ≡ namespace_bytes = search rules in
     let n : is_name c.args.name.now ≡ true = sym c.is_name.ensures ∙ c.if-not-is_name.false in

@@ -4,12 +4,12 @@ use mathlib.Core.Path.{sym, ◌∙◌}
 use Rattle.engine.proofs.restart.Goals as goal
 
 pub returns-in_default : goal.returns-in_default
-returns-in_default c = restart_refused_lem _ _ _ _ (restart_unsound_lem _ _ _ (check_unsound _ _ (sym c.check-checked.ensures ∙ c.in_default.is))) c.refused_start.ensures
+returns-in_default c = restart_refused_lem _ _ _ _ (restart_unsound_lem _ _ _ (check_unsound _ _ (sym c.check.ensures ∙ c.in_default.is))) c.refused_start.ensures
 
 pub returns-then-policy-ne-POLICY_BYTES : goal.returns-then-policy-ne-POLICY_BYTES
 returns-then-policy-ne-POLICY_BYTES c = restart_refused_lem _ _ _ _ (restart_record _ _ _ c.if-policy-ne-POLICY_BYTES.true) c.refused_start-then-policy-ne-POLICY_BYTES.ensures
 
 pub returns : goal.returns
 returns c =
-    restart_granted _ _ _ _ (restart_done_lem _ _ _ (check_sound _ _ _ (sym c.check-checked.ensures ∙ c.in-Sound.is)).0 c.if-policy-ne-POLICY_BYTES.false)
+    restart_granted _ _ _ _ (restart_done_lem _ _ _ (check_sound _ _ _ (sym c.check.ensures ∙ c.in-Some.is)).0 c.if-policy-ne-POLICY_BYTES.false)
     c.fresh_start.ensures c.clear.ensures

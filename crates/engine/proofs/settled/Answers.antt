@@ -15,7 +15,7 @@ use Rattle.engine.proofs.settled.Goals as goal
 
 pub returns-in_default : goal.returns-in_default
 returns-in_default c =
-    settled_unsound_lem _ _ _ _ c.not_settled.ensures (check_unsound _ _ (sym c.check-checked.ensures ∙ c.in_default.is))
+    settled_unsound_lem _ _ _ _ c.not_settled.ensures (check_unsound _ _ (sym c.check.ensures ∙ c.in_default.is))
 
 pub returns-in_default-check_noting : goal.returns-in_default-check_noting
 returns-in_default-check_noting c =
@@ -24,15 +24,15 @@ returns-in_default-check_noting c =
 pub returns-then-not-is_name : goal.returns-then-not-is_name
 unfolding named
 returns-then-not-is_name c =
-    let checked : (sound c.args.nv.now c.args.vol.now ≡ true) × (c.in-Sound.ends ≡ ends_of c.args.nv.now c.args.vol.now) = check_sound _ _ _ (sym c.check-checked.ensures ∙ c.in-Sound.is) in
-    let valid : Checked c.args.policy.now c.in-Some.extent.count c.in-Some.extent.used = check_valid _ _ (sym c.check_noting.ensures.answer ∙ c.in-Some.is) in
+    let checked : (sound c.args.nv.now c.args.vol.now ≡ true) × (c.in-Some.ends ≡ ends_of c.args.nv.now c.args.vol.now) = check_sound _ _ _ (sym c.check.ensures ∙ c.in-Some.is) in
+    let valid : Checked c.args.policy.now c.in-Some-check_noting.extent.count c.in-Some-check_noting.extent.used = check_valid _ _ (sym c.check_noting.ensures.answer ∙ c.in-Some-check_noting.is) in
     let n : is_name c.args.name.now ≡ false = sym c.is_name.ensures ∙ c.if-not-is_name.true in
     settled_unnamed _ _ _ _ (checked).0 (valid).valid c.not_settled-then-not-is_name.ensures (simp (n, and_no))
 
 pub is_settled-requires : goal.is_settled-requires
 is_settled-requires c =
-    let checked : (sound c.args.nv.now c.args.vol.now ≡ true) × (c.in-Sound.ends ≡ ends_of c.args.nv.now c.args.vol.now) = check_sound _ _ _ (sym c.check-checked.ensures ∙ c.in-Sound.is) in
-    let valid : Checked c.args.policy.now c.in-Some.extent.count c.in-Some.extent.used = check_valid _ _ (sym c.check_noting.ensures.answer ∙ c.in-Some.is) in (
+    let checked : (sound c.args.nv.now c.args.vol.now ≡ true) × (c.in-Some.ends ≡ ends_of c.args.nv.now c.args.vol.now) = check_sound _ _ _ (sym c.check.ensures ∙ c.in-Some.is) in
+    let valid : Checked c.args.policy.now c.in-Some-check_noting.extent.count c.in-Some-check_noting.extent.used = check_valid _ _ (sym c.check_noting.ensures.answer ∙ c.in-Some-check_noting.is) in (
       record { counted = (valid).counted; ends = c.check_noting.ensures.noted (valid).valid },
       (checked).0,
       (checked).1,
@@ -41,8 +41,8 @@ is_settled-requires c =
 pub returns : goal.returns
 unfolding named ◌and◌
 returns c =
-    let checked : (sound c.args.nv.now c.args.vol.now ≡ true) × (c.in-Sound.ends ≡ ends_of c.args.nv.now c.args.vol.now) = check_sound _ _ _ (sym c.check-checked.ensures ∙ c.in-Sound.is) in
-    let valid : Checked c.args.policy.now c.in-Some.extent.count c.in-Some.extent.used = check_valid _ _ (sym c.check_noting.ensures.answer ∙ c.in-Some.is) in
+    let checked : (sound c.args.nv.now c.args.vol.now ≡ true) × (c.in-Some.ends ≡ ends_of c.args.nv.now c.args.vol.now) = check_sound _ _ _ (sym c.check.ensures ∙ c.in-Some.is) in
+    let valid : Checked c.args.policy.now c.in-Some-check_noting.extent.count c.in-Some-check_noting.extent.used = check_valid _ _ (sym c.check_noting.ensures.answer ∙ c.in-Some-check_noting.is) in
     let Asked : Variable = variable c.args.namespace c.args.name.now in
     let sixteen : length c.args.namespace ≡ namespace_bytes = search rules in
     let good : named (Asked) ≡ true = let n : is_name c.args.name.now ≡ true = sym c.is_name.ensures ∙ c.if-not-is_name.false in

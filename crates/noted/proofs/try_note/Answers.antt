@@ -47,10 +47,10 @@ find_within-requires c =
     let this : Here c.args.nonvolatile (c.args.note - 1) c.record_size-size.result c.args.s.now = here_sized _ _ _ _ (begins-at) (size_is) in
     let h = this in rw rest_at (alone_end _ _ _ h.is h.some)
 
-pub returns-in-At : goal.returns-in-At
-returns-in-At c =
+pub returns : goal.returns
+returns c =
     let begins-at : Begins c.args.nonvolatile c.args.s.now (c.args.note - 1) = c.requires (c.args.note - 1) (omega (arith, c.if-note-eq0.false)) in
     let size_is : c.record_size-size.result
     ≡ record_size (name_size (drop (c.args.note - 1) c.args.s.now)) (data_size (drop (c.args.note - 1) c.args.s.now)) = let g = c.args in
     size_of (g.note - 1) g.s.now c.record_size-size.ensures c.get32.ensures.is c.get32-2.ensures.is in
-    tried_here _ _ _ _ _ (begins-at) (size_is) c.find_within.ensures (ap is_found c.in-At.is)
+    tried_here _ _ _ _ _ (begins-at) (size_is) c.find_within.ensures (ap is_found c.in_ok-find_within.was)

@@ -1,5 +1,5 @@
 use Rattle.store.proofs.Edits.{end_within, end_free, removed}
-use Rattle.store.specs.declared.Found.TheVariants.{At}
+use Rattle.std.specs.Prelude.{Some}
 use Rattle.store.proofs.PlaceLaws.{place_within, place_absent}
 use Rattle.store.proofs.StoreLaws.{without_absent}
 use Rattle.store.specs.Store.{place_of}
@@ -10,16 +10,16 @@ use Rattle.store.proofs.remove.Goals as goal
 
 pub resize_record-requires : goal.resize_record-requires
 resize_record-requires c =
-    let at-is : place_of c.args.nonvolatile c.args.s.now (variable c.args.namespace.now c.args.name.now) ≡ At c.in-At.at c.in-At.len = sym c.requires.2 ∙ c.in-At.is in
+    let at-is : place_of c.args.nonvolatile c.args.s.now (variable c.args.namespace.now c.args.name.now) ≡ Some c.in-Some.r = sym c.requires.2 ∙ c.in-Some.is in
     let e = c.requires.1 in
     let w = end_within c.args.nonvolatile c.args.s.now e in
-    (omega (arith, place_within _ _ _ _ _ (at-is)), w, omega arith, end_free c.args.nonvolatile c.args.s.now e c.requires.0)
+    (omega (arith, place_within _ _ _ _ (at-is)), w, omega arith, end_free c.args.nonvolatile c.args.s.now e c.requires.0)
 
-pub returns-in-At : goal.returns-in-At
-returns-in-At c =
-    let at-is : place_of c.args.nonvolatile c.args.s.now (variable c.args.namespace.now c.args.name.now) ≡ At c.in-At.at c.in-At.len = sym c.requires.2 ∙ c.in-At.is in
-    removed _ _ _ _ _ (at-is) c.requires.1 c.resize_record.ensures
+pub returns-in-Some : goal.returns-in-Some
+returns-in-Some c =
+    let at-is : place_of c.args.nonvolatile c.args.s.now (variable c.args.namespace.now c.args.name.now) ≡ Some c.in-Some.r = sym c.requires.2 ∙ c.in-Some.is in
+    removed _ _ _ _ (at-is) c.requires.1 c.resize_record.ensures
 
-pub returns-in-Absent : goal.returns-in-Absent
-returns-in-Absent c =
-    sym (without_absent c.args.nonvolatile c.args.s.now _ c.requires.0 (place_absent _ _ 0 (sym c.requires.2 ∙ c.in-Absent.is)))
+pub returns-in-None : goal.returns-in-None
+returns-in-None c =
+    sym (without_absent c.args.nonvolatile c.args.s.now _ c.requires.0 (place_absent _ _ 0 (sym c.requires.2 ∙ c.in-None.is)))

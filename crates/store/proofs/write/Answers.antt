@@ -1,5 +1,5 @@
 use Rattle.store.proofs.Edits.{end_within, end_free, fits_at_place, fits_behind, rewritten, created}
-use Rattle.store.specs.declared.Found.TheVariants.{At, Absent}
+use Rattle.std.specs.Prelude.{Some, None}
 use Rattle.store.proofs.PlaceLaws.{place_within}
 use Rattle.store.specs.Store.{place_of}
 use Rattle.store.specs.Parts.{variable}
@@ -26,11 +26,11 @@ resize_record-requires c =
     let Var : Variable = variable c.args.namespace.now c.args.name.now in
     let Rec : Bytes = encode_record c.args.attributes (Var) c.args.payload.now in
     let size_is : record_size (length c.args.name.now + 2) (length c.args.payload.now) ≡ length (Rec) = sym (length_encode c.args.attributes (Var) c.args.payload.now (named_namespace (Var) c.requires.3.called)) in
-    let at-is : place_of c.args.nonvolatile c.args.s.now (Var) ≡ At c.in-At.at c.in-At.len = sym c.requires.2 ∙ c.in-At.is in
+    let at-is : place_of c.args.nonvolatile c.args.s.now (Var) ≡ Some c.in-Some.r = sym c.requires.2 ∙ c.in-Some.is in
     let e = c.requires.1 in (
-      omega (arith, place_within _ _ _ _ _ (at-is)),
+      omega (arith, place_within _ _ _ _ (at-is)),
       end_within c.args.nonvolatile c.args.s.now e,
-      fits_at_place _ _ _ _ _ (at-is) (Rec) e (c.record_size.ensures ∙ size_is) c.requires.4,
+      fits_at_place _ _ _ _ (at-is) (Rec) e (c.record_size.ensures ∙ size_is) c.requires.4,
       end_free c.args.nonvolatile c.args.s.now e c.requires.0,
     )
 
@@ -40,30 +40,30 @@ put_record-requires c =
     let Rec : Bytes = encode_record c.args.attributes (Var) c.args.payload.now in
     let short : length c.args.name.now ≤ max_name_bytes = (is_name-length (Var).name (named_name (Var) c.requires.3.called)).1 in
     let size_is : record_size (length c.args.name.now + 2) (length c.args.payload.now) ≡ length (Rec) = sym (length_encode c.args.attributes (Var) c.args.payload.now (named_namespace (Var) c.requires.3.called)) in
-    let at-is : place_of c.args.nonvolatile c.args.s.now (Var) ≡ At c.in-At.at c.in-At.len = sym c.requires.2 ∙ c.in-At.is in
-    let z = fits_at_place _ _ _ _ _ (at-is) (Rec) c.requires.1 (size_is) c.requires.4 in
-    (named_namespace (Var) c.requires.3.called, short, c.requires.3.most, omega (arith, c.resize_record.auto.s, z, place_within _ _ _ _ _ (at-is), c.requires.1))
+    let at-is : place_of c.args.nonvolatile c.args.s.now (Var) ≡ Some c.in-Some.r = sym c.requires.2 ∙ c.in-Some.is in
+    let z = fits_at_place _ _ _ _ (at-is) (Rec) c.requires.1 (size_is) c.requires.4 in
+    (named_namespace (Var) c.requires.3.called, short, c.requires.3.most, omega (arith, c.resize_record.auto.s, z, place_within _ _ _ _ (at-is), c.requires.1))
 
-pub put_record-requires-in-Absent : goal.put_record-requires-in-Absent
-put_record-requires-in-Absent c =
+pub put_record-requires-in-None : goal.put_record-requires-in-None
+put_record-requires-in-None c =
     let Var : Variable = variable c.args.namespace.now c.args.name.now in
     let Rec : Bytes = encode_record c.args.attributes (Var) c.args.payload.now in
     let short : length c.args.name.now ≤ max_name_bytes = (is_name-length (Var).name (named_name (Var) c.requires.3.called)).1 in
     let size_is : record_size (length c.args.name.now + 2) (length c.args.payload.now) ≡ length (Rec) = sym (length_encode c.args.attributes (Var) c.args.payload.now (named_namespace (Var) c.requires.3.called)) in
-    let none_is : place_of c.args.nonvolatile c.args.s.now (Var) ≡ Absent = sym c.requires.2 ∙ c.in-Absent.is in
+    let none_is : place_of c.args.nonvolatile c.args.s.now (Var) ≡ None = sym c.requires.2 ∙ c.in-None.is in
     (named_namespace (Var) c.requires.3.called, short, c.requires.3.most, fits_behind _ _ _ (none_is) (Rec) c.requires.1 (size_is) c.requires.4)
 
-pub returns-in-At : goal.returns-in-At
-returns-in-At c =
+pub returns-in-Some : goal.returns-in-Some
+returns-in-Some c =
     let Var : Variable = variable c.args.namespace.now c.args.name.now in
     let Rec : Bytes = encode_record c.args.attributes (Var) c.args.payload.now in
     let size_is : record_size (length c.args.name.now + 2) (length c.args.payload.now) ≡ length (Rec) = sym (length_encode c.args.attributes (Var) c.args.payload.now (named_namespace (Var) c.requires.3.called)) in
-    let at-is : place_of c.args.nonvolatile c.args.s.now (Var) ≡ At c.in-At.at c.in-At.len = sym c.requires.2 ∙ c.in-At.is in
-    rewritten _ _ _ _ _ (at-is) (Rec) c.requires.1 (c.record_size.ensures ∙ size_is) c.requires.4 c.resize_record.ensures c.put_record.ensures
+    let at-is : place_of c.args.nonvolatile c.args.s.now (Var) ≡ Some c.in-Some.r = sym c.requires.2 ∙ c.in-Some.is in
+    rewritten _ _ _ _ (at-is) (Rec) c.requires.1 (c.record_size.ensures ∙ size_is) c.requires.4 c.resize_record.ensures c.put_record.ensures
 
-pub returns-in-Absent : goal.returns-in-Absent
-returns-in-Absent c =
+pub returns-in-None : goal.returns-in-None
+returns-in-None c =
     let Var : Variable = variable c.args.namespace.now c.args.name.now in
     let Rec : Bytes = encode_record c.args.attributes (Var) c.args.payload.now in
-    let none_is : place_of c.args.nonvolatile c.args.s.now (Var) ≡ Absent = sym c.requires.2 ∙ c.in-Absent.is in
-    created _ _ _ (none_is) (Rec) c.requires.0 c.requires.1 c.put_record-in-Absent.ensures
+    let none_is : place_of c.args.nonvolatile c.args.s.now (Var) ≡ None = sym c.requires.2 ∙ c.in-None.is in
+    created _ _ _ (none_is) (Rec) c.requires.0 c.requires.1 c.put_record-in-None.ensures

@@ -1,4 +1,4 @@
-use Rattle.stores.proofs.Both.{Ended, ends_at, repeated_in, long_first, long_second, repeated_first, repeated_second, check_sound, check_unsound}
+use Rattle.stores.proofs.Both.{Ended, ends_at, repeated_in, long_first, long_second, repeated_first, repeated_second, check_is}
 use Rattle.store.specs.Store.{records_of}
 use Rattle.slices.proofs.ChunksLaws.{nil}
 use Rattle.slices.specs.Chunks.{flat, chunks, chunks_from, used, distinct}
@@ -17,51 +17,44 @@ pub scan-requires : goal.scan-requires
 unfolding used chunks chunks_from flat distinct
 scan-requires c = (refl, refl, record { room = c.empty-t.ensures; marks = nil })
 
-pub returns-in_default : goal.returns-in_default
+pub returns-in_err-nv_end : goal.returns-in_err-nv_end
 unfolding chunks chunks_from
-returns-in_default c = repeated_first _ _ (repeated_in true _ _ (sym c.scan.ensures.answer ∙ c.in_default.is))
+returns-in_err-nv_end c = c.from_residual.ensures ∙ repeated_first _ _ (repeated_in true _ _ (sym c.in_err-nv_end.ensures.answer))
 
 pub scan-requires-2 : goal.scan-requires-2
 unfolding chunks chunks_from
 scan-requires-2 c =
-    let first : Ended true c.args.nv.now [] c.in-End.nv_end = ends_at true _ _ _ (sym c.scan.ensures.answer ∙ c.in-End.is) in
-    ((first).is, (first).free, c.scan.ensures.filter (first).free)
+    let first : Ended true c.args.nv.now [] c.in_ok-nv_end.nv_end = ends_at true _ _ _ (sym c.in_ok-nv_end.ensures.answer) in
+    (first.is, first.free, c.scan.ensures.filter first.free)
 
-pub returns-in_default-scan : goal.returns-in_default-scan
-returns-in_default-scan c = repeated_second _ _ (repeated_in false _ _ (sym c.scan-2.ensures.answer ∙ c.in_default-scan.is))
+pub returns-in_err-vol_end : goal.returns-in_err-vol_end
+returns-in_err-vol_end c = c.from_residual-in_err-vol_end.ensures ∙ repeated_second _ _ (repeated_in false _ _ (sym c.in_err-vol_end.ensures.answer))
 
 pub slice_bounds-all_are-count : goal.slice_bounds-all_are-count
 unfolding chunks chunks_from
 slice_bounds-all_are-count c =
-    let first : Ended true c.args.nv.now [] c.in-End.nv_end = ends_at true _ _ _ (sym c.scan.ensures.answer ∙ c.in-End.is) in
-    (first).within
+    let first : Ended true c.args.nv.now [] c.in_ok-nv_end.nv_end = ends_at true _ _ _ (sym c.in_ok-nv_end.ensures.answer) in
+    first.within
 
 pub slice_bounds-all_are-start : goal.slice_bounds-all_are-start
 unfolding chunks chunks_from
 slice_bounds-all_are-start c =
-    let first : Ended true c.args.nv.now [] c.in-End.nv_end = ends_at true _ _ _ (sym c.scan.ensures.answer ∙ c.in-End.is) in
-    (first).within
+    let first : Ended true c.args.nv.now [] c.in_ok-nv_end.nv_end = ends_at true _ _ _ (sym c.in_ok-nv_end.ensures.answer) in
+    first.within
 
 pub slice_bounds-all_are-count-2 : goal.slice_bounds-all_are-count-2
 slice_bounds-all_are-count-2 c =
-    let second : Ended false c.args.vol.now (records_of true c.args.nv.now) c.in-End-scan.vol_end = ends_at false _ _ _ (sym c.scan-2.ensures.answer ∙ c.in-End-scan.is) in
-    (second).within
+    let second : Ended false c.args.vol.now (records_of true c.args.nv.now) c.in_ok-vol_end.vol_end = ends_at false _ _ _ (sym c.in_ok-vol_end.ensures.answer) in
+    second.within
 
 pub slice_bounds-all_are-start-2 : goal.slice_bounds-all_are-start-2
 slice_bounds-all_are-start-2 c =
-    let second : Ended false c.args.vol.now (records_of true c.args.nv.now) c.in-End-scan.vol_end = ends_at false _ _ _ (sym c.scan-2.ensures.answer ∙ c.in-End-scan.is) in
-    (second).within
+    let second : Ended false c.args.vol.now (records_of true c.args.nv.now) c.in_ok-vol_end.vol_end = ends_at false _ _ _ (sym c.in_ok-vol_end.ensures.answer) in
+    second.within
 
-pub returns-then-all_are : goal.returns-then-all_are
+pub returns : goal.returns
 unfolding chunks chunks_from
-returns-then-all_are c =
-    let first : Ended true c.args.nv.now [] c.in-End.nv_end = ends_at true _ _ _ (sym c.scan.ensures.answer ∙ c.in-End.is) in
-    let second : Ended false c.args.vol.now (records_of true c.args.nv.now) c.in-End-scan.vol_end = ends_at false _ _ _ (sym c.scan-2.ensures.answer ∙ c.in-End-scan.is) in
-    check_sound _ _ c.if-nv-gt-MAX_STORE.false c.if-vol-gt-MAX_STORE.false (first).is (second) c.all_are.ensures c.all_are-2.ensures c.if-all_are.true
-
-pub returns-else-all_are : goal.returns-else-all_are
-unfolding chunks chunks_from
-returns-else-all_are c =
-    let first : Ended true c.args.nv.now [] c.in-End.nv_end = ends_at true _ _ _ (sym c.scan.ensures.answer ∙ c.in-End.is) in
-    let second : Ended false c.args.vol.now (records_of true c.args.nv.now) c.in-End-scan.vol_end = ends_at false _ _ _ (sym c.scan-2.ensures.answer ∙ c.in-End-scan.is) in
-    check_unsound _ _ c.if-nv-gt-MAX_STORE.false c.if-vol-gt-MAX_STORE.false (first).is (second) c.all_are.ensures c.all_are-2.ensures c.if-all_are.false
+returns c =
+    let first : Ended true c.args.nv.now [] c.in_ok-nv_end.nv_end = ends_at true _ _ _ (sym c.in_ok-nv_end.ensures.answer) in
+    let second : Ended false c.args.vol.now (records_of true c.args.nv.now) c.in_ok-vol_end.vol_end = ends_at false _ _ _ (sym c.in_ok-vol_end.ensures.answer) in
+    c.then_some.ensures ∙ check_is _ _ c.if-nv-gt-MAX_STORE.false c.if-vol-gt-MAX_STORE.false first.is second c.all_are.ensures c.all_are-2.ensures

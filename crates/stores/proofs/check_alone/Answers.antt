@@ -20,17 +20,17 @@ returns-in_default c = repeated_alone _ (repeated_in true _ _ (sym c.scan.ensure
 pub slice_bounds-all_are-count : goal.slice_bounds-all_are-count
 unfolding chunks chunks_from
 slice_bounds-all_are-count c =
-    let first : Ended true c.args.nv.now [] c.in-End.end = ends_at true _ _ _ (sym c.scan.ensures.answer ∙ c.in-End.is) in
+    let first : Ended true c.args.nv.now [] c.in-Some.end = ends_at true _ _ _ (sym c.scan.ensures.answer ∙ c.in-Some.is) in
     (first).within
 
 pub slice_bounds-all_are-start : goal.slice_bounds-all_are-start
 unfolding chunks chunks_from
 slice_bounds-all_are-start c =
-    let first : Ended true c.args.nv.now [] c.in-End.end = ends_at true _ _ _ (sym c.scan.ensures.answer ∙ c.in-End.is) in
+    let first : Ended true c.args.nv.now [] c.in-Some.end = ends_at true _ _ _ (sym c.scan.ensures.answer ∙ c.in-Some.is) in
     (first).within
 
 pub returns : goal.returns
 unfolding chunks chunks_from
 returns c =
-    let first : Ended true c.args.nv.now [] c.in-End.end = ends_at true _ _ _ (sym c.scan.ensures.answer ∙ c.in-End.is) in
+    let first : Ended true c.args.nv.now [] c.in-Some.end = ends_at true _ _ _ (sym c.scan.ensures.answer ∙ c.in-Some.is) in
     check_alone _ c.if-nv-gt-MAX_STORE.false (first) c.all_are.ensures

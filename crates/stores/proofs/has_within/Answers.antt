@@ -4,4 +4,4 @@ use mathlib.Core.Path.{sym, ap, ◌∙◌}
 use Rattle.stores.proofs.has_within.Goals as goal
 
 pub returns : goal.returns
-returns c = c.is_found.ensures ∙ ap is_found c.find_within.ensures ∙ sym (contains_place _ _ _)
+returns c = c.is_some.ensures ∙ ap is_found c.find_within.ensures ∙ sym (contains_place _ _ _)
