@@ -68,6 +68,7 @@ pub fn get32(s: &[u8], at: usize) -> usize
     u32::from_le_bytes([s[at], s[at + 1], s[at + 2], s[at + 3]]) as usize
 }
 
+// By two numbers of four bytes, which the compiler makes one load: `from_le_bytes` with its array of eight bytes written out is no plainer.
 pub fn get64(s: &[u8], at: usize) -> usize
     requires { at + 8 ≤ length s.now }
     ensures { result ≡ le64 s.now at }
@@ -171,12 +172,12 @@ pub fn move_down(s: &mut [u8], from: usize, to: usize, n: usize)
     requires { (to ≤ from) × (from + n ≤ length s.old) }
     ensures { s.new ≡ overwrite s.old to (take n (drop from s.old)) }
 {
-    let mut i = 0;
-    while 128 <= n - i {
-        move_block(s, from + i, to + i, 128);
-        i += 128;
+    let whole = n / 128;
+    for k in 0..whole {
+        move_block(s, from + 128 * k, to + 128 * k, 128);
     }
-    move_block(s, from + i, to + i, n - i);
+    let done = 128 * whole;
+    move_block(s, from + done, to + done, n - done);
 }
 
 // Moves n bytes from index from up to index to, the last ones first.
@@ -185,10 +186,10 @@ pub fn move_up(s: &mut [u8], from: usize, to: usize, n: usize)
     requires { (from ≤ to) × (to + n ≤ length s.old) }
     ensures { s.new ≡ overwrite s.old to (take n (drop from s.old)) }
 {
-    let mut i = n;
-    while 128 <= i {
-        i -= 128;
-        move_block(s, from + i, to + i, 128);
+    let first = n % 128;
+    for k in (0..n / 128).rev() {
+        let at = first + 128 * k;
+        move_block(s, from + at, to + at, 128);
     }
-    move_block(s, from, to, i);
+    move_block(s, from, to, first);
 }

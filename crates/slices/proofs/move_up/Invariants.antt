@@ -1,11 +1,8 @@
 use mathlib.Core.Path.{◌≡◌}
-use Prim.Native.Nat.{◌≤◌}
+use Prim.Native.Nat.{◌+◌, ◌*◌}
 use lib.ListN.{length, take, drop}
 use Rattle.slices.specs.Bytes.{overwrite}
 use Rattle.slices.proofs.move_up.Given as goal
 
-abbrev pub invariant-loop-i : goal.invariant-loop-i
-invariant-loop-i l = (l.i ≤ l.n) × (overwrite l.s l.to (take l.i (drop l.from l.s)) ≡ overwrite l.initial.s l.to (take l.n (drop l.from l.initial.s))) × (length l.s ≡ length l.initial.s)
-
-abbrev pub decreases-loop-i : goal.decreases-loop-i
-decreases-loop-i l = l.i
+abbrev pub invariant-loop-k : goal.invariant-loop-k
+invariant-loop-k l = (overwrite l.s l.to (take (l.first + 128 * l.k) (drop l.from l.s)) ≡ overwrite l.initial.s l.to (take l.n (drop l.from l.initial.s))) × (length l.s ≡ length l.initial.s)
