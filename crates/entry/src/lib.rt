@@ -83,13 +83,7 @@ fn name_ok(e: &[u8], offset: usize) -> bool
     requires { offset ≡ offset_to_name e.now }
     ensures { result ≡ name_ok e.now }
 {
-    if e.len() < offset {
-        return false;
-    }
-    if offset == e.len() {
-        return true;
-    }
-    names::is_terminated(&e[offset..])
+    offset <= e.len() && (offset == e.len() || names::is_terminated(&e[offset..]))
 }
 
 // Whether the bytes are a well-formed entry.
@@ -100,10 +94,7 @@ pub fn well_formed(e: &[u8]) -> bool
         return false;
     }
     let offset = slices::get16(e, limits::OFFSET_TO_NAME_AT);
-    if !lock_ok(e, offset) {
-        return false;
-    }
-    name_ok(e, offset)
+    lock_ok(e, offset) && name_ok(e, offset)
 }
 
 // The lock rule of a well-formed entry.
@@ -111,22 +102,17 @@ pub fn lock_of(e: &[u8]) -> LockRule
     requires { well_formed e.now ≡ true }
     ensures { result ≡ lock_of e.now }
 {
-    let kind = slices::byte(e, limits::LOCK_TYPE_AT);
-    if kind == 0 {
-        return LockRule::NoLock;
+    match slices::byte(e, limits::LOCK_TYPE_AT) {
+        0 => LockRule::NoLock,
+        1 => LockRule::LockNow,
+        2 => LockRule::LockOnCreate,
+        _ => LockRule::LockOnVarState(Trigger {
+            value: slices::byte(e, limits::TRIGGER_VALUE_AT),
+            namespace: limits::TRIGGER_NAMESPACE_AT,
+            name: limits::TRIGGER_NAME_AT,
+            name_end: slices::le16(e, limits::OFFSET_TO_NAME_AT) as usize - 2,
+        }),
     }
-    if kind == 1 {
-        return LockRule::LockNow;
-    }
-    if kind == 2 {
-        return LockRule::LockOnCreate;
-    }
-    LockRule::LockOnVarState(Trigger {
-        value: slices::byte(e, limits::TRIGGER_VALUE_AT),
-        namespace: limits::TRIGGER_NAMESPACE_AT,
-        name: limits::TRIGGER_NAME_AT,
-        name_end: slices::le16(e, limits::OFFSET_TO_NAME_AT) as usize - 2,
-    })
 }
 
 // The fields of a well-formed entry.

@@ -15,12 +15,12 @@ pub get16-offset-requires : goal.get16-offset-requires
 get16-offset-requires c =
     omega (arith, header_least c.args.e.now (sym c.header_ok.ensures ∙ c.if-not-header_ok.false))
 
-pub returns-then-not-lock_ok : goal.returns-then-not-lock_ok
+pub returns-then-lock_ok : goal.returns-then-lock_ok
 unfolding well_formed
-returns-then-not-lock_ok c =
-    first_holds _ refl c.header_ok.ensures (ap not c.if-not-header_ok.false) (first_fails _ refl c.lock_ok.ensures (ap not c.if-not-lock_ok.true))
+returns-then-lock_ok c =
+    first_holds _ refl c.header_ok.ensures (ap not c.if-not-header_ok.false) (first_holds _ refl c.lock_ok.ensures (ap not c.if-lock_ok.true) c.name_ok.ensures)
 
-pub returns : goal.returns
+pub returns-else-lock_ok : goal.returns-else-lock_ok
 unfolding well_formed
-returns c =
-    first_holds _ refl c.header_ok.ensures (ap not c.if-not-header_ok.false) (first_holds _ refl c.lock_ok.ensures (ap not c.if-not-lock_ok.false) c.name_ok.ensures)
+returns-else-lock_ok c =
+    c.if-lock_ok.false ∙ first_holds _ refl c.header_ok.ensures (ap not c.if-not-header_ok.false) (first_fails _ refl c.lock_ok.ensures (ap not c.if-lock_ok.false))
