@@ -10,7 +10,7 @@ ghost use Rattle.stores.specs.Place.{Within};
 ghost use Rattle.status.specs.Status.{is_success};
 ghost use Rattle.status.specs.declared.Status.TheVariants.{Success, VolumeCorrupted};
 ghost use Rattle.switches.specs.declared.Switches.{Switches};
-ghost use Rattle.switches.specs.Switches.{fresh_switches, refused_switches};
+ghost use Rattle.switches.specs.Switches.{fresh_switches};
 ghost use Rattle.rules.specs.Set.{request_of};
 ghost use Rattle.rules.specs.Report.{no_report};
 ghost use Rattle.rules.specs.Engine.{state_of, step, only_status, hand_back, with_report};
@@ -61,35 +61,29 @@ pub struct SettledAnswer {
     pub settled: bool,
 }
 
-// What a refused power-on or restart answers.
-fn refused_start() -> SwitchAnswer
-    ensures { result ≡ record { status = VolumeCorrupted; switches = refused_switches } }
-{
-    let switches = Switches {
+// What a refused power-on or restart answers: an engine that neither registers nor can be disabled.
+const REFUSED_START: SwitchAnswer = SwitchAnswer {
+    status: Status::VolumeCorrupted,
+    switches: Switches {
         enabled: true,
         locked: true,
         disabling_allowed: false,
         exited: false,
-    };
-    SwitchAnswer {
-        status: Status::VolumeCorrupted,
-        switches,
-    }
-}
+    },
+};
 
 // What a power-on or restart that is done answers.
 fn fresh_start(disabling_allowed: bool) -> SwitchAnswer
     ensures { result ≡ record { status = Success; switches = fresh_switches disabling_allowed } }
 {
-    let switches = Switches {
-        enabled: true,
-        locked: false,
-        disabling_allowed,
-        exited: false,
-    };
     SwitchAnswer {
         status: Status::Success,
-        switches,
+        switches: Switches {
+            enabled: true,
+            locked: false,
+            disabling_allowed,
+            exited: false,
+        },
     }
 }
 
@@ -109,14 +103,14 @@ pub fn power_on(
         ) }
 {
     if !stores::check_alone(nv) {
-        return refused_start();
+        return REFUSED_START;
     }
     let length = vol.len();
     if limits::MAX_STORE < length {
-        return refused_start();
+        return REFUSED_START;
     }
     if policy.len() != limits::POLICY_BYTES {
-        return refused_start();
+        return REFUSED_START;
     }
     slices::fill(vol, 0, length, 255);
     policy::clear(policy);
@@ -133,10 +127,10 @@ pub fn restart(nv: &[u8], vol: &[u8], policy: &mut [u8], disabling_allowed: bool
         ) }
 {
     let Some(_) = stores::check(nv, vol) else {
-        return refused_start();
+        return REFUSED_START;
     };
     if policy.len() != limits::POLICY_BYTES {
-        return refused_start();
+        return REFUSED_START;
     }
     policy::clear(policy);
     fresh_start(disabling_allowed)

@@ -168,7 +168,7 @@ pub fn exit_flag(
     )
 }
 
-// Creates "EOD": the end of DXE came.
+// Creates "EOD": the end of DXE came. This and the next are thin: what they share is exit_flag, and only the name differs.
 pub fn end_of_dxe(
     nv: &mut [u8],
     vol: &mut [u8],

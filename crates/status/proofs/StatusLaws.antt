@@ -1,5 +1,5 @@
 -- Laws of the statuses. Assumes nothing.
-use Rattle.std.specs.Prelude.{◌≡◌, refl, Bool, true, not, eqb}
+use Rattle.std.specs.Prelude.{◌≡◌, refl, Bool, true, false, not, eqb}
 use Rattle.std.proofs.Common.{sym, ap, ◌∙◌}
 use Rattle.std.proofs.lemmas.Bool.{false≢true}
 use denote.Enum.Bare.{sameb}
@@ -32,17 +32,22 @@ zero_success VolumeCorrupted = refl
 zero_success NotFound = refl
 zero_success AlreadyStarted = refl
 
--- the code's != between a status and success
-differs : (n : Status) → not (not (sameb the_type n Success)) ≡ is_success n
-differs Success = refl
-differs InvalidParameter = refl
-differs Unsupported = refl
-differs BufferTooSmall = refl
-differs WriteProtected = refl
-differs OutOfResources = refl
-differs VolumeCorrupted = refl
-differs NotFound = refl
-differs AlreadyStarted = refl
+-- the code's == with success
+pub equals_success : (n : Status) → sameb the_type n Success ≡ is_success n
+equals_success Success = refl
+equals_success InvalidParameter = refl
+equals_success Unsupported = refl
+equals_success BufferTooSmall = refl
+equals_success WriteProtected = refl
+equals_success OutOfResources = refl
+equals_success VolumeCorrupted = refl
+equals_success NotFound = refl
+equals_success AlreadyStarted = refl
 
+-- and its !=
 pub differs_success : (n : Status) {b : Bool} → b ≡ not (sameb the_type n Success) → is_success n ≡ not b
-differs_success n e = sym (differs n) ∙ ap not (sym e)
+differs_success n {b} e = go (sameb the_type n Success) (equals_success n) e
+  where
+    go : (x : Bool) → x ≡ is_success n → b ≡ not x → is_success n ≡ not b
+    go true q h = sym q ∙ ap not (sym h)
+    go false q h = sym q ∙ ap not (sym h)

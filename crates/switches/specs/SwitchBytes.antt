@@ -1,6 +1,7 @@
 -- The switches as a caller keeps and lends them: a byte each, and what each of its 256 values says.
 -- Assumes nothing: these are definitions.
-use Rattle.std.specs.Prelude.{ℕ, Bool, not, cond, eqb}
+use Rattle.std.specs.Prelude.{ℕ, Bool, not, cond, eqb, Option, None, Some}
+use Rattle.std.specs.Bool.{then_some}
 use Rattle.status.specs.declared.Status.{Status}
 use Rattle.status.specs.Status.{status_number, is_success}
 use Rattle.switches.specs.declared.Switches.{Switches}
@@ -48,9 +49,9 @@ disabled_bytes b = record { enabled = 0; locked = b.locked; disabling_allowed = 
 abbrev pub exited_bytes : SwitchBytes → SwitchBytes
 exited_bytes b = record { enabled = b.enabled; locked = b.locked; disabling_allowed = b.disabling_allowed; exited = 1 }
 
--- a call on lent bytes: whether it is granted, the number of its status, and the bytes to be written if it is
+-- a call on lent bytes: the number of its status, and the bytes to be written if it is granted
 abbrev pub bytes_answer : Status → SwitchBytes → BytesAnswer
-bytes_answer n new = record { granted = is_success n; status = status_number n; switches = new }
+bytes_answer n new = record { status = status_number n; written = then_some (is_success n) new }
 
 abbrev pub lock_bytes : SwitchBytes → BytesAnswer
 lock_bytes b = bytes_answer (lock_status (switches_of b)) (locked_bytes b)
@@ -62,5 +63,9 @@ abbrev pub exit_bytes : SwitchBytes → BytesAnswer
 exit_bytes b = bytes_answer (exit_status (switches_of b)) (exited_bytes b)
 
 -- the bytes that a call leaves: the new ones if it is granted, and else the old
+abbrev pub written_over : Option SwitchBytes → SwitchBytes → SwitchBytes
+written_over None old = old
+written_over (Some new) old = new
+
 abbrev pub left_by : BytesAnswer → SwitchBytes → SwitchBytes
-left_by a old = cond a.granted a.switches old
+left_by a old = written_over a.written old

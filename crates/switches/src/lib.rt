@@ -103,12 +103,11 @@ pub struct SwitchBytes {
     pub exited: u8,
 }
 
-// What a call on lent bytes answers: whether it is granted, the number of its status, and the bytes to be written if it is.
+// What a call on lent bytes answers: the number of its status, and the bytes to be written if it is granted.
 #[derive(Clone, Copy)]
 pub struct BytesAnswer {
-    pub granted: bool,
     pub status: u32,
-    pub switches: SwitchBytes,
+    pub written: Option<SwitchBytes>,
 }
 
 // Whether a byte gives leave to disable: 1 does, and no other.
@@ -175,8 +174,7 @@ pub fn bytes_answer(status: Status, new: SwitchBytes) -> BytesAnswer
     ensures { result ≡ bytes_answer status new }
 {
     BytesAnswer {
-        granted: status == Status::Success,
         status: u32::from(status),
-        switches: new,
+        written: (status == Status::Success).then_some(new),
     }
 }

@@ -15,7 +15,7 @@ use Rattle.switches.specs.declared.SwitchBytes.{SwitchBytes}
 use Rattle.switches.specs.declared.BytesAnswer.{BytesAnswer}
 use Rattle.status.specs.Status.{status_number, is_success}
 use Rattle.switches.specs.SwitchBytes.{switches_of, bytes_answer, left_by}
-use Rattle.switches.proofs.SwitchBytesLaws.{left_at_zero}
+use Rattle.switches.proofs.SwitchBytesLaws.{left_at_zero, left_granted}
 use Rattle.rules.specs.Engine.{Call, state_of, only_status, step}
 use Rattle.varpolicy.specs.Exports.{numbered, status_alone}
 
@@ -45,5 +45,5 @@ module _ (call : Call) (f : Switches → SwitchAnswer) (new : SwitchBytes → Sw
   leaves left b {n} {u} {w} a e k m h =
       let same : a.status ≡ (f (switches_of b)).status = ap (λ x. x.0.status) (sym (e [] [] []) ∙ known (switches_of b) [] [] []) in
       let number : n ≡ (by_f b).status = m ∙ ap status_number same in
-      let written : u ≡ left_by (by_f b) b = h ∙ ap₂ (λ s x. cond (is_success s) x b) same k in
+      let written : u ≡ left_by (by_f b) b = h ∙ ap₂ (λ s x. cond (is_success s) x b) same k ∙ sym (left_granted (is_success (f (switches_of b)).status) (new b) b) in
       subst⁻¹ (λ (o : ℕ). Does call new b o u) number (subst⁻¹ (λ (v : SwitchBytes). Does call new b (by_f b).status v) written (does left b))

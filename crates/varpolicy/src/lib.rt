@@ -282,8 +282,8 @@ fn on_switches<C: FnOnce(Switches) -> SwitchAnswer, N: FnOnce(SwitchBytes) -> Sw
 {
     let answer = call(Switches::from(*switches));
     let told = bytes_answer(answer.status, new(*switches));
-    if told.granted {
-        *switches = told.switches;
+    if let Some(written) = told.written {
+        *switches = written;
     }
     told.status
 }
