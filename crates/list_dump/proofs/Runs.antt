@@ -1,5 +1,5 @@
 -- The lines of entries that arrive in pieces are those of the entries read at once. Assumes nothing.
-use Rattle.std.specs.Prelude.{ℕ, ◌+◌, ◌≤◌, ◌<◌, ◌≡◌, refl, Option, Some, None, List, [], ◌∷◌, ◌++◌, map, true, length, take, Result, Ok, Err, MatchResult, OnOk, IfErr, IsErrAnd, IfSome}
+use Rattle.std.specs.Prelude.{ℕ, ◌+◌, ◌≤◌, ◌<◌, ◌≡◌, refl, Option, Some, None, List, [], ◌∷◌, ◌++◌, map, Bool, true, false, not, length, take, Result, Ok, Err, MatchResult, OnOk, IfErr, IsErrAnd, IfSome}
 use Rattle.std.proofs.Common.{sym, ap, ◌∙◌, arith, append_assoc, append-nil, length-append, drop_at, inl, inr, subst, length-take-le, le-leb}
 use Rattle.std.proofs.Math.Seq.{drop-length}
 use Rattle.std.specs.Io.{ReadsAtMost}
@@ -22,8 +22,6 @@ use Rattle.reader.specs.Pieces.{HandsOut, end, next}
 use Rattle.reader.specs.HasRead.{HasRead}
 use Rattle.reader.proofs.HasReadLaws.{fresh_read, fed_read, read_verdict, read_listing}
 use Rattle.list_dump.specs.Lines.{entry_line, closing_line}
-use Rattle.list_dump.specs.declared.Turn.{Turn}
-use Rattle.list_dump.specs.declared.Turn.TheVariants.{More, End}
 use Rattle.list_dump.specs.Runs.{listing_lines, entry_lines, dump_lines, Took, IsDone, AfterTurn, OnInput}
 use Rattle.list_dump.specs.declared.Failure.{Failure}
 use Rattle.list_dump.specs.declared.Failure.TheVariants.{Input, Output}
@@ -192,13 +190,18 @@ piece_took {r} {s} {d} {v} b n x y a c h e z l m k f w =
 pub took_start : {r d : Bytes} (x c : Option Bytes) → HasRead r d → Took d [] x x c c r × (0 ≤ length {A = ℕ} [])
 took_start x c h = (took_none x x c h (consumes_none x), omega arith)
 
-pub took_end : {d p q r s : Bytes} {t : Turn} (x y z a b c : Option Bytes) → Took d p x y a b r → Took (d ++ p) q y z b c s → AfterTurn t (d ++ p) q z → t ≡ End
+-- what the answer of a turn says, where e is whether the reading has ended
+pub after_turn : (d p : Bytes) (input : Option Bytes) (e : Bool) → 0 < length p → (e ≡ true → ended (d ++ p) ≡ true) → AfterTurn (not e) d p input
+after_turn d p input true h f = inr (f refl)
+after_turn d p input false h f = h
+
+pub took_end : {d p q r s : Bytes} {t : Bool} (x y z a b c : Option Bytes) → Took d p x y a b r → Took (d ++ p) q y z b c s → AfterTurn t (d ++ p) q z → t ≡ false
     → Took d (p ++ q) x z a c s × IsDone (d ++ (p ++ q)) z
 took_end {d} {p} {q} x y z a b c i j k e =
     let f : IsDone (d ++ p ++ q) z = rw e at k in
     (took_more x y z a b c i j, rw (append_assoc d p q) at f)
 
-pub took_on : {d p q r s : Bytes} {t : Turn} (x y z a b c : Option Bytes) (n : ℕ) → Took d p x y a b r → n ≤ length p → Took (d ++ p) q y z b c s → AfterTurn t (d ++ p) q z → t ≡ More
+pub took_on : {d p q r s : Bytes} {t : Bool} (x y z a b c : Option Bytes) (n : ℕ) → Took d p x y a b r → n ≤ length p → Took (d ++ p) q y z b c s → AfterTurn t (d ++ p) q z → t ≡ true
     → Took d (p ++ q) x z a c s × (n + 1 ≤ length (p ++ q))
 took_on {d} {p} {q} x y z a b c n i l j k e =
     let f : 0 < length q = rw e at k in

@@ -1,5 +1,5 @@
 -- What the program writes of a dump, whatever the pieces in which it is read. Assumes nothing: these are definitions.
-use Rattle.std.specs.Prelude.{ℕ, ◌+◌, ◌≡◌, ◌<◌, Option, List, [], ◌∷◌, ◌++◌, map, true, length, ◌⊎◌, ⊤}
+use Rattle.std.specs.Prelude.{ℕ, ◌+◌, ◌≡◌, ◌<◌, Option, List, [], ◌∷◌, ◌++◌, map, Bool, true, false, length, ◌⊎◌, ⊤}
 use Rattle.std.specs.Io.KnownBytes.{Appends, Consumes, IsAtEnd}
 use Rattle.slices.specs.Bytes.{Bytes}
 use Rattle.reader.specs.declared.Listing.{Listing}
@@ -8,8 +8,6 @@ use Rattle.reader.specs.HasRead.{HasRead}
 use Rattle.list_dump.specs.Lines.{entry_line, closing_line}
 use Rattle.list_dump.specs.declared.Failure.{Failure}
 use Rattle.list_dump.specs.declared.Failure.TheVariants.{Input, Output}
-use Rattle.list_dump.specs.declared.Turn.{Turn}
-use Rattle.list_dump.specs.declared.Turn.TheVariants.{More, End}
 
 -- a line for each entry that is told, of which the first has the place i in the dump
 unfoldable pub listing_lines : ℕ → List Listing → Bytes
@@ -38,9 +36,9 @@ abbrev pub IsDone : Bytes → Option Bytes → Type 0
 IsDone d input = IsAtEnd input ⊎ (ended d ≡ true)
 
 -- what a turn tells: more is to be read behind a piece that has a byte, or the reading is done
-abbrev pub AfterTurn : Turn → Bytes → Bytes → Option Bytes → Type 0
-AfterTurn More d p input = 0 < length p
-AfterTurn End d p input = IsDone (d ++ p) input
+abbrev pub AfterTurn : Bool → Bytes → Bytes → Option Bytes → Type 0
+AfterTurn true d p input = 0 < length p
+AfterTurn false d p input = IsDone (d ++ p) input
 
 -- what holds where a read failed; of a write that failed nothing is known
 abbrev pub OnInput : Failure → Type 0 → Type 0

@@ -161,35 +161,27 @@ fn list_entries<W: Write>(
     Ok(())
 }
 
-enum Turn {
-    More,
-    End,
-}
-
-// Reads once, feeds what came, and writes the lines of the entries that are good since.
+// Reads once, feeds what came, and writes the lines of the entries that are good since. Answers whether more is to be read.
 fn read_piece<R: Read, W: Write>(
     input: &mut R,
     output: &mut W,
     reader: &mut [u8; READER_BYTES],
     buffer: &mut [u8],
-) -> Result<Turn, Failure>
-    ensures ok { IfOk result (λ turn. (d : Bytes) → HasRead reader.old d → 0 < length buffer.old → length buffer.old ≤ max_piece
+) -> Result<bool, Failure>
+    ensures ok { IfOk result (λ more. (d : Bytes) → HasRead reader.old d → 0 < length buffer.old → length buffer.old ≤ max_piece
         → (p : Bytes) × Took d p (R.remaining input.old) (R.remaining input.new) (W.contents output.old) (W.contents output.new) reader.new
-        × AfterTurn turn d p (R.remaining input.new)) }
+        × AfterTurn more d p (R.remaining input.new)) }
     ensures unread { IfErr result (λ failure. OnInput failure ((d : Bytes) → HasRead reader.old d
         → Took d [] (R.remaining input.old) (R.remaining input.new) (W.contents output.old) (W.contents output.new) reader.new)) }
 {
     let n = input.read(buffer).map_err(Failure::Input)?;
     if n == 0 {
-        return Ok(Turn::End);
+        return Ok(false);
     }
     let before = reader::verdict_of(reader);
     reader::feed(reader, &buffer[..n]);
     list_entries(output, reader, before.entries, before.bytes).map_err(Failure::Output)?;
-    if reader::verdict_of(reader).ended {
-        return Ok(Turn::End);
-    }
-    Ok(Turn::More)
+    Ok(!reader::verdict_of(reader).ended)
 }
 
 // Reads to the end, or to a bad entry. Each piece has a byte, and a dump with more than POLICY_BYTES is bad: there are no more turns than that.
@@ -206,11 +198,9 @@ fn read_all<R: Read, W: Write>(
 {
     let mut buffer = [0u8; PIECE];
     for _ in 0..limits::POLICY_BYTES + 1 {
-        match read_piece(input, output, reader, &mut buffer)? {
-            Turn::More => {}
-            Turn::End => {
-                return Ok(());
-            }
+        let more = read_piece(input, output, reader, &mut buffer)?;
+        if !more {
+            return Ok(());
         }
     }
     Ok(())

@@ -172,9 +172,7 @@ fn link(
     ensures noted { Noted literal_mask_of (entries_of dump.now) masks.new 0 × Noted literals_of (entries_of dump.now) shown.new 0 }
 {
     let mut heads = no_heads();
-    let mut i = count;
-    while 0 < i {
-        i -= 1;
+    for i in (0..count).rev() {
         let e = policy::entry_at(dump, ends, i);
         let group = group_of(e);
         if group < GROUPS {
@@ -226,7 +224,7 @@ fn quarrel_at(
 }
 
 // The first place of a chain, from one on, where the first units agree with those of an entry in all that both spell out: `own` and `mask` were noted of it. At the
-// end of the chain no bit counts.
+// end of the chain no bit counts. (A `while`: the loop follows links, and no range or slice has its places.)
 fn candidate(
     next: &[u32; ENTRIES],
     masks: &[usize; NOTES],
@@ -261,8 +259,7 @@ fn first_pair(
         × Chains (group_at (entries_of dump.now)) (length (entries_of dump.now)) next.now 0 × Others (entries_of dump.now) first.now 0 }
     ensures { result ≡ pair_of (entries_of dump.now) }
 {
-    let mut i = 0;
-    while i < count {
+    for i in 0..count {
         let own = shown[i];
         let mask = masks[i];
         let mut j = place(first[i]);
@@ -275,7 +272,6 @@ fn first_pair(
             }
             j = candidate(next, masks, shown, place(next[j]), own, mask);
         }
-        i += 1;
     }
     None
 }

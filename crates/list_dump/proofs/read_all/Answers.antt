@@ -9,11 +9,11 @@ use Rattle.list_dump.proofs.read_all.Goals as goal
 pub loop-init : goal.loop-init
 loop-init g c = (refl, λ d h. let i = took_start _ _ h in ([], i.0, i.1))
 
-pub returns-in-End-clause-ok : goal.returns-in-End-clause-ok
-returns-in-End-clause-ok g c d h =
+pub returns-then-not-more-clause-ok : goal.returns-then-not-more-clause-ok
+returns-then-not-more-clause-ok g c d h =
     let i = c.loop.invariant.1 d h in
-    let j = c.in_ok-read_piece.ensures.ok (d ++ i.0) i.1.reads (omega (arith, c.loop.invariant.0)) (omega (arith, c.loop.invariant.0)) in
-    let k = took_end _ _ _ _ _ _ i.1 j.1 j.2 c.in-End.is in
+    let j = c.in_ok-more.ensures.ok (d ++ i.0) i.1.reads (omega (arith, c.loop.invariant.0)) (omega (arith, c.loop.invariant.0)) in
+    let k = took_end _ _ _ _ _ _ i.1 j.1 j.2 c.if-not-more.true in
     (i.0 ++ j.0, k.0, k.1)
 
 pub loop-preserved : goal.loop-preserved
@@ -21,8 +21,8 @@ loop-preserved g c = (
   omega (arith, c.loop.invariant.0, c.read_piece.auto.buffer),
   λ d h.
       let i = c.loop.invariant.1 d h in
-      let j = c.in_ok-read_piece.ensures.ok (d ++ i.0) i.1.reads (omega (arith, c.loop.invariant.0)) (omega (arith, c.loop.invariant.0)) in
-      let k = took_on _ _ _ _ _ _ c.loop.counter i.1 i.2 j.1 j.2 c.in-More.is in
+      let j = c.in_ok-more.ensures.ok (d ++ i.0) i.1.reads (omega (arith, c.loop.invariant.0)) (omega (arith, c.loop.invariant.0)) in
+      let k = took_on _ _ _ _ _ _ c.loop.counter i.1 i.2 j.1 j.2 c.if-not-more.false in
       (i.0 ++ j.0, k.0, k.1),
 )
 
@@ -31,11 +31,11 @@ returns-clause-ok g c d h =
     let i = c.loop.invariant.1 d h in
     (i.0, i.1, done_past d i.0 _ (omega (arith, c.loop-test.false, i.2)))
 
-pub returns-in_err-read_piece-clause-unread : goal.returns-in_err-read_piece-clause-unread
-returns-in_err-read_piece-clause-unread g c =
+pub returns-in_err-more-clause-unread : goal.returns-in_err-more-clause-unread
+returns-in_err-more-clause-unread g c =
     let behind : ((d : Bytes) → HasRead c.loop.reader d
     → Took d [] (g.R.Read.remaining c.loop.input) (g.R.Read.remaining c.read_piece.new.input) (g.W.Write.contents c.loop.output) (g.W.Write.contents c.read_piece.new.output) c.read_piece.new.reader)
     → (d : Bytes) → HasRead c.args.reader.now d
     → (p : Bytes) × Took d p (g.R.Read.remaining c.args.input.now) (g.R.Read.remaining c.read_piece.new.input) (g.W.Write.contents c.args.output.now) (g.W.Write.contents c.read_piece.new.output) c.read_piece.new.reader =
     λ a d h. let i = c.loop.invariant.1 d h in (i.0 ++ [], took_more _ _ _ _ _ _ i.1 (a (d ++ i.0) i.1.reads)) in
-    same_error _ _ _ c.from_residual.ensures.1 (on_input _ c.in_err-read_piece.ensures.unread behind)
+    same_error _ _ _ c.from_residual.ensures.1 (on_input _ c.in_err-more.ensures.unread behind)

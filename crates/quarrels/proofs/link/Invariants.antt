@@ -4,6 +4,3 @@ use Rattle.quarrels.proofs.link.Given as goal
 
 abbrev pub invariant-loop-i : goal.invariant-loop-i
 invariant-loop-i l = Linked (entries_of l.dump) l.heads l.next l.first l.masks l.shown l.i
-
-abbrev pub decreases-loop-i : goal.decreases-loop-i
-decreases-loop-i l = l.i
