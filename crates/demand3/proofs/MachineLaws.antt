@@ -28,8 +28,8 @@ use Rattle.switches.specs.declared.Switches.{Switches}
 use Rattle.switches.specs.Switches.{fresh_switches, unless_exited}
 use Rattle.rules.specs.declared.Ground.{Ground}
 use Rattle.rules.specs.declared.Ground.TheVariants.{SizeGround, AttributeGround, LockGround}
-use Rattle.rules.specs.declared.Decision.{Decision}
-use Rattle.rules.specs.declared.Decision.TheVariants.{Refuse, Block, Delete, Keep, Store}
+use Rattle.rules.specs.Decision.{Decision}
+use Rattle.rules.specs.Decision.{Refuse, Block, Delete, Keep, Store}
 use Rattle.rules.specs.declared.Report.{Report}
 use Rattle.rules.specs.Set.{Request, bad_request, request_status, decision}
 use Rattle.rules.proofs.DecisionLaws.{taken_named}

@@ -12,8 +12,8 @@ use Rattle.status.specs.declared.Status.{Status}
 use Rattle.status.specs.declared.Status.TheVariants.{VolumeCorrupted}
 use Rattle.status.specs.Status.{is_success}
 use Rattle.switches.specs.declared.Switches.{Switches}
-use Rattle.rules.specs.declared.Decision.{Decision}
-use Rattle.rules.specs.declared.Decision.TheVariants.{Refuse, Block, Delete, Keep, Store}
+use Rattle.rules.specs.Decision.{Decision}
+use Rattle.rules.specs.Decision.{Refuse, Block, Delete, Keep, Store}
 use Rattle.rules.specs.Set.{Request, decision, decision_status, decision_store}
 use Rattle.rules.specs.Report.{no_report, decision_report}
 use Rattle.rules.specs.Engine.{State, state_of, speaking, decision_by, decision_in, set_decision, with_report, set_report, after, step}

@@ -18,8 +18,8 @@ use Rattle.status.specs.declared.Status.TheVariants.{Success, InvalidParameter, 
 use Rattle.status.specs.Status.{is_success, status_number}
 use Rattle.rules.specs.declared.Ground.{Ground}
 use Rattle.rules.specs.declared.Ground.TheVariants.{SizeGround, AttributeGround, LockGround}
-use Rattle.rules.specs.declared.Decision.{Decision}
-use Rattle.rules.specs.declared.Decision.TheVariants.{Refuse, Block, Delete, Keep, Store}
+use Rattle.rules.specs.Decision.{Decision}
+use Rattle.rules.specs.Decision.{Refuse, Block, Delete, Keep, Store}
 use Rattle.rules.specs.Stored.{Stored}
 use Rattle.rules.specs.Set.{Request, exists, is_empty, bad_request, unsupported_bit, needs_bs, needs_runtime, request_status, ground_status, ground_by, is_deletion, shown, exit_protects, other_attributes, is_empty_append, payload_after, record_after, store_of, write_decision, refuse_or, block_or, decision, decision_status}
 

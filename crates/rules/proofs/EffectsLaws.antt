@@ -25,8 +25,8 @@ use Rattle.store.specs.Store.{records_of, pack_store, without_variable, has_room
 use Rattle.store.proofs.StoreLaws.{records_without, length_without, records_with_lem, length_with}
 use Rattle.switches.specs.declared.Switches.{Switches}
 use Rattle.switches.specs.Switches.{fresh_switches}
-use Rattle.rules.specs.declared.Decision.{Decision}
-use Rattle.rules.specs.declared.Decision.TheVariants.{Refuse, Block, Delete, Keep, Store}
+use Rattle.rules.specs.Decision.{Decision}
+use Rattle.rules.specs.Decision.{Refuse, Block, Delete, Keep, Store}
 use Rattle.rules.specs.Set.{Request, exists, shown, is_deletion, is_empty_append, record_after, decision_status, decision_store}
 use Rattle.rules.proofs.DecisionLaws.{Facts, facts, stored_facts, granted_decision}
 use Rattle.rules.specs.Engine.{State, Call, Answer, state_of, answer_of, with_report, set_report, dump_status, read_status, settled_status, is_settled, status, given, refusal, answer, decision_by, decision_in, erased, effect, after, step}

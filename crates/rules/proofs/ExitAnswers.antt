@@ -21,8 +21,8 @@ use Rattle.status.specs.Status.{is_success}
 use Rattle.switches.specs.declared.Switches.{Switches}
 use Rattle.switches.specs.Switches.{fresh_switches, refused_switches}
 use Rattle.rules.specs.declared.Ground.{Ground}
-use Rattle.rules.specs.declared.Decision.{Decision}
-use Rattle.rules.specs.declared.Decision.TheVariants.{Refuse, Delete}
+use Rattle.rules.specs.Decision.{Decision}
+use Rattle.rules.specs.Decision.{Refuse, Delete}
 use Rattle.rules.specs.Set.{Request, exists, is_deletion, bad_request, unsupported_bit, needs_bs, needs_runtime, request_status, ground_by, shown, exit_protects, delete_decision, write_decision, refuse_or, block_or, decision, decision_status, decision_store}
 use Rattle.rules.specs.Report.{no_report, decision_report}
 use Rattle.rules.specs.Engine.{State, Call, state_of, speaking, decision_by, decision_in, set_decision, with_report, read_status, status, given, refusal, answer, effect, after, step}

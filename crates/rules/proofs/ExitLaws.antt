@@ -24,7 +24,7 @@ use Rattle.status.specs.declared.Status.{Status}
 use Rattle.status.specs.declared.Status.TheVariants.{Success, InvalidParameter, Unsupported, WriteProtected, VolumeCorrupted, NotFound}
 use Rattle.status.specs.Status.{is_success}
 use Rattle.status.proofs.StatusLaws.{success_only}
-use Rattle.rules.specs.declared.Decision.TheVariants.{Refuse, Delete, Keep, Store}
+use Rattle.rules.specs.Decision.{Refuse, Delete, Keep, Store}
 use Rattle.rules.specs.Set.{Request, exists, is_deletion, is_empty_append, needs_runtime, request_status, shown, exit_protects, write_decision, decision, decision_status, decision_store}
 use Rattle.rules.specs.Report.{decision_report}
 use Rattle.rules.specs.Engine.{State, Call, uses, read_status, decision_by, decision_in, set_decision, report_on, answer_of, only_status, with_report, status, given, refusal, answer, effect, after, step}

@@ -38,8 +38,8 @@ use Rattle.stores.specs.Pair.{sound, lookup}
 use Rattle.stores.proofs.PairLaws.{looked}
 use Rattle.rules.specs.declared.Ground.{Ground}
 use Rattle.rules.specs.declared.Ground.TheVariants.{SizeGround, AttributeGround, LockGround}
-use Rattle.rules.specs.declared.Decision.{Decision}
-use Rattle.rules.specs.declared.Decision.TheVariants.{Refuse, Block, Delete, Keep, Store}
+use Rattle.rules.specs.Decision.{Decision}
+use Rattle.rules.specs.Decision.{Refuse, Block, Delete, Keep, Store}
 use Rattle.rules.specs.declared.Report.{Report}
 use Rattle.rules.specs.Report.{ground_number}
 use Rattle.rules.specs.Set.{Request, is_empty, is_deletion, bad_request, unsupported_bit, needs_bs, needs_runtime, request_status, is_empty_append, length_after, size_allowed, attributes_allowed, locks, ground_of, payload_after, record_after, decision, decision_status}

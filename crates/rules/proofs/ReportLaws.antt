@@ -33,8 +33,8 @@ use Rattle.status.specs.declared.Status.TheVariants.{WriteProtected, VolumeCorru
 use Rattle.status.specs.Status.{is_success, status_number}
 use Rattle.rules.specs.declared.Ground.{Ground}
 use Rattle.rules.specs.declared.Ground.TheVariants.{SizeGround, AttributeGround, LockGround}
-use Rattle.rules.specs.declared.Decision.{Decision}
-use Rattle.rules.specs.declared.Decision.TheVariants.{Refuse, Block, Delete, Keep, Store}
+use Rattle.rules.specs.Decision.{Decision}
+use Rattle.rules.specs.Decision.{Refuse, Block, Delete, Keep, Store}
 use Rattle.rules.specs.declared.Report.{Report}
 use Rattle.rules.specs.Set.{Request, request_status, ground_status, ground_of, ground_by, is_deletion, length_after, attributes_allowed, unsupported_bit, write_decision, block_or, decision, decision_status}
 use Rattle.rules.proofs.DecisionLaws.{bars, supported, early_unlocked, ProtectedDeletion, protected_refused, late_locked, blocked_by, write_unblocked, decision_blocked, decision_written, blocked_facts}

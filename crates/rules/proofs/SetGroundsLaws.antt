@@ -32,8 +32,8 @@ use Rattle.stores.specs.Pair.{sound, lookup}
 use Rattle.status.specs.declared.Status.TheVariants.{Success, InvalidParameter, Unsupported, WriteProtected, OutOfResources, VolumeCorrupted, NotFound}
 use Rattle.rules.specs.declared.Ground.{Ground}
 use Rattle.rules.specs.declared.Ground.TheVariants.{SizeGround, AttributeGround, LockGround}
-use Rattle.rules.specs.declared.Decision.{Decision}
-use Rattle.rules.specs.declared.Decision.TheVariants.{Refuse, Delete, Keep, Store}
+use Rattle.rules.specs.Decision.{Decision}
+use Rattle.rules.specs.Decision.{Refuse, Delete, Keep, Store}
 use Rattle.rules.specs.Set.{Request, Lookup, exists, bad_request, unsupported_bit, needs_bs, needs_runtime, request_status, holds_value, rule_locks, locks, is_deletion, shown, exit_protects, size_allowed, attributes_allowed, request_ground, ground_of, ground_by, other_attributes, is_empty_append, payload_after, length_after, record_after, store_of, write_decision, refuse_or, block_or, decision, decision_status}
 use Rattle.rules.proofs.DecisionLaws.{blocked_by, write_unblocked}
 use Rattle.rules.specs.Engine.{State, speaking, decision_by, set_decision, status}

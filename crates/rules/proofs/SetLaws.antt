@@ -15,8 +15,8 @@ use Rattle.store.proofs.EncodeLaws.{attributes_encode, payload_encode, is_of-enc
 use Rattle.store.specs.Store.{records_of, without_variable, has_room, with_record}
 use Rattle.stores.specs.Pair.{sound, lookup}
 use Rattle.stores.proofs.PairLaws.{sound_with_nv, sound_with_vol, sound_without, looked_nv, looked_vol, none_nv, none_vol, lookup_with_nv, lookup_with_vol, lookup_with_nv_other, lookup_with_vol_other, lookup_without, lookup_without_other}
-use Rattle.rules.specs.declared.Decision.{Decision}
-use Rattle.rules.specs.declared.Decision.TheVariants.{Refuse, Block, Delete, Keep, Store}
+use Rattle.rules.specs.Decision.{Decision}
+use Rattle.rules.specs.Decision.{Refuse, Block, Delete, Keep, Store}
 use Rattle.rules.specs.Set.{Request, stored_attributes, other_attributes, payload_after, record_after, decision, decision_store}
 use Rattle.rules.specs.Stored.{Stored}
 use Rattle.rules.proofs.DecisionLaws.{Facts, facts, stored_facts}

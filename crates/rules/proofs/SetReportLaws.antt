@@ -17,8 +17,8 @@ use Rattle.bits.proofs.BitsLaws.{many_last, least_most, least_under, least_passe
 use Rattle.status.specs.declared.Status.{Status}
 use Rattle.rules.specs.declared.Ground.{Ground}
 use Rattle.rules.specs.declared.Ground.TheVariants.{SizeGround, AttributeGround, LockGround}
-use Rattle.rules.specs.declared.Decision.{Decision}
-use Rattle.rules.specs.declared.Decision.TheVariants.{Refuse, Block, Delete, Keep, Store}
+use Rattle.rules.specs.Decision.{Decision}
+use Rattle.rules.specs.Decision.{Refuse, Block, Delete, Keep, Store}
 use Rattle.rules.specs.declared.Report.{Report}
 use Rattle.rules.specs.Set.{Request}
 use Rattle.rules.proofs.DecisionLaws.{blocked_by}

@@ -21,7 +21,7 @@ use Rattle.stores.proofs.PairLaws.{sound_erased, sound_alone_lem, sound_vol}
 use Rattle.status.specs.declared.Status.{Status}
 use Rattle.status.specs.declared.Status.TheVariants.{Success, InvalidParameter, Unsupported, WriteProtected, OutOfResources, VolumeCorrupted, AlreadyStarted}
 use Rattle.status.specs.Status.{is_success}
-use Rattle.rules.specs.declared.Decision.TheVariants.{Refuse}
+use Rattle.rules.specs.Decision.{Refuse}
 use Rattle.rules.specs.Set.{Request, decision_status}
 use Rattle.rules.proofs.SetLaws.{set_sound}
 use Rattle.rules.proofs.EngineLaws.{step_status, granted_effect}

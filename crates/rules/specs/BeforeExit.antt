@@ -12,8 +12,8 @@ use Rattle.stores.specs.Pair.{sound, lookup}
 use Rattle.status.specs.declared.Status.{Status}
 use Rattle.status.specs.declared.Status.TheVariants.{Success, InvalidParameter, Unsupported, WriteProtected, VolumeCorrupted, NotFound, AlreadyStarted}
 use Rattle.status.specs.Status.{is_success, status_number}
-use Rattle.rules.specs.declared.Decision.{Decision}
-use Rattle.rules.specs.declared.Decision.TheVariants.{Refuse, Delete, Keep}
+use Rattle.rules.specs.Decision.{Decision}
+use Rattle.rules.specs.Decision.{Refuse, Delete, Keep}
 use Rattle.rules.specs.declared.Report.{Report}
 use Rattle.rules.specs.Set.{Request, exists, bad_request, unsupported_bit, needs_bs, ground_by, is_deletion, other_attributes, is_empty_append, store_decision, refuse_or, block_or, decision_status, decision_store}
 use Rattle.rules.specs.Report.{decision_report}

@@ -17,8 +17,8 @@ use Rattle.status.specs.declared.Status.TheVariants.{Success, InvalidParameter, 
 use Rattle.status.specs.Status.{is_success, status_number}
 use Rattle.switches.specs.declared.Switches.{Switches}
 use Rattle.switches.specs.Switches.{fresh_switches, refused_switches, with_locked, with_disabled, with_exited, unless_exited, lock_status, disable_status, exit_status}
-use Rattle.rules.specs.declared.Decision.{Decision}
-use Rattle.rules.specs.declared.Decision.TheVariants.{Refuse}
+use Rattle.rules.specs.Decision.{Decision}
+use Rattle.rules.specs.Decision.{Refuse}
 use Rattle.rules.specs.declared.Report.{Report}
 use Rattle.rules.specs.Set.{Request, exists, shown, decision, decision_status, decision_store}
 use Rattle.rules.specs.Report.{decision_report}

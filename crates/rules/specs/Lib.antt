@@ -1,3 +1,4 @@
+pub mod Decision
 pub mod Set
 pub mod Stored
 pub mod Report

@@ -8,8 +8,8 @@ use Rattle.policy.specs.Choice.{place_of}
 use Rattle.bits.specs.Bits.{missing_bits, prohibited_bits, lowest_bit}
 use Rattle.rules.specs.declared.Ground.{Ground}
 use Rattle.rules.specs.declared.Ground.TheVariants.{SizeGround, AttributeGround, LockGround}
-use Rattle.rules.specs.declared.Decision.{Decision}
-use Rattle.rules.specs.declared.Decision.TheVariants.{Refuse, Block, Delete, Keep, Store}
+use Rattle.rules.specs.Decision.{Decision}
+use Rattle.rules.specs.Decision.{Refuse, Block, Delete, Keep, Store}
 use Rattle.rules.specs.declared.Report.{Report}
 
 -- a ground, the place and the rank of the entry that gave it, and the three numbers of its attributes

@@ -20,8 +20,8 @@ use Rattle.status.specs.declared.Status.TheVariants.{Success, InvalidParameter, 
 use Rattle.status.specs.Status.{is_success}
 use Rattle.rules.specs.declared.Ground.{Ground}
 use Rattle.rules.specs.declared.Ground.TheVariants.{SizeGround, AttributeGround, LockGround}
-use Rattle.rules.specs.declared.Decision.{Decision}
-use Rattle.rules.specs.declared.Decision.TheVariants.{Refuse, Block, Delete, Keep, Store}
+use Rattle.rules.specs.Decision.{Decision}
+use Rattle.rules.specs.Decision.{Refuse, Block, Delete, Keep, Store}
 
 -- what a set is given, as it arrives
 pub record Request : Type 0 where

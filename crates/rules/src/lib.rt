@@ -1,7 +1,8 @@
 // The rules (RULES.md) as definitions; the code has only the kinds of answer that the definitions name.
 #![tactic(auto)]
 
-ghost use Rattle.std.specs.Prelude.{◌≡◌, Some};
+ghost use Rattle.std.specs.Prelude.{◌≡◌, Some, Err};
+ghost use Rattle.rules.specs.Set.{ground_status, decision_status};
 ghost use Rattle.rules.specs.Report.{ground_number};
 
 use status::Status;
@@ -27,14 +28,44 @@ impl From<Ground> for u32 {
     }
 }
 
-// What is decided of a set: to refuse it with a status, or by a ground of step 4; or what is done: take the variable out, leave all as it is, or store it.
-#[derive(Clone, Copy)]
-pub enum Decision {
-    Refuse(Status),
-    Block(Ground),
+// What is done where a set is granted: take the variable out, leave all as it is, or store it.
+#[derive(Clone, Copy, Debug, PartialEq, Eq)]
+pub enum Change {
     Delete,
     Keep,
     Store,
+}
+
+// Why a set is refused: with a status, by one of the other steps; or by a ground of step 4.
+#[derive(Clone, Copy)]
+pub enum Refusal {
+    ByStatus(Status),
+    ByGround(Ground),
+}
+
+// The status that a ground answers.
+impl From<Ground> for Status {
+    ghost from_gives = { λ g n. n ≡ ground_status g };
+
+    fn from(ground: Ground) -> Status {
+        match ground {
+            Ground::SizeGround => Status::InvalidParameter,
+            Ground::AttributeGround => Status::InvalidParameter,
+            Ground::LockGround => Status::WriteProtected,
+        }
+    }
+}
+
+// The status of a refusal.
+impl From<Refusal> for Status {
+    ghost from_gives = { λ r n. n ≡ decision_status (Err r) };
+
+    fn from(refusal: Refusal) -> Status {
+        match refusal {
+            Refusal::ByStatus(status) => status,
+            Refusal::ByGround(ground) => Status::from(ground),
+        }
+    }
 }
 
 // What a set tells of step 4, beside its status (RULES.md, 10.10): the ground that spoke, if any, with the place of the chosen entry, counted from 0,

@@ -9,8 +9,8 @@ use Rattle.policy.specs.Choice.{chosen}
 use Rattle.stores.specs.Pair.{lookup}
 use Rattle.switches.specs.declared.Switches.{Switches}
 use Rattle.rules.specs.declared.Ground.{Ground}
-use Rattle.rules.specs.declared.Decision.{Decision}
-use Rattle.rules.specs.declared.Decision.TheVariants.{Block}
+use Rattle.rules.specs.Decision.{Decision}
+use Rattle.rules.specs.Decision.{Block}
 use Rattle.rules.specs.declared.Report.{Report}
 use Rattle.rules.specs.Set.{Request, ground_by, decision}
 use Rattle.rules.proofs.DecisionLaws.{blocked_by}

@@ -23,9 +23,11 @@ use Rattle.store.proofs.PlaceLaws.{place_absent}
 use Rattle.stores.specs.Place.{place_in}
 use Rattle.stores.proofs.PlaceLaws.{place_of_store, place_without_nv, place_without_vol, place_of_kind_absent, place_of_kind}
 use Rattle.status.specs.declared.Status.{Status}
-use Rattle.rules.specs.declared.Ground.{Ground}
-use Rattle.rules.specs.declared.Decision.{Decision}
-use Rattle.rules.specs.declared.Decision.TheVariants.{Refuse, Block, Delete, Keep, Store}
+use Rattle.std.specs.Prelude.{Err}
+use Rattle.rules.specs.declared.Refusal.{Refusal}
+use Rattle.rules.specs.declared.Refusal.TheVariants.{ByStatus, ByGround}
+use Rattle.rules.specs.Decision.{Decision}
+use Rattle.rules.specs.Decision.{Delete, Keep, Store}
 use Rattle.rules.specs.Set.{Request, other_attributes, stored_attributes, payload_after, record_after, store_of, decision_store}
 use Rattle.rules.proofs.SetLaws.{not_first, not_second}
 use Rattle.rules.specs.Stored.{Stored}
@@ -167,13 +169,10 @@ module _ (nv vol : Bytes) (o : Option Bytes) (r : Request) {x : Decision} (d : D
   carried h = (h.0 ∙ ap (λ y. decision_store y true nv o r) (sym e), h.1 ∙ ap (λ y. decision_store y false vol o r) (sym e))
 
 -- nothing is written where it refuses or keeps
-pub refused_left : (nv vol : Bytes) (o : Option Bytes) (r : Request) (n : Status) → (nv ≡ decision_store (Refuse n) true nv o r) × (vol ≡ decision_store (Refuse n) false vol o r)
+pub refused_left : (nv vol : Bytes) (o : Option Bytes) (r : Request) (f : Refusal) → (nv ≡ decision_store (Err f) true nv o r) × (vol ≡ decision_store (Err f) false vol o r)
 unfolding decision_store
-refused_left nv vol o r n = (refl, refl)
-
-pub blocked_left : (nv vol : Bytes) (o : Option Bytes) (r : Request) (g : Ground) → (nv ≡ decision_store (Block g) true nv o r) × (vol ≡ decision_store (Block g) false vol o r)
-unfolding decision_store
-blocked_left nv vol o r g = (refl, refl)
+refused_left nv vol o r (ByStatus n) = (refl, refl)
+refused_left nv vol o r (ByGround g) = (refl, refl)
 
 pub kept_left : (nv vol : Bytes) (o : Option Bytes) (r : Request) → (nv ≡ decision_store Keep true nv o r) × (vol ≡ decision_store Keep false vol o r)
 unfolding decision_store

@@ -11,7 +11,7 @@ use Rattle.store.specs.Parts.{attributes_in}
 use Rattle.status.specs.declared.Status.TheVariants.{WriteProtected, NotFound}
 use Rattle.stores.specs.declared.Place.{Place}
 use Rattle.stores.specs.Place.{is_somewhere, record_at, attributes_at}
-use Rattle.rules.specs.declared.Decision.TheVariants.{Refuse, Delete}
+use Rattle.rules.specs.Decision.{Refuse, Delete}
 use Rattle.rules.specs.Set.{exists, shown, exit_protects, delete_decision}
 use Rattle.set.proofs.LockRules.{exists_at}
 

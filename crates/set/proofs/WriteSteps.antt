@@ -20,8 +20,8 @@ use Rattle.stores.specs.Pair.{lookup}
 use Rattle.stores.specs.declared.Place.{Place}
 use Rattle.stores.specs.Place.{place_in, is_somewhere, record_at, attributes_at}
 use Rattle.stores.proofs.PlaceLaws.{lookup_place}
-use Rattle.rules.specs.declared.Decision.{Decision}
-use Rattle.rules.specs.declared.Decision.TheVariants.{Refuse, Keep, Store}
+use Rattle.rules.specs.Decision.{Decision}
+use Rattle.rules.specs.Decision.{Refuse, Keep, Store}
 use Rattle.rules.specs.Set.{Request, is_deletion, is_empty_append, delete_decision, other_attributes, payload_after, store_of, record_after, store_decision, write_decision}
 
 -- ---- steps 5 to 7

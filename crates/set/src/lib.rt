@@ -22,13 +22,13 @@ ghost use Rattle.rules.specs.Report.{report_of, no_report, report_for, report_by
 ghost use Rattle.rules.specs.Engine.{speaking};
 ghost use Rattle.rules.specs.Stored.{Stored};
 ghost use Rattle.rules.specs.declared.Ground.TheVariants.{AttributeGround};
-ghost use Rattle.rules.specs.declared.Decision.TheVariants.{Store};
+ghost use Rattle.rules.specs.Decision.{Store};
 ghost use Rattle.set.specs.Known.{Located, Knows};
 ghost use Rattle.set.specs.Decided.{decided_by};
 ghost use Rattle.set.specs.Writable.{found_in, Writable};
 
 use entry::{Entry, LockRule, Trigger};
-use rules::{Decision, Ground, Report};
+use rules::{Change, Ground, Refusal, Report};
 use status::Status;
 use store::Found;
 use stores::{Ends, Place};
@@ -45,7 +45,7 @@ pub struct Known {
 // What is decided of a set, and what step 4 said.
 #[derive(Clone, Copy)]
 pub struct Decided {
-    pub decision: Decision,
+    pub decision: Result<Change, Refusal>,
     pub report: Report,
 }
 
@@ -368,17 +368,17 @@ fn exit_protects(exited: bool, nv: &[u8], vol: &[u8], place: Place) -> bool
 }
 
 // Step 5, of a deletion. NOT_FOUND where the variable is absent or, after exit, has no RT; WRITE_PROTECTED, after exit, where it is volatile.
-fn decide_delete(exited: bool, nv: &[u8], vol: &[u8], place: Place) -> Decision
+fn decide_delete(exited: bool, nv: &[u8], vol: &[u8], place: Place) -> Result<Change, Refusal>
     requires { Within nv.now vol.now place }
     ensures { result ≡ delete_decision exited (record_at nv.now vol.now place) }
 {
     if !is_shown(exited, nv, vol, place) {
-        return Decision::Refuse(Status::NotFound);
+        return Err(Refusal::ByStatus(Status::NotFound));
     }
     if exit_protects(exited, nv, vol, place) {
-        return Decision::Refuse(Status::WriteProtected);
+        return Err(Refusal::ByStatus(Status::WriteProtected));
     }
-    Decision::Delete
+    Ok(Change::Delete)
 }
 
 // Whether a set is an append that joins nothing.
@@ -425,7 +425,7 @@ fn decide_store<'a>(
     name: &[u8],
     attributes: u32,
     payload: &[u8],
-) -> Decision
+) -> Result<Change, Refusal>
     requires { (sound nv.now vol.now ≡ true) × Located known nv.now vol.now (variable namespace.now name.now)
         × (named (variable namespace.now name.now) ≡ true)
         × (other_attributes (lookup nv.now vol.now (variable namespace.now name.now)) attributes ≡ false) }
@@ -434,12 +434,12 @@ fn decide_store<'a>(
 {
     let n = length_after(nv, vol, known.place, attributes, payload);
     if limits::MAX_PAYLOAD < n {
-        return Decision::Refuse(Status::OutOfResources);
+        return Err(Refusal::ByStatus(Status::OutOfResources));
     }
     if has_room(nv, vol, known, namespace, name, attributes, n) {
-        return Decision::Store;
+        return Ok(Change::Store);
     }
-    Decision::Refuse(Status::OutOfResources)
+    Err(Refusal::ByStatus(Status::OutOfResources))
 }
 
 // Steps 5 to 9. A deletion ends at step 5; INVALID_PARAMETER where the variable is stored with a different NV, BS or RT.
@@ -452,7 +452,7 @@ fn decide_write<'a>(
     name: &[u8],
     attributes: u32,
     payload: &[u8],
-) -> Decision
+) -> Result<Change, Refusal>
     requires { (sound nv.now vol.now ≡ true) × Located known nv.now vol.now (variable namespace.now name.now)
         × (named (variable namespace.now name.now) ≡ true) }
     ensures { result ≡ write_decision exited nv.now vol.now (lookup nv.now vol.now (variable namespace.now name.now))
@@ -463,10 +463,10 @@ fn decide_write<'a>(
     }
     let found = stores::is_somewhere(known.place);
     if found & (stores::attributes_at(nv, vol, known.place) != attributes % 8) {
-        return Decision::Refuse(Status::InvalidParameter);
+        return Err(Refusal::ByStatus(Status::InvalidParameter));
     }
     if is_empty_append(attributes, payload) {
-        return Decision::Keep;
+        return Ok(Change::Keep);
     }
     decide_store(nv, vol, known, namespace, name, attributes, payload)
 }
@@ -491,7 +491,7 @@ pub fn decide<'a>(
     let by_request = check_request(switches.exited, name, attributes, payload);
     if by_request != Status::Success {
         return Decided {
-            decision: Decision::Refuse(by_request),
+            decision: Err(Refusal::ByStatus(by_request)),
             report: no_report(),
         };
     }
@@ -519,7 +519,7 @@ pub fn decide<'a>(
             attributes,
             payload,
         ),
-        Some(ground) => Decision::Block(ground),
+        Some(ground) => Err(Refusal::ByGround(ground)),
     };
     Decided {
         decision,
@@ -528,19 +528,12 @@ pub fn decide<'a>(
 }
 
 // The status of a decision.
-pub fn status_of(decided: Decision) -> Status
+pub fn status_of(decided: Result<Change, Refusal>) -> Status
     ensures { result ≡ decision_status decided }
 {
     match decided {
-        Decision::Refuse(status) => status,
-        Decision::Block(ground) => match ground {
-            Ground::SizeGround => Status::InvalidParameter,
-            Ground::AttributeGround => Status::InvalidParameter,
-            Ground::LockGround => Status::WriteProtected,
-        },
-        Decision::Delete => Status::Success,
-        Decision::Keep => Status::Success,
-        Decision::Store => Status::Success,
+        Ok(_) => Status::Success,
+        Err(refusal) => Status::from(refusal),
     }
 }
 
@@ -630,7 +623,7 @@ fn put_variable(
 
 // Does to two sound stores what is decided of the request.
 pub fn carry_out(
-    decided: Decision,
+    decided: Result<Change, Refusal>,
     nv: &mut [u8],
     vol: &mut [u8],
     known: Known,
@@ -646,11 +639,12 @@ pub fn carry_out(
     ensures vol_after { vol.new ≡ decision_store decided false vol.old (lookup nv.old vol.old (variable namespace.now name.now))
         (request_of namespace.now name.now attributes payload.now) }
 {
-    match decided {
-        Decision::Refuse(_) => (),
-        Decision::Block(_) => (),
-        Decision::Delete => delete(nv, vol, known, namespace, name),
-        Decision::Keep => (),
-        Decision::Store => put_variable(nv, vol, known, namespace, name, attributes, payload),
+    let Ok(change) = decided else {
+        return;
+    };
+    match change {
+        Change::Delete => delete(nv, vol, known, namespace, name),
+        Change::Keep => (),
+        Change::Store => put_variable(nv, vol, known, namespace, name, attributes, payload),
     }
 }

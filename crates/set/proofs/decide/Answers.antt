@@ -1,4 +1,4 @@
-use Rattle.rules.specs.declared.Decision.TheVariants.{Refuse}
+use Rattle.rules.specs.Decision.{Refuse}
 use Rattle.rules.proofs.DecisionLaws.{taken_named, blocked_by, write_unblocked, decision_refused, decision_blocked, decision_written}
 use Rattle.rules.specs.Set.{Request, request_of, request_status}
 use Rattle.policy.specs.Policy.{entries_of}
