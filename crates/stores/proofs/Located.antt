@@ -1,5 +1,4 @@
 -- The place by what the search of each store found. Assumes nothing.
-use Prim.Native.Nat.{ℕ}
 use Rattle.std.proofs.Common.{true≢false}
 use mathlib.Core.Path.{◌≡◌, refl, sym, ap, ◌∙◌}
 use mathlib.Core.Bool.{true, false}
