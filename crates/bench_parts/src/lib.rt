@@ -120,13 +120,7 @@ pub extern "C" fn bench_slot(s: &[u8]) -> usize
 fn fits(len: usize, at: usize, n: usize) -> bool
     ensures { result ≡ leb (at + n) len }
 {
-    if len < n {
-        return false;
-    }
-    if len - n < at {
-        return false;
-    }
-    true
+    n <= len && at <= len - n
 }
 
 // Whether an entry's name matches a variable's.
