@@ -22,7 +22,6 @@ use Rattle.store.proofs.StoreLaws.{without_absent}
 use Rattle.store.proofs.PlaceLaws.{place_absent}
 use Rattle.stores.specs.Place.{place_in}
 use Rattle.stores.proofs.PlaceLaws.{place_of_store, place_without_nv, place_without_vol, place_of_kind_absent, place_of_kind}
-use Rattle.status.specs.declared.Status.{Status}
 use Rattle.std.specs.Prelude.{Err}
 use Rattle.rules.specs.declared.Refusal.{Refusal}
 use Rattle.rules.specs.declared.Refusal.TheVariants.{ByStatus, ByGround}
