@@ -1,7 +1,7 @@
 -- Laws of names, which proofs cite instead of the definitions' text. Assumes nothing.
 use Rattle.std.specs.Prelude.{ℕ, zero, suc, ◌+◌, ◌-◌, ◌*◌, ◌/◌, ◌%◌, ◌≤◌, ◌<◌, ◌≡◌, refl, List, [], ◌∷◌, ◌++◌, Bool, true, false, not, ◌||◌, ◌&&◌, cond, ◌↔◌, ◌⊎◌, length, get_or, take, drop, eqb, leb}
-use Rattle.std.proofs.Common.{sym, ap, ap₂, ◌∙◌, inl, inr, zero-add, drop_of_length-le, length-append, length-drop, length-take, take-append-drop, get_or-append-add, eq-eqb, ne_eqb, le-leb, leb-true, eqb-true}
-use Rattle.std.proofs.lemmas.Bool.{false≢true, eqb-false, not-true}
+use Rattle.std.proofs.Common.{sym, ap, ap₂, ◌∙◌, inl, inr, zero-add, suc-mul, zero-mul, drop_of_length-le, length-append, length-drop, length-take, take-append-drop, get_or-append-add, eq-eqb, ne_eqb, le-leb, leb-true, eqb-true}
+use Rattle.std.proofs.lemmas.Bool.{false≢true, eqb-false}
 use native.Mathlib.Omega.{arith}
 use Rattle.std.proofs.Math.Seq.{get_or-append_seam, take-append_seam}
 use Rattle.std.specs.Int.Bits.{bit_and, and_zero_l}
@@ -147,23 +147,23 @@ unfolding each ◌and◌
 each_append test [] vs = refl
 each_append test (u ∷ us) vs = rw (each_append test us vs) (sym (and_assoc (test u) (each test us) (each test vs)))
 
--- k blocks of eight units, and then what is behind them
-module _ (test : ℕ → Bool) where
+-- k blocks of n units, and then what is behind them
+module _ (n : ℕ) (test : ℕ → Bool) where
   abbrev blocks_pass : ℕ → Bytes → Bool
-  blocks_pass k s = list_all (λ b. each test (units b)) (first_chunks 16 k s)
+  blocks_pass k s = list_all (λ b. each test (units b)) (first_chunks (2 * n) k s)
 
-  each_blocks : (k : ℕ) (s : Bytes) → each test (units s) ≡ (blocks_pass k s and each test (units (drop (k * 16) s)))
+  each_blocks : (k : ℕ) (s : Bytes) → each test (units s) ≡ (blocks_pass k s and each test (units (drop (k * (2 * n)) s)))
   unfolding ◌and◌
-  each_blocks zero s = refl
+  each_blocks zero s = rw (zero-mul (2 * n))
   each_blocks (suc k) s =
-      let first : Bool = each test (units (take 16 s)) in
-      let n : 16 + k * 16 ≡ suc k * 16 = omega arith in
-      ap (each test) (units_cut 8 s) ∙ each_append test (units (take 16 s)) (units (drop 16 s))
-      ∙ ap (λ b. first and b) (each_blocks k (drop 16 s) ∙ ap (λ l. blocks_pass k (drop 16 s) and each test (units l)) (drop-drop (k * 16) 16 s))
-      ∙ sym (and_assoc first (blocks_pass k (drop 16 s)) (each test (units (drop (16 + k * 16) s))))
-      ∙ ap₂ (λ b j. b and each test (units (drop j s))) (sym (and_eager first (blocks_pass k (drop 16 s)))) n
+      let first : Bool = each test (units (take (2 * n) s)) in
+      let m : 2 * n + k * (2 * n) ≡ suc k * (2 * n) = omega (arith, suc-mul k (2 * n)) in
+      ap (each test) (units_cut n s) ∙ each_append test (units (take (2 * n) s)) (units (drop (2 * n) s))
+      ∙ ap (λ b. first and b) (each_blocks k (drop (2 * n) s) ∙ ap (λ l. blocks_pass k (drop (2 * n) s) and each test (units l)) (drop-drop (k * (2 * n)) (2 * n) s))
+      ∙ sym (and_assoc first (blocks_pass k (drop (2 * n) s)) (each test (units (drop (2 * n + k * (2 * n)) s))))
+      ∙ ap₂ (λ b j. b and each test (units (drop j s))) (sym (and_eager first (blocks_pass k (drop (2 * n) s)))) m
 
-  pub blocks_yes : {x : Bool} (k : ℕ) (s : Bytes) → x ≡ blocks_pass k s → x ≡ true → each test (units s) ≡ each test (units (drop (k * 16) s))
+  pub blocks_yes : {x : Bool} (k : ℕ) (s : Bytes) → x ≡ blocks_pass k s → x ≡ true → each test (units s) ≡ each test (units (drop (k * (2 * n)) s))
   unfolding ◌and◌
   blocks_yes k s e t = each_blocks k s ∙ rw (sym e ∙ t)
 
@@ -228,11 +228,11 @@ module _ (test : ℕ → ℕ → Bool) where
   pairs_pass p v = pairwise test (units p) (units v)
 
   -- the first eight, and those behind
-  pairs_cut : (p v : Bytes) → length p ≡ length v → pairs_pass p v ≡ (pairs_pass (take 16 p) (take 16 v) and pairs_pass (drop 16 p) (drop 16 v))
+  pairs_cut : (p v : Bytes) → length p / 2 ≡ length v / 2 → pairs_pass p v ≡ (pairs_pass (take 16 p) (take 16 v) and pairs_pass (drop 16 p) (drop 16 v))
   pairs_cut p v e =
       ap₂ (pairwise test) (units_cut 8 p) (units_cut 8 v)
       ∙ pairwise_append test (units (take 16 p)) (units (take 16 v)) (units (drop 16 p)) (units (drop 16 v))
-      (omega (arith, units_length (take 16 p), units_length (take 16 v), length-take 16 p, length-take 16 v))
+      (omega (arith, e, units_length (take 16 p), units_length (take 16 v), length-take 16 p, length-take 16 v))
 
   abbrev pair_blocks : ℕ → Bytes → Bytes → List (Bytes × Bytes)
   pair_blocks k p v = zip (first_chunks 16 k p) (first_chunks 16 k v)
@@ -240,7 +240,7 @@ module _ (test : ℕ → ℕ → Bool) where
   abbrev pair_blocks_pass : ℕ → Bytes → Bytes → Bool
   pair_blocks_pass k p v = list_all (λ b. pairs_pass b.0 b.1) (pair_blocks k p v)
 
-  each_pair_block : (k : ℕ) (p v : Bytes) → length p ≡ length v → pairs_pass p v ≡ (pair_blocks_pass k p v and pairs_pass (drop (k * 16) p) (drop (k * 16) v))
+  each_pair_block : (k : ℕ) (p v : Bytes) → length p / 2 ≡ length v / 2 → pairs_pass p v ≡ (pair_blocks_pass k p v and pairs_pass (drop (k * 16) p) (drop (k * 16) v))
   unfolding ◌and◌
   each_pair_block zero p v e = refl
   each_pair_block (suc k) p v e =
@@ -254,7 +254,7 @@ module _ (test : ℕ → ℕ → Bool) where
       ∙ ap₂ (λ b j. b and pairs_pass (drop j p) (drop j v)) (sym (and_eager first others)) n
 
   -- how they pass where the blocks do, and where they do not
-  module _ {x : Bool} (k j : ℕ) (p v : Bytes) (l : length p ≡ length v) (n : k ≡ j) (e : x ≡ list_all (λ b. pairs_pass b.0 b.1) (zip (first_chunks 16 k p) (first_chunks 16 j v))) where
+  module _ {x : Bool} (k j : ℕ) (p v : Bytes) (l : length p / 2 ≡ length v / 2) (n : k ≡ j) (e : x ≡ list_all (λ b. pairs_pass b.0 b.1) (zip (first_chunks 16 k p) (first_chunks 16 j v))) where
     blocks_x : x ≡ pair_blocks_pass k p v
     blocks_x = e ∙ ap (λ i. list_all (λ b. pairs_pass b.0 b.1) (zip (first_chunks 16 k p) (first_chunks 16 i v))) (sym n)
 
@@ -267,7 +267,7 @@ module _ (test : ℕ → ℕ → Bool) where
     pair_blocks_no f = f ∙ sym (each_pair_block k p v l ∙ rw (sym blocks_x ∙ f))
 
 -- behind the blocks there are as many
-pub pairs_behind : (p v : Bytes) → length p ≡ length v → length (units (drop (length p / 16 * 16) p)) ≡ length (units (drop (length v / 16 * 16) v))
+pub pairs_behind : (p v : Bytes) → length p / 2 ≡ length v / 2 → length (units (drop (length p / 16 * 16) p)) ≡ length (units (drop (length v / 16 * 16) v))
 pairs_behind p v e =
     omega (arith, e, units_length (drop (length p / 16 * 16) p), units_length (drop (length v / 16 * 16) v), length-drop (length p / 16 * 16) p, length-drop (length v / 16 * 16) v)
 
@@ -276,7 +276,7 @@ module _ (test : ℕ → ℕ → Bool) (P : Bytes × Bytes → Bool) (tells : (b
   abbrev first_pair_to_fail : ℕ → Bytes → Bytes → ℕ
   first_pair_to_fail k p v = prefix_len P (zip (first_chunks 16 k p) (first_chunks 16 k v))
 
-  from_first_pair : (k : ℕ) (p v : Bytes) → length p ≡ length v
+  from_first_pair : (k : ℕ) (p v : Bytes) → length p / 2 ≡ length v / 2
       → pairs_pass test p v ≡ pairs_pass test (drop (16 * first_pair_to_fail k p v) p) (drop (16 * first_pair_to_fail k p v) v)
   unfolding ◌and◌
   from_first_pair zero p v e = refl
@@ -294,7 +294,7 @@ module _ (test : ℕ → ℕ → Bool) (P : Bytes × Bytes → Bool) (tells : (b
           ∙ f ∙ ap₂ (pairs_pass test) (drop-drop (16 * others) 16 p) (drop-drop (16 * others) 16 v) ∙ ap (λ j. pairs_pass test (drop j p) (drop j v)) n
       by false t f = refl
 
-  pub pair_blocks_passed : {n : ℕ} (k j : ℕ) (p v : Bytes) → length p ≡ length v → k ≡ j
+  pub pair_blocks_passed : {n : ℕ} (k j : ℕ) (p v : Bytes) → length p / 2 ≡ length v / 2 → k ≡ j
       → n ≡ length (take (prefix_len P (zip (first_chunks 16 k p) (first_chunks 16 j v))) (zip (first_chunks 16 k p) (first_chunks 16 j v)))
       → pairs_pass test p v ≡ pairs_pass test (drop (16 * n) p) (drop (16 * n) v)
   pair_blocks_passed {n} k j p v l q e =
@@ -674,7 +674,7 @@ plain_pairs (p ∷ ps) (u ∷ us) e = and_intro _ _ (go (eqb p u) (eqb p number_
     go false t y z k = absurd (false≢true k)
 
 -- of names that match the first eight units are near
-pub front_near : {q w : Bytes} (p v : Bytes) → length p ≡ length v → q ≡ take 16 p → w ≡ take 16 v → pairwise unit_matches (units p) (units v) ≡ true
+pub front_near : {q w : Bytes} (p v : Bytes) → length p / 2 ≡ length v / 2 → q ≡ take 16 p → w ≡ take 16 v → pairwise unit_matches (units p) (units v) ≡ true
     → pairwise unit_near (units q) (units w) ≡ true
 front_near p v l e f m = rw (e, f) (units_near (units (take 16 p)) (units (take 16 v)) (and_left _ _ (sym (pairs_cut unit_matches p v l) ∙ m)))
 

@@ -9,7 +9,7 @@ use Rattle.slices.specs.Test.{◌and◌}
 use Rattle.slices.specs.Bytes.{Bytes, le16, le32, le64, pairwise}
 use Rattle.names.specs.Name.{units, number_sign, hex_digits, is_hex_digit, unit_matches}
 use Rattle.names.proofs.NameLaws.{hex_digits_lem, matches_from, pairs_first, pairs_last}
-use Rattle.names.specs.Tail.{unit_mask, word, mask_at, TailOf}
+use Rattle.names.specs.Tail.{unit_mask, word, masks_at, mask_at, TailOf}
 
 -- ---- one unit
 abbrev Agrees : ℕ → Type 0
@@ -66,6 +66,15 @@ pub unit_most : (s : Bytes) → InBytes s → (i : ℕ) → i + 2 ≤ length s �
 unfolding le16
 unit_most s h i l = omega (arith, h i (omega arith), h (i + 1) (omega arith))
 
+-- eight bytes under the masks that t makes of four units
+module _ (t : ℕ → ℕ) (most : (u : ℕ) → t u < 65536) where
+  pub masked : (v s : Bytes) → InBytes s → (i : ℕ) → i + 8 ≤ length s
+      → bit_and (le64 s i) (masks_at t v i)
+      ≡ word (bit_and (le16 s i) (t (le16 v i))) (bit_and (le16 s (i + 2)) (t (le16 v (i + 2)))) (bit_and (le16 s (i + 4)) (t (le16 v (i + 4)))) (bit_and (le16 s (i + 6)) (t (le16 v (i + 6))))
+  masked v s h i l =
+      ap (λ (n : ℕ). bit_and n (masks_at t v i)) (le64_word s i)
+      ∙ word_and _ _ _ _ _ _ _ _ (unit_most s h i (omega arith)) (unit_most s h (i + 2) (omega arith)) (unit_most s h (i + 4) (omega arith)) (most _) (most _) (most _)
+
 -- ---- the last four units of names that match
 module _ (p v : Bytes) (hp : InBytes p) (hv : InBytes v) (as_long : length p ≡ length v) (even : length v % 2 ≡ 0) (m : pairwise unit_matches (units p) (units v) ≡ true) where
   -- the unit that begins n bytes before the end
@@ -74,20 +83,13 @@ module _ (p v : Bytes) (hp : InBytes p) (hv : InBytes v) (as_long : length p ≡
       let f : matches_from p v i ≡ true = rw z (pairs_last unit_matches p v even m n h e) in
       unit_agrees (le16 p i) (le16 v i) (pairs_first unit_matches p v i (omega arith) (omega arith) refl refl f)
 
-  masked : (s : Bytes) → InBytes s → (i : ℕ) → i + 8 ≤ length s
-      → bit_and (le64 s i) (mask_at v i)
-      ≡ word (bit_and (le16 s i) (unit_mask (le16 v i))) (bit_and (le16 s (i + 2)) (unit_mask (le16 v (i + 2)))) (bit_and (le16 s (i + 4)) (unit_mask (le16 v (i + 4)))) (bit_and (le16 s (i + 6)) (unit_mask (le16 v (i + 6))))
-  masked s h i l =
-      ap (λ (n : ℕ). bit_and n (mask_at v i)) (le64_word s i)
-      ∙ word_and _ _ _ _ _ _ _ _ (unit_most s h i (omega arith)) (unit_most s h (i + 2) (omega arith)) (unit_most s h (i + 4) (omega arith)) (mask_most _) (mask_most _) (mask_most _)
-
   same_words : 8 ≤ length v → bit_and (le64 p (length v - 8)) (mask_at v (length v - 8)) ≡ bit_and (le64 v (length v - 8)) (mask_at v (length v - 8))
   same_words long =
       let i = length v - 8 in
-      masked p hp i (omega arith)
+      masked unit_mask mask_most v p hp i (omega arith)
       ∙ word_same (same_bits 8 i refl (omega arith) refl (omega arith)) (same_bits 6 (i + 2) (omega arith) (omega arith) refl (omega arith))
       (same_bits 4 (i + 4) (omega arith) (omega arith) refl (omega arith)) (same_bits 2 (i + 6) (omega arith) (omega arith) refl (omega arith))
-      ∙ sym (masked v hv i (omega arith))
+      ∙ sym (masked unit_mask mask_most v v hv i (omega arith))
 
   -- NAMES THAT MATCH SHOW THE SAME BITS: w is the word at the end of the pattern, or anything where it has fewer than four units
   pub tail_shows : (mask shown w : ℕ) → TailOf v mask shown → (8 ≤ length v → w ≡ le64 p (length v - 8)) → bit_and w mask ≡ shown

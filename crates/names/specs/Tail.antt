@@ -13,15 +13,27 @@ unit_mask u = cond (is_hex_digit u) (65535 - bit_xor u number_sign) 65535
 abbrev pub word : ℕ → ℕ → ℕ → ℕ → ℕ
 word a b c d = a + 65536 * (b + 65536 * (c + 65536 * d))
 
+-- what t makes of the four units from byte i on
+abbrev pub masks_at : (ℕ → ℕ) → Bytes → ℕ → ℕ
+masks_at t v i = word (t (le16 v i)) (t (le16 v (i + 2))) (t (le16 v (i + 4))) (t (le16 v (i + 6)))
+
 -- the masks of the four units from byte i on
 abbrev pub mask_at : Bytes → ℕ → ℕ
-mask_at v i = word (unit_mask (le16 v i)) (unit_mask (le16 v (i + 2))) (unit_mask (le16 v (i + 4))) (unit_mask (le16 v (i + 6)))
+mask_at = masks_at unit_mask
 
 -- the bytes of the whole units
 abbrev pub whole_units : Bytes → Bytes
 whole_units s = take (2 * (length s / 2)) s
 
--- of a name of four units and more: the masks of the last four, and the bits that count of these; of a shorter one none count
-pub record TailOf (v : Bytes) (mask shown : ℕ) : Type 0 where
-  pub long : 8 ≤ length v → (mask ≡ mask_at v (length v - 8)) × (shown ≡ bit_and (le64 v (length v - 8)) (mask_at v (length v - 8)))
+-- of a name of four units and more: what t makes of the last four, and the bits that count of these; of a shorter one none count
+pub record TailBy (t : ℕ → ℕ) (v : Bytes) (mask shown : ℕ) : Type 0 where
+  pub long : 8 ≤ length v → (mask ≡ masks_at t v (length v - 8)) × (shown ≡ bit_and (le64 v (length v - 8)) (masks_at t v (length v - 8)))
   pub short : length v < 8 → (mask ≡ 0) × (shown ≡ 0)
+
+-- the same by the masks of a variable's units
+abbrev pub TailOf : Bytes → ℕ → ℕ → Type 0
+TailOf = TailBy unit_mask
+
+-- what a function of units that may be called gives: where it computes t, P holds of t
+abbrev pub OfMask : {F : Type 0} → (F → ℕ → ℕ → Type 0) → F → ((ℕ → ℕ) → Type 0) → Type 0
+OfMask post f P = (t : ℕ → ℕ) → ((u m : ℕ) → post f u m → m ≡ t u) → P t

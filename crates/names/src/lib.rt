@@ -1,12 +1,12 @@
 // Names of variables, entries and triggers: bytes of 16-bit little-endian units.
 #![tactic(auto)]
 
-ghost use Rattle.std.specs.Prelude.{◌≡◌, true, ◌+◌, ◌-◌, ◌%◌, ◌≤◌, ◌<◌, length, take, drop};
+ghost use Rattle.std.specs.Prelude.{◌≡◌, true, ◌+◌, ◌-◌, ◌/◌, ◌%◌, ◌≤◌, ◌<◌, length, take, drop};
 ghost use Rattle.limits.specs.Limits.{namespace_bytes};
 ghost use Rattle.slices.specs.Test.{◌and◌};
 ghost use Rattle.slices.specs.Bytes.{le16, same, pairwise};
-ghost use Rattle.names.specs.Tail.{unit_mask, word, mask_at, TailOf};
-ghost use Rattle.names.specs.Name.{units, each, no_zero, is_name, is_terminated, is_hex_digit, unit_matches, matches, wildcards, is_plain_terminated, name_length, closed, signs_in, plain_unit, OfTest, OfPairTest, unit_near};
+ghost use Rattle.names.specs.Tail.{unit_mask, word, masks_at, OfMask, TailBy, TailOf};
+ghost use Rattle.names.specs.Name.{units, each, is_name, is_terminated, is_hex_digit, unit_matches, matches, wildcards, is_plain_terminated, name_length, closed, signs_in, plain_unit, OfTest, OfPairTest, unit_near};
 
 pub mod units;
 
@@ -24,26 +24,26 @@ pub fn unit(s: &[u8], i: usize) -> u16
     requires { i + 2 ≤ length s.now }
     ensures { result ≡ le16 s.now i }
 {
-    let low = s[i] as u16;
-    let high = s[i + 1] as u16;
-    low + 256 * high
+    u16::from_le_bytes([s[i], s[i + 1]])
 }
 
-// Whether each of the eight units of a block passes the test. No exit before the end: it is compiled to one wide compare.
+// Whether each of the units of a block passes the test. No exit before the end: of a known length it is compiled to wide compares.
 #[inline(always)]
-fn eight<F: Fn(u16) -> bool>(block: &[u8; 16], test: F) -> bool
+pub fn block_passes<const N: usize, F: Fn(u16) -> bool>(block: &[u8; N], test: F) -> bool
     requires { F.IsAlwaysCallable test }
     ensures { OfTest F.post test result (λ t. each t (units block.now)) }
 {
     Units(block).fold(true, |ok, u| ok & test(u))
 }
 
-// Whether no unit is zero: eight at a time, and then one by one.
-fn no_zero(s: &[u8]) -> bool
-    ensures { result ≡ no_zero (units s.now) }
+// Whether each unit passes the test: eight at a time, and then one by one.
+#[inline(always)]
+pub fn each_unit<F: Fn(u16) -> bool>(s: &[u8], test: F) -> bool
+    requires { F.IsAlwaysCallable test }
+    ensures { OfTest F.post test result (λ t. each t (units s.now)) }
 {
     let (blocks, rest) = s.as_chunks::<16>();
-    blocks.iter().all(|block| eight(block, |u| u != 0)) && Units(rest).all(|u| u != 0)
+    blocks.iter().all(|block| block_passes(block, |u| test(u))) && Units(rest).all(|u| test(u))
 }
 
 // How many bytes from the start on, by sixteens, have only units with a bit that '#' has not: then none is zero or '#'. What is behind
@@ -55,7 +55,7 @@ fn clear_length(s: &[u8]) -> usize
     let (blocks, _) = s.as_chunks::<16>();
     let clear = blocks
         .iter()
-        .take_while(|block| eight(*block, |u| u & 0xFFDC != 0));
+        .take_while(|block| block_passes(*block, |u| u & 0xFFDC != 0));
     16 * clear.count()
 }
 
@@ -88,7 +88,7 @@ fn check_name(s: &[u8], signs: bool) -> bool
         return false;
     }
     if signs {
-        return no_zero(s);
+        return each_unit(s, |u| u != 0);
     }
     plain_units(s)
 }
@@ -178,12 +178,11 @@ fn eight_pairs<F: Fn(u16, u16) -> bool>(p: &[u8; 16], v: &[u8; 16], test: F) -> 
 
 // The bits in which an entry's unit must agree with this one to match it: of a hex digit those in which '#' agrees with it, of
 // another unit all.
-fn unit_mask(u: u16) -> usize
-    ensures is { result ≡ unit_mask u }
-    ensures bound { result < 65536 }
+fn unit_mask(u: u16) -> u16
+    ensures { result ≡ unit_mask u }
 {
     if is_hex_digit(u) {
-        return 65535 - (u ^ 0x23) as usize;
+        return 65535 - (u ^ 0x23);
     }
     65535
 }
@@ -197,34 +196,45 @@ pub fn word(a: usize, b: usize, c: usize, d: usize) -> usize
 }
 
 // The masks of the four units from byte i on.
-fn mask_at(v: &[u8], i: usize) -> usize
-    requires { i + 8 ≤ length v.now }
-    ensures { result ≡ mask_at v.now i }
+#[inline(always)]
+fn masks_at<F: Fn(u16) -> u16>(v: &[u8], i: usize, mask: F) -> usize
+    requires { F.IsAlwaysCallable mask × (i + 8 ≤ length v.now) }
+    ensures { OfMask F.post mask (λ t. result ≡ masks_at t v.now i) }
 {
-    let first = unit_mask(unit(v, i));
-    let second = unit_mask(unit(v, i + 2));
-    let third = unit_mask(unit(v, i + 4));
-    let fourth = unit_mask(unit(v, i + 6));
+    let first = usize::from(mask(unit(v, i)));
+    let second = usize::from(mask(unit(v, i + 2)));
+    let third = usize::from(mask(unit(v, i + 4)));
+    let fourth = usize::from(mask(unit(v, i + 6)));
     word(first, second, third, fourth)
 }
 
-// The last four units of a variable's name, for a walk over many entries: their masks, and the bits that count of these.
+// The last four units of a name, for a walk over many others: a mask of each, and the bits that count of these.
 #[derive(Clone, Copy)]
 pub struct Tail {
     pub mask: usize,
     pub shown: usize,
 }
 
-pub fn tail_of(v: &[u8]) -> Tail
-    ensures { TailOf v.now result.mask result.shown }
+// The last four units under the masks that a function makes of them; of a shorter name no bits count.
+#[inline(always)]
+pub fn tail_by<F: Fn(u16) -> u16>(v: &[u8], mask: F) -> Tail
+    requires { F.IsAlwaysCallable mask }
+    ensures { OfMask F.post mask (λ t. TailBy t v.now result.mask result.shown) }
 {
     if v.len() < 8 {
         return Tail { mask: 0, shown: 0 };
     }
     let last = v.len() - 8;
-    let mask = mask_at(v, last);
+    let mask = masks_at(v, last, mask);
     let shown = slices::get64(v, last) & mask;
     Tail { mask, shown }
+}
+
+// The last four units of a variable's name, as entries' names must agree with them to match it.
+pub fn tail_of(v: &[u8]) -> Tail
+    ensures { TailOf v.now result.mask result.shown }
+{
+    tail_by(v, |u| unit_mask(u))
 }
 
 // Whether the first unit is near, of names that are not empty. Where not, the names do not match.
@@ -262,17 +272,19 @@ fn ends_near(p: &[u8], v: &[u8]) -> bool
     unit_near(unit(p, last), unit(v, last))
 }
 
-// Whether as many units match, each '#' looked at: eight at a time, and then one by one.
-fn wild_match(p: &[u8], v: &[u8]) -> bool
-    requires { length p.now ≡ length v.now }
-    ensures { result ≡ matches (units p.now) (units v.now) }
+// Whether each pair of as many units passes the test: eight at a time, and then one by one.
+#[inline(always)]
+pub fn each_pair<F: Fn(u16, u16) -> bool>(p: &[u8], v: &[u8], test: F) -> bool
+    requires callable { F.IsAlwaysCallable test }
+    requires as_many { length p.now / 2 ≡ length v.now / 2 }
+    ensures { OfPairTest F.post test result (λ t. pairwise t (units p.now) (units v.now)) }
 {
     let (owns, own_rest) = p.as_chunks::<16>();
     let (blocks, rest) = v.as_chunks::<16>();
-    owns.iter().zip(blocks).all(|(own, block)| eight_pairs(own, block, |p, u| unit_matches(p, u)))
-        && Units(own_rest)
-            .zip(Units(rest))
-            .all(|(p, u)| unit_matches(p, u))
+    owns.iter()
+        .zip(blocks)
+        .all(|(own, block)| eight_pairs(own, block, |p, u| test(p, u)))
+        && Units(own_rest).zip(Units(rest)).all(|(p, u)| test(p, u))
 }
 
 // How many bytes from the start on, by sixteens, are the same in both and have no '#'. What is behind them decides.
@@ -297,7 +309,7 @@ fn units_match(p: &[u8], v: &[u8]) -> bool
     ensures { result ≡ matches (units p.now) (units v.now) }
 {
     let i = plain_length(p, v);
-    wild_match(&p[i..], &v[i..])
+    each_pair(&p[i..], &v[i..], |p, u| unit_matches(p, u))
 }
 
 // The one comparison of a name with a pattern: an entry's name against a variable's, as many units, each matching. The first and
@@ -365,7 +377,7 @@ pub fn wildcards(s: &[u8]) -> usize
     let (blocks, rest) = s.as_chunks::<16>();
     let in_blocks: usize = blocks
         .iter()
-        .filter(|block| !eight(*block, |u| u != 0x23))
+        .filter(|block| !block_passes(*block, |u| u != 0x23))
         .map(|block| signs(block))
         .sum();
     in_blocks + signs(rest)

@@ -10,10 +10,11 @@ use Rattle.std.proofs.Math.ListN.{length-set}
 use borrow.Author.Tests.{eq-eqb, ne_eqb, eqb-true, eqb-false}
 use Rattle.slices.specs.Test.{◌and◌}
 use Rattle.slices.proofs.TestLaws.{and_left, and_right, and_intro, and_no, and_yes}
-use Rattle.slices.specs.Bytes.{Bytes, le16, pairwise, overwrite}
+use Rattle.slices.specs.Bytes.{Bytes, le16, le16_bytes, pairwise, overwrite}
 use Rattle.slices.proofs.BytesLaws.{pairwise_length}
 use Rattle.slices.proofs.PartLaws.{drop_step}
 use Rattle.slices.proofs.OverwriteLaws.{overwrite_none, overwrite_set}
+use Rattle.slices.proofs.Writes.{two_put}
 use Rattle.names.specs.Name.{units, each, no_zero, is_name, name_length, number_sign, is_hex_digit, unit_matches, matches, wildcards}
 use Rattle.names.proofs.NameLaws.{hex_range, plain_matches, is_name-even}
 use Rattle.names.proofs.TailLaws.{InBytes}
@@ -340,6 +341,12 @@ module _ (p q : Bytes) (i : ℕ) where
       ∙ overwrite_set s i (m % 256) ((m / 256) ∷ r) (omega arith)
       ∙ overwrite_set (set s i (m % 256)) (i + 1) (m / 256) r (rw length-set (omega arith))
       ∙ ap (λ (k : ℕ). overwrite (set (set s i (m % 256)) (i + 1) (m / 256)) k r) n
+
+  -- the same where the unit is written as two bytes at once
+  pub put_unit : (s : Bytes) (m : ℕ) → InBytes p → InBytes q → i + 2 ≤ length p → i + 2 ≤ length q → i + 2 ≤ length s → m ≡ least_of (le16 p i) (le16 q i) → m < 65536
+      → overwrite (overwrite s i (le16_bytes m)) (i + 2) (least_name (drop (i + 2) p) (drop (i + 2) q)) ≡ overwrite s i (least_name (drop i p) (drop i q))
+  put_unit s m hp hq h g l e b =
+      sym (put_step s m hp hq h g l e ∙ ap (λ (t : Bytes). overwrite t (i + 2) (least_name (drop (i + 2) p) (drop (i + 2) q))) (two_put s i m l refl (omega (arith, b))))
 
   -- no whole unit is left
   pub put_end : (s : Bytes) → length p < i + 2 → overwrite s i (least_name (drop i p) (drop i q)) ≡ s

@@ -4,12 +4,12 @@ use Rattle.std.proofs.Common.{sym, ap, ◌∙◌, arith}
 use Rattle.std.proofs.Math.Bool.{true, false}
 use Rattle.std.specs.Int.Bits.{bit_and, and_zero_l, and_zero_r, and_lt}
 use Rattle.std.proofs.Math.Dec.{leb}
-use borrow.Author.Tests.{eqb-true, leb-true, le-leb, lt-leb}
+use borrow.Author.Tests.{eqb-true, leb-true, leb-false, le-leb, lt-leb}
 use Rattle.slices.specs.Bytes.{Bytes, le16, le64}
 use Rattle.names.specs.Name.{number_sign, is_hex_digit}
 use Rattle.names.proofs.NameLaws.{pairs_from, pairs_first, pairs_last}
-use Rattle.names.specs.Tail.{word}
-use Rattle.names.proofs.TailLaws.{InBytes, word_and, word_same, le64_word, unit_most}
+use Rattle.names.specs.Tail.{word, TailBy}
+use Rattle.names.proofs.TailLaws.{InBytes, masked, word_and, word_same, unit_most}
 use Rattle.patterns.specs.Common.{overlap, units_overlap}
 use Rattle.patterns.proofs.CommonLaws.{overlap_cases, overlap_pairs}
 use Rattle.patterns.specs.Literals.{literal_mask, literal_mask_at, literal_mask_of, literals_of}
@@ -41,9 +41,7 @@ literal p i = bit_and (le16 p i) (literal_mask (le16 p i))
 -- ---- four units
 module _ (p : Bytes) (hp : InBytes p) (i : ℕ) (l : i + 8 ≤ length p) where
   literals_at : bit_and (le64 p i) (literal_mask_at p i) ≡ word (literal p i) (literal p (i + 2)) (literal p (i + 4)) (literal p (i + 6))
-  literals_at =
-      ap (λ (n : ℕ). bit_and n (literal_mask_at p i)) (le64_word p i)
-      ∙ word_and _ _ _ _ _ _ _ _ (unit_most p hp i (omega arith)) (unit_most p hp (i + 2) (omega arith)) (unit_most p hp (i + 4) (omega arith)) (mask_most _) (mask_most _) (mask_most _)
+  literals_at = masked literal_mask mask_most p p hp i l
 
   -- those that count of q's too
   shared_at : (q : Bytes)
@@ -90,3 +88,14 @@ module _ (p : Bytes) where
   pub literals_long : 8 ≤ length p → (literal_mask_at p (length p - 8) ≡ literal_mask_of p) × (bit_and (le64 p (length p - 8)) (literal_mask_at p (length p - 8)) ≡ literals_of p)
   unfolding literals_of literal_mask_of
   literals_long h = let e = le-leb 8 (length p) h in (rw e, rw e)
+
+  pub literals_tail : {mask shown : ℕ} → TailBy literal_mask p mask shown → (mask ≡ literal_mask_of p) × (shown ≡ literals_of p)
+  literals_tail {mask} {shown} t = go (leb 8 (length p)) refl
+    where
+      go : (b : Bool) → leb 8 (length p) ≡ b → (mask ≡ literal_mask_of p) × (shown ≡ literals_of p)
+      go true e =
+          let h = leb-true 8 (length p) e in
+          ((t.long h).0 ∙ (literals_long h).0, (t.long h).1 ∙ (literals_long h).1)
+      go false e =
+          let h : length p < 8 = omega (arith, leb-false 8 (length p) e) in
+          ((t.short h).0 ∙ (literals_short h).0, (t.short h).1 ∙ (literals_short h).1)

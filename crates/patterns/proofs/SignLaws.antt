@@ -3,9 +3,10 @@ use Rattle.std.specs.Prelude.{ℕ, zero, suc, ◌+◌, ◌-◌, ◌*◌, ◌/◌
 use Rattle.std.proofs.Common.{sym, ap, ◌∙◌, true≢false, inl, inr, arith, zero-add, drop-drop, eq-eqb, ne_eqb, eqb-true}
 use Rattle.std.proofs.lemmas.Bool.{false≢true}
 use Rattle.std.proofs.Math.Bool.{or-true}
+use Rattle.slices.specs.Test.{◌and◌}
 use Rattle.slices.specs.Bytes.{Bytes, le16, part}
 use Rattle.slices.proofs.TestLaws.{or_cases}
-use Rattle.names.specs.Name.{units, wildcards, number_sign, one_if}
+use Rattle.names.specs.Name.{units, each, wildcards, number_sign, one_if}
 use Rattle.names.proofs.NameLaws.{wildcards_step, wildcards_end, units_later}
 use Rattle.patterns.specs.Signs.{has_sign, EitherSign}
 
@@ -75,6 +76,20 @@ sign_on s i p k = go (has_sign s) refl
     go : (t : Bool) → has_sign s ≡ t → t ≡ true
     go true q = refl
     go false q = absurd (false≢true (sym (sign_off s 0 i (omega arith) refl p q) ∙ k))
+
+-- a unit is '#' if not each is another one
+pub sign_each : (s : Bytes) → not (each (λ u. not (eqb u number_sign)) (units s)) ≡ has_sign s
+unfolding each wildcards ◌and◌
+sign_each s = go (units s)
+  where
+    go : (us : List ℕ) → not (each (λ u. not (eqb u number_sign)) us) ≡ not (eqb (wildcards us) 0)
+    go [] = refl
+    go (u ∷ us) = by (eqb u number_sign) (go us)
+      where
+        by : (b : Bool) → not (each (λ u. not (eqb u number_sign)) us) ≡ not (eqb (wildcards us) 0)
+            → not (not b and each (λ u. not (eqb u number_sign)) us) ≡ not (eqb (one_if b + wildcards us) 0)
+        by true e = sym (ap not (ne_eqb (1 + wildcards us) 0 (λ k. omega arith)))
+        by false e = e ∙ rw zero-add
 
 -- ---- as loops look for it
 

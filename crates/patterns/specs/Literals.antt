@@ -1,9 +1,9 @@
 -- The last four units of a pattern, as a walk over many pairs of patterns compares them: by one word and a mask. Assumes nothing: these are definitions.
-use Rattle.std.specs.Prelude.{ℕ, ◌+◌, ◌-◌, cond, length, eqb, leb}
+use Rattle.std.specs.Prelude.{ℕ, ◌-◌, cond, length, eqb, leb}
 use Rattle.std.specs.Int.Bits.{bit_and}
-use Rattle.slices.specs.Bytes.{Bytes, le16, le64}
+use Rattle.slices.specs.Bytes.{Bytes, le64}
 use Rattle.names.specs.Name.{number_sign}
-use Rattle.names.specs.Tail.{word}
+use Rattle.names.specs.Tail.{masks_at}
 
 -- the bits of a pattern's unit that count: of '#' none, of another unit all
 unfoldable pub literal_mask : ℕ → ℕ
@@ -11,7 +11,7 @@ literal_mask u = cond (eqb u number_sign) 0 65535
 
 -- the masks of the four units from byte i on
 abbrev pub literal_mask_at : Bytes → ℕ → ℕ
-literal_mask_at p i = word (literal_mask (le16 p i)) (literal_mask (le16 p (i + 2))) (literal_mask (le16 p (i + 4))) (literal_mask (le16 p (i + 6)))
+literal_mask_at = masks_at literal_mask
 
 -- of a pattern of four units and more the masks of the last four; of a shorter one no bits count
 unfoldable pub literal_mask_of : Bytes → ℕ

@@ -4,6 +4,7 @@ use Rattle.slices.proofs.TestLaws.{first_fails, first_holds}
 use Rattle.names.specs.Name.{units, each, no_zero, plain_unit}
 use Rattle.names.proofs.NameLaws.{name_tests}
 use mathlib.Core.Bool.{not}
+use Rattle.std.proofs.Common.{rules, eqb}
 use Rattle.names.proofs.check_name.Goals as goal
 
 pub returns-then-not-name_length : goal.returns-then-not-name_length
@@ -16,7 +17,7 @@ returns-then-signs c =
     let a = c.args in
     let s = a.s.now in
     first_holds _ (name_tests s a.signs) c.name_length.ensures (ap not c.if-not-name_length.false)
-    (c.no_zero.ensures ∙ sym (ap (λ (b : Bool). cond b (no_zero (units s)) (each plain_unit (units s))) c.if-signs.true))
+    (c.each_unit.ensures (λ u. not (eqb u 0)) (λ u b h. search rules) ∙ sym (ap (λ (b : Bool). cond b (no_zero (units s)) (each plain_unit (units s))) c.if-signs.true))
 
 pub returns : goal.returns
 returns c =

@@ -1,7 +1,7 @@
-use mathlib.Core.Path.{refl}
+use native.Mathlib.Omega.{arith}
 use Rattle.slices.specs.Bytes.{le16}
 use Rattle.names.proofs.unit.Goals as goal
 
 pub returns : goal.returns
 unfolding le16
-returns c = refl
+returns c = omega arith

@@ -1,4 +1,3 @@
-use native.Mathlib.Omega.{arith}
 use borrow.Author.Tests.{eq-eqb, ne_eqb}
 use Rattle.names.specs.Name.{number_sign}
 use Rattle.patterns.specs.Literals.{literal_mask}
@@ -6,8 +5,8 @@ use Rattle.patterns.proofs.literal_mask.Goals as goal
 
 pub returns-then-u-eq35 : goal.returns-then-u-eq35
 unfolding literal_mask
-returns-then-u-eq35 c = record { is = rw (eq-eqb _ number_sign c.if-u-eq35.true); bound = omega arith }
+returns-then-u-eq35 c = rw (eq-eqb _ number_sign c.if-u-eq35.true)
 
-pub returns : goal.returns
+pub returns-else-u-eq35 : goal.returns-else-u-eq35
 unfolding literal_mask
-returns c = record { is = rw (ne_eqb _ number_sign c.if-u-eq35.false); bound = omega arith }
+returns-else-u-eq35 c = rw (ne_eqb _ number_sign c.if-u-eq35.false)

@@ -2,7 +2,7 @@ use Rattle.std.proofs.Common.{rules, refl, ◌∙◌, ◌&&◌, true}
 use Rattle.std.proofs.lemmas.Iterator.Consumers.{fold_from_yields_List, YieldsList-from_first}
 use Rattle.names.specs.Name.{units}
 use Rattle.names.proofs.NameLaws.{fold_each}
-use Rattle.names.proofs.eight.Goals as goal
+use Rattle.names.proofs.block_passes.Goals as goal
 
 pub returns : goal.returns
 returns g c t h =
