@@ -1,107 +1,85 @@
--- A line is made by putting one text behind the other, and what itoa makes of a number is `decimal`. Assumes nothing.
-use mathlib.Core.Path.{◌≡◌, refl, sym, ap, subst, ◌∙◌}
-use mathlib.Core.List.{[], ◌∷◌, ◌++◌, append_assoc}
-use mathlib.Core.Bool.{Bool, true, false}
-use lib.Dec.{ltb}
-use Prim.Native.Nat.{ℕ, zero, suc, ◌+◌, ◌/◌, ◌%◌, ◌^◌, ◌≤◌, ◌<◌}
-use native.Mathlib.Omega.{arith}
-use native.Mathlib.Nat.{pow-suc}
-use borrow.Author.Tests.{eq-eqb, ne_eqb, lt-ltb, le-ltb, ltb-true, ltb-false}
-use lib.ListN.{length, take, drop, length-append, length-take}
-use lib.Seq.{take_at}
+-- What std prints of a number is `decimal`, and the parts of a line, printed one behind the other, are the line. Assumes nothing.
+use Rattle.std.specs.Prelude.{ℕ, suc, ◌^◌, ◌<◌, ◌≡◌, [], ◌++◌, Bool, true, false, cond, length, eqb, ◌≤◌, Option, Some, None, IfSome, Result, OnOk}
+use Rattle.std.proofs.Common.{arith, refl, sym, ap, ◌∙◌, append_assoc, length-append}
+use borrow.Author.Tests.{eq-eqb, ne_eqb, lt-ltb, le-ltb}
+use Rattle.std.specs.Fmt.{decimal as printed, WritesText}
+use Rattle.std.specs.Io.KnownBytes.{Appends}
+use Rattle.std.proofs.lemmas.Fmt.{AppendsLastDigit, decimal_from_appends, length-decimal-le, contents_after_writes}
+use Rattle.std.proofs.lemmas.Result.{on_ok_weaker}
+use Rattle.arrayvec.specs.ArrayString.{ArrayString}
 use Rattle.limits.specs.Limits.{whole_namespace_rank}
-use Rattle.slices.specs.Bytes.{Bytes, overwrite}
-use Rattle.slices.proofs.OverwriteLaws.{length_overwrite}
-use Rattle.std.specs.Fmt.{decimal as printed}
-use Rattle.std.proofs.lemmas.Fmt.{decimal_digit, decimal_step, length-decimal-le}
+use Rattle.slices.specs.Bytes.{Bytes}
 use Rattle.reader.specs.declared.Verdict.{Verdict}
 use Rattle.reader.specs.declared.Listing.{Listing}
-use Rattle.list_dump.specs.Lines.{ascii, digit, decimal_within, decimal, field, marks, entry_line, closing_line, IsPrefixLen, Put}
+use Rattle.list_dump.specs.Lines.{ascii, decimal_within, decimal, field, marks, entry_line, closing_line}
 
--- a text copied into the line is put there
-pub put_copied : {a : Bytes} (b : Bytes) (n : ℕ) (t : Bytes) → n + length t ≤ length b → a ≡ overwrite b n t → Put b n t a (n + length t)
-unfolding overwrite
-put_copied b n t h e =
-    let l : length (take n b ++ t) ≡ n + length t = simp (length-append, length-take) (omega arith) in (
-      refl,
-      rw e (length_overwrite b n t h),
-      rw e (take_at (take n b ++ t) (drop (n + length t) b) (n + length t) l),
-    )
-
--- the same text by another name
-pub put_same : (a b : Bytes) (n r : ℕ) (t u : Bytes) → t ≡ u → Put b n t a r → Put b n u a r
-put_same a b n r t u e p = subst (λ (x : Bytes). Put b n x a r) e p
-
--- what std prints of a number with at most m digits
-last_digit : (m n : ℕ) → n < 10 → printed n ≡ decimal_within (suc m) n
+last_digits : AppendsLastDigit decimal_within
 unfolding decimal_within
-last_digit m n h = rw (lt-ltb n 10 h) (decimal_digit n h)
+last_digits = record {
+  one = λ k n h. rw (lt-ltb n 10 h) refl;
+  more = λ k n h. rw (le-ltb n 10 h) refl;
+}
 
-more_digits : (m n : ℕ) → 10 ≤ n → n < 2 ^ 64 → printed (n / 10) ≡ decimal_within m (n / 10) → printed n ≡ decimal_within (suc m) n
-unfolding decimal_within
-more_digits m n h k e = rw (le-ltb n 10 h) (decimal_step n h k ∙ ap (λ (l : Bytes). l ++ (digit (n % 10) ∷ [])) e)
-
+-- what std prints of a number with at most m + 1 digits
 pub decimal_is : (m n : ℕ) → n < 10 ^ suc m → n < 2 ^ 64 → printed n ≡ decimal_within (suc m) n
-decimal_is zero n h k = last_digit zero n (omega arith)
-decimal_is (suc m) n h k =
-    let p = pow-suc 10 (suc m) in
-    go (ltb n 10) refl (decimal_is m (n / 10) (omega arith) (omega arith))
-  where
-    go : (b : Bool) → ltb n 10 ≡ b → printed (n / 10) ≡ decimal_within (suc m) (n / 10) → printed n ≡ decimal_within (suc (suc m)) n
-    go true e f = last_digit (suc m) n (ltb-true n 10 e)
-    go false e f = more_digits (suc m) n (ltb-false n 10 e) k f
+decimal_is m n h k = sym (decimal_from_appends decimal_within last_digits (suc m) n k (length-decimal-le (suc m) n (omega arith) h k))
 
--- what was made of a number was put
-pub put_decimal : (a b t : Bytes) (n v r : ℕ) → v < 2 ^ 64 → t ≡ printed v → Put b n t a r → Put b n (decimal v) a r × (r ≤ n + 20)
-put_decimal a b t n v r h e p =
-    let l = length-decimal-le 20 v (omega arith) (omega arith) h in
-    (put_same a b n r t (decimal v) (e ∙ decimal_is 19 v (omega arith) h) p, omega (arith, p.0, ap length e))
-
--- one text was put behind the other
-pub put_two : (a b c t u : Bytes) (n m r : ℕ) → Put b n t a m → Put a m u c r → Put b n (t ++ u) c r
-put_two a b c t u n m r p q = (
-  rw (length-append t u) (omega (arith, p.0, q.0)),
-  q.1 ∙ p.1,
-  q.2 ∙ rw p.2 (append_assoc (take n b) t u),
-)
-
--- all that was put into a line from its start on
-pub put_all : (a b t : Bytes) (r : ℕ) → Put b 0 t a r → r ≤ length b → (take r a ≡ t) × IsPrefixLen r a
-put_all a b t r p h = let e : r ≡ length t = omega (arith, p.0) in (p.2, (rw p.1 h, e ∙ ap length (sym p.2)))
+number_printed : (n : ℕ) → n < 2 ^ 64 → printed n ≡ decimal n
+number_printed n h = decimal_is 19 n (omega arith) h
 
 -- the marks of an entry, by whether it is for a whole namespace
-pub marks_all : (rank : ℕ) → rank ≡ whole_namespace_rank → ascii " marks all" ≡ ascii " marks " ++ marks rank
+pub marks_all : (rank : ℕ) → rank ≡ whole_namespace_rank → ascii "all" ≡ marks rank
 unfolding marks
 marks_all rank e = rw (eq-eqb rank whole_namespace_rank e) refl
 
-pub marks_number : (rank : ℕ) → (rank ≡ whole_namespace_rank → ⊥) → field " marks " rank ≡ ascii " marks " ++ marks rank
+pub marks_number : (rank : ℕ) → rank < 2 ^ 64 → (rank ≡ whole_namespace_rank → ⊥) → printed rank ≡ marks rank
 unfolding marks
-marks_number rank n = rw (ne_eqb rank whole_namespace_rank n) refl
+marks_number rank h n = rw (ne_eqb rank whole_namespace_rank n) (number_printed rank h)
 
--- THE LINE OF AN ENTRY, put in five parts
-pub entry_line_lem : (l₀ l₁ l₂ l₃ l₄ l₅ : Bytes) (a b c d r index : ℕ) (l : Listing) → r ≤ length l₀ → Put l₀ 0 (decimal index) l₁ a → Put l₁ a (field " size " l.size) l₂ b
-    → Put l₂ b (field " lock " l.lock) l₃ c → Put l₃ c (ascii " marks " ++ marks l.rank) l₄ d → Put l₄ d (ascii "\n") l₅ r
-    → (take r l₅ ≡ entry_line index l) × IsPrefixLen r l₅
+-- THE LINE OF AN ENTRY, in its parts
+pub entry_printed : (i : ℕ) (l : Listing) → i < 2 ^ 64 → l.size < 2 ^ 64 → l.lock < 2 ^ 64
+    → printed i ++ (ascii " size " ++ (printed l.size ++ (ascii " lock " ++ (printed l.lock ++ (ascii " marks " ++ (marks l.rank ++ ascii "\n")))))) ≡ entry_line i l
 unfolding entry_line
-entry_line_lem l₀ l₁ l₂ l₃ l₄ l₅ a b c d r index l h p q s t u =
-    let two = put_two l₁ l₀ l₂ (decimal index) (field " size " l.size) 0 a b p q in
-    let three = put_two l₂ l₀ l₃ (decimal index ++ field " size " l.size) (field " lock " l.lock) 0 b c two s in
-    let four = put_two l₃ l₀ l₄ (decimal index ++ field " size " l.size ++ field " lock " l.lock) (ascii " marks " ++ marks l.rank) 0 c d three t in
-    let five = put_two l₄ l₀ l₅ (decimal index ++ field " size " l.size ++ field " lock " l.lock ++ (ascii " marks " ++ marks l.rank)) (ascii "\n") 0 d r four u in
-    put_all l₅ l₀ (entry_line index l) r five h
+entry_printed i l h j k = rw (number_printed i h, number_printed l.size j, number_printed l.lock k) (simp append_assoc)
 
--- THE LAST LINE, put in two parts or in three
-pub bad_line : (l₀ l₁ l₂ : Bytes) (a r : ℕ) (v : Verdict) → v.whole ≡ false → r ≤ length l₀ → Put l₀ 0 (field "bad at " v.bytes) l₁ a → Put l₁ a (ascii "\n") l₂ r
-    → (take r l₂ ≡ closing_line v) × IsPrefixLen r l₂
+-- THE LAST LINE, in its parts
+pub bad_printed : (v : Verdict) → v.bytes < 2 ^ 64 → v.whole ≡ false → ascii "bad at " ++ (printed v.bytes ++ ascii "\n") ≡ closing_line v
 unfolding closing_line
-bad_line l₀ l₁ l₂ a r v e h p q =
-    let two = put_two l₁ l₀ l₂ (field "bad at " v.bytes) (ascii "\n") 0 a r p q in
-    put_all l₂ l₀ (closing_line v) r (put_same l₂ l₀ 0 r _ (closing_line v) (rw e refl) two) h
+bad_printed v h e = rw (e, number_printed v.bytes h) (simp append_assoc)
 
-pub good_line : (l₀ l₁ l₂ l₃ : Bytes) (a b r : ℕ) (v : Verdict) → v.whole ≡ true → r ≤ length l₀ → Put l₀ 0 (field "entries " v.entries) l₁ a
-    → Put l₁ a (field " bytes " v.bytes) l₂ b → Put l₂ b (ascii "\n") l₃ r → (take r l₃ ≡ closing_line v) × IsPrefixLen r l₃
+pub good_printed : (v : Verdict) → v.entries < 2 ^ 64 → v.bytes < 2 ^ 64 → v.whole ≡ true
+    → ascii "entries " ++ (printed v.entries ++ (ascii " bytes " ++ (printed v.bytes ++ ascii "\n"))) ≡ closing_line v
 unfolding closing_line
-good_line l₀ l₁ l₂ l₃ a b r v e h p q s =
-    let two = put_two l₁ l₀ l₂ (field "entries " v.entries) (field " bytes " v.bytes) 0 a b p q in
-    let three = put_two l₂ l₀ l₃ (field "entries " v.entries ++ field " bytes " v.bytes) (ascii "\n") 0 b r two s in
-    put_all l₃ l₀ (closing_line v) r (put_same l₃ l₀ 0 r _ (closing_line v) (rw e refl) three) h
+good_printed v h k e = rw (e, number_printed v.entries h, number_printed v.bytes k) (simp append_assoc)
+
+-- EACH LINE FITS in the buffer of 128 bytes
+length_decimal : (n : ℕ) → n < 2 ^ 64 → length (decimal n) ≤ 20
+length_decimal n h = rw (number_printed n h) at (length-decimal-le 20 n (omega arith) (omega arith) h)
+
+length_marks : (rank : ℕ) → rank < 2 ^ 64 → length (marks rank) ≤ 20
+unfolding marks
+length_marks rank h = go (eqb rank whole_namespace_rank)
+  where
+    go : (b : Bool) → length (cond b (ascii "all") (decimal rank)) ≤ 20
+    go true = omega arith
+    go false = length_decimal rank h
+
+pub entry_fits : (i : ℕ) (l : Listing) → i < 2 ^ 64 → l.size < 2 ^ 64 → l.lock < 2 ^ 64 → l.rank < 2 ^ 64 → length (entry_line i l) ≤ 128
+unfolding entry_line
+entry_fits i l h j k m = simp length-append (omega (arith, length_decimal i h, length_decimal l.size j, length_decimal l.lock k, length_marks l.rank m))
+
+pub closing_fits : (v : Verdict) → v.entries < 2 ^ 64 → v.bytes < 2 ^ 64 → length (closing_line v) ≤ 128
+unfolding closing_line
+closing_fits v h k = go v.whole
+  where
+    go : (b : Bool) → length (cond b (field "entries " v.entries ++ field " bytes " v.bytes ++ ascii "\n") (field "bad at " v.bytes ++ ascii "\n")) ≤ 128
+    go true = simp length-append (omega (arith, length_decimal v.entries h, length_decimal v.bytes k))
+    go false = simp length-append (omega (arith, length_decimal v.bytes k))
+
+-- THE BUFFER: what was written into an empty one is the line, if it is known which bytes this prints, and so the writer has the line
+pub buffered : {E : Type 0} (r : Result (Unit {0}) E) (o a b : Option Bytes) (s t : ArrayString) (x : Bytes) → s.bytes ≡ [] → WritesText (λ v l w. w.bytes ≡ v.bytes ++ l) s o t → x ≡ t.bytes
+    → OnOk r (Appends a b x) → OnOk r (IfSome o (Appends a b))
+buffered r None a b s t x e w k q = on_ok_weaker r (λ _. tt) q
+buffered r (Some l) a b s t x e w k q =
+    let z : x ≡ l = k ∙ contents_after_writes _ (λ v. v.bytes) (λ v m u p. p) s l t w ∙ ap (λ y. y ++ l) e in
+    rw z at q

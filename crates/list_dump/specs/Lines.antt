@@ -1,5 +1,5 @@
 -- The lines that the program writes, as bytes. Assumes nothing: these are definitions.
-use Rattle.std.specs.Prelude.{ℕ, zero, suc, ◌+◌, ◌/◌, ◌%◌, ◌≤◌, [], ◌∷◌, ◌++◌, cond, ◌≡◌, length, take, eqb, ltb}
+use Rattle.std.specs.Prelude.{ℕ, zero, suc, ◌+◌, ◌/◌, ◌%◌, [], ◌∷◌, ◌++◌, cond, eqb, ltb}
 use Prim.Native.Char.{code}
 use Prim.Native.String.{String, [] as end, ◌∷◌ as ◌then◌}
 use Rattle.limits.specs.Limits.{whole_namespace_rank}
@@ -43,11 +43,3 @@ closing_line v =
     cond v.whole
     (field "entries " v.entries ++ field " bytes " v.bytes ++ ascii "\n")
     (field "bad at " v.bytes ++ ascii "\n")
-
--- text was put behind the first n bytes of a line, which then begins with r bytes that are known
-abbrev pub Put : Bytes → ℕ → Bytes → Bytes → ℕ → Type 0
-Put before n text after r = (r ≡ n + length text) × (length after ≡ length before) × (take r after ≡ take n before ++ text)
-
--- xs has n bytes to begin with
-abbrev pub IsPrefixLen : ℕ → Bytes → Type 0
-IsPrefixLen n xs = (n ≤ length xs) × (n ≡ length (take n xs))

@@ -6,14 +6,14 @@
 // what the last line says.
 #![tactic(auto)]
 
-ghost use Rattle.std.specs.Prelude.{◌≡◌, ◌++◌, ◌+◌, ◌<◌, ◌≤◌, List, length, take, IfOk, IfErr, OnOk, IfSome, []};
+ghost use Rattle.std.specs.Prelude.{◌≡◌, ◌++◌, ◌<◌, ◌≤◌, List, length, IfOk, IfErr, OnOk, IfSome, Some, []};
 ghost use Rattle.std.specs.Io.KnownBytes.{Appends, Consumes};
 ghost use Rattle.limits.specs.Limits.{max_piece};
 ghost use Rattle.slices.specs.Bytes.{Bytes};
 ghost use Rattle.reader.specs.declared.Listing.{Listing};
 ghost use Rattle.reader.specs.Pieces.{HandsOut};
 ghost use Rattle.reader.specs.HasRead.{HasRead};
-ghost use Rattle.list_dump.specs.Lines.{ascii, decimal, marks, entry_line, closing_line, IsPrefixLen, Put};
+ghost use Rattle.list_dump.specs.Lines.{marks, entry_line, closing_line};
 ghost use Rattle.list_dump.specs.Runs.{listing_lines, entry_lines, dump_lines, Took, IsDone, AfterTurn, OnInput};
 
 use arrayvec::ArrayString;
@@ -28,73 +28,48 @@ const LINE: usize = 128;
 // The most bytes that are read at once.
 const PIECE: usize = 4096;
 
-// Puts text behind the first n bytes of a line, and answers how many there are then.
-fn put(line: &mut [u8], n: usize, text: &[u8]) -> usize
-    requires { n + length text.now ≤ length line.old }
-    ensures { Put line.old n text.now line.new result }
-{
-    slices::copy_in(line, n, text);
-    n + text.len()
-}
+// The marks of an entry, by its rank: the number of '#' in its name, or `all` where it is for a whole namespace.
+#[derive(Drop)]
+struct Marks(u32);
 
-// A number in decimal digits, likewise.
-fn put_number(line: &mut [u8], n: usize, value: u64) -> usize
-    requires { n + 20 ≤ length line.old }
-    ensures put { Put line.old n (decimal value) line.new result }
-    ensures bound { result ≤ n + 20 }
-{
-    let mut digits = itoa::Buffer::new();
-    put(line, n, digits.format(value).as_bytes())
-}
+impl fmt::Display for Marks {
+    ghost output = { λ m. Some (marks m.0) };
 
-// A word and a number behind it.
-fn put_field(line: &mut [u8], n: usize, word: &[u8], value: u64) -> usize
-    requires { n + length word.now + 20 ≤ length line.old }
-    ensures put { Put line.old n (word.now ++ decimal value) line.new result }
-    ensures bound { result ≤ n + length word.now + 20 }
-{
-    let m = put(line, n, word);
-    put_number(line, m, value)
-}
-
-// The marks of an entry: the number of '#' in its name, or `all` where it is for a whole namespace.
-fn put_marks(line: &mut [u8], n: usize, rank: u32) -> usize
-    requires { n + 27 ≤ length line.old }
-    ensures put { Put line.old n (ascii " marks " ++ marks rank) line.new result }
-    ensures bound { result ≤ n + 27 }
-{
-    if rank as usize == limits::WHOLE_NAMESPACE_RANK {
-        return put(line, n, b" marks all");
+    fn fmt<W: fmt::Write>(&self, f: &mut fmt::Formatter<W>) -> fmt::Result {
+        if self.0 as usize == limits::WHOLE_NAMESPACE_RANK {
+            return f.write_str("all");
+        }
+        write!(f, "{}", self.0)
     }
-    put_field(line, n, b" marks ", rank as u64)
 }
 
-// The line of an entry, from the start of line on; answers its length.
-fn put_entry(line: &mut [u8], index: u64, listing: Listing) -> usize
-    requires { length line.old ≡ 128 }
-    ensures text { take result line.new ≡ entry_line index listing }
-    ensures counts { IsPrefixLen result line.new }
-{
-    let a = put_number(line, 0, index);
-    let b = put_field(line, a, b" size ", listing.size as u64);
-    let c = put_field(line, b, b" lock ", listing.lock as u64);
-    let d = put_marks(line, c, listing.rank);
-    put(line, d, b"\n")
-}
+// The line of an entry: its place in the dump, and what is listed of it.
+#[derive(Drop)]
+struct EntryLine(u64, Listing);
 
-// The last line, likewise.
-fn put_closing(line: &mut [u8], v: Verdict) -> usize
-    requires { length line.old ≡ 128 }
-    ensures text { take result line.new ≡ closing_line v }
-    ensures counts { IsPrefixLen result line.new }
-{
-    if !v.whole {
-        let n = put_field(line, 0, b"bad at ", v.bytes as u64);
-        return put(line, n, b"\n");
+impl fmt::Display for EntryLine {
+    ghost output = { λ e. Some (entry_line e.0 e.1) };
+
+    fn fmt<W: fmt::Write>(&self, f: &mut fmt::Formatter<W>) -> fmt::Result {
+        let EntryLine(index, Listing { size, lock, rank }) = *self;
+        writeln!(f, "{index} size {size} lock {lock} marks {}", Marks(rank))
     }
-    let n = put_field(line, 0, b"entries ", v.entries as u64);
-    let n = put_field(line, n, b" bytes ", v.bytes as u64);
-    put(line, n, b"\n")
+}
+
+// The last line: how many entries there are and how many bytes they take, or where the first bad one begins.
+#[derive(Drop)]
+struct ClosingLine(Verdict);
+
+impl fmt::Display for ClosingLine {
+    ghost output = { λ c. Some (closing_line c.0) };
+
+    fn fmt<W: fmt::Write>(&self, f: &mut fmt::Formatter<W>) -> fmt::Result {
+        let Verdict { entries, bytes, .. } = self.0;
+        if !self.0.whole {
+            return writeln!(f, "bad at {bytes}");
+        }
+        writeln!(f, "entries {entries} bytes {bytes}")
+    }
 }
 
 // What failed, with the system's reason.
@@ -123,22 +98,29 @@ impl fmt::Display for Failure {
     }
 }
 
+// Writes a line at once. Each line here fits in the buffer (`entry_fits`, `closing_fits`); one that did not would be written part by part.
+fn write_line<W: Write, L: fmt::Display>(output: &mut W, line: &L) -> io::Result<()>
+    ensures { OnOk result (IfSome (L.output line.now) (Appends (W.contents output.old) (W.contents output.new))) }
+{
+    let mut text = ArrayString::<LINE>::new();
+    match write!(text, "{line}") {
+        Ok(()) => output.write_all(text.as_str().as_bytes()),
+        Err(_) => write!(output, "{line}"),
+    }
+}
+
 // Writes the line of an entry.
 fn write_entry<W: Write>(output: &mut W, index: u64, listing: Listing) -> io::Result<()>
     ensures { OnOk result (Appends (W.contents output.old) (W.contents output.new) (entry_line index listing)) }
 {
-    let mut line = [0u8; LINE];
-    let n = put_entry(&mut line, index, listing);
-    output.write_all(&line[..n])
+    write_line(output, &EntryLine(index, listing))
 }
 
 // Writes the last line.
 fn write_closing<W: Write>(output: &mut W, v: Verdict) -> io::Result<()>
     ensures { OnOk result (Appends (W.contents output.old) (W.contents output.new) (closing_line v)) }
 {
-    let mut line = [0u8; LINE];
-    let n = put_closing(&mut line, v);
-    output.write_all(&line[..n])
+    write_line(output, &ClosingLine(v))
 }
 
 // Writes the lines of the good entries from byte from of the dump on, of which the first is entry index.
