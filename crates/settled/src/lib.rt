@@ -15,6 +15,7 @@ ghost use Rattle.rules.specs.Settled.{lock_holds_in, settled_in};
 ghost use Rattle.settled.specs.Prepared.{Prepared, Searched};
 
 use entry::{LockRule, Trigger};
+use policy::Entries;
 use stores::Ends;
 
 // The namespace that stands at a place of an entry.
@@ -83,7 +84,12 @@ fn settled<'a>(
     requires { Prepared policy.now count entry_ends.now × Searched nv.now vol.now ends in_nv.now in_vol.now }
     ensures { result ≡ settled_in links (chosen (entries_of policy.now)) (lookup nv.now vol.now) (variable namespace.now name.now) }
 {
-    let Some(chosen) = policy::choose(policy, count, entry_ends, namespace, name) else {
+    let entries = Entries {
+        bytes: policy,
+        count,
+        ends: entry_ends,
+    };
+    let Some(chosen) = policy::choose(entries, namespace, name) else {
         return false;
     };
     let at = chosen.at;
