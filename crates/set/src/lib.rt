@@ -28,6 +28,7 @@ ghost use Rattle.set.specs.Decided.{decided_by};
 ghost use Rattle.set.specs.Writable.{found_in, Writable};
 
 use entry::{Entry, LockRule, Trigger};
+use policy::Entries;
 use rules::{Change, Ground, Refusal, Report};
 use status::Status;
 use store::Found;
@@ -321,7 +322,12 @@ fn report<'a>(
     if !enabled {
         return no_report();
     }
-    let Some(chosen) = policy::choose(policy, known.count, entry_ends, namespace, name) else {
+    let entries = Entries {
+        bytes: policy,
+        count: known.count,
+        ends: entry_ends,
+    };
+    let Some(chosen) = policy::choose(entries, namespace, name) else {
         return no_report();
     };
     let at = chosen.at;

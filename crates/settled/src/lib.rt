@@ -12,10 +12,10 @@ ghost use Rattle.policy.specs.Choice.{chosen};
 ghost use Rattle.stores.specs.Pair.{lookup};
 ghost use Rattle.rules.specs.Set.{exists, holds_value};
 ghost use Rattle.rules.specs.Settled.{lock_holds_in, settled_in};
-ghost use Rattle.settled.specs.Prepared.{Prepared};
 
 use entry::{LockRule, Trigger};
 use noted::Notes;
+use policy::Entries;
 use stores::Stores;
 
 // The namespace that stands at a place of an entry.
@@ -29,14 +29,14 @@ fn namespace_at(e: &[u8], at: usize) -> [u8; 16]
 }
 
 // Whether the variable exists.
-fn variable_exists<'a>(notes: Notes<'a>, namespace: &[u8; 16], name: &[u8]) -> bool
+fn variable_exists(notes: Notes<'_>, namespace: &[u8; 16], name: &[u8]) -> bool
     ensures { result ≡ exists (lookup notes.entry.stores.nv.now notes.entry.stores.vol.now (variable namespace.now name.now)) }
 {
     stores::is_somewhere(notes.locate(namespace, name))
 }
 
 // Whether the trigger of an entry holds the Value (RULES.md, 5).
-fn trigger_holds<'a>(e: &[u8], trigger: Trigger, notes: Notes<'a>) -> bool
+fn trigger_holds(e: &[u8], trigger: Trigger, notes: Notes<'_>) -> bool
     requires { trigger.namespace ≡ trigger_namespace_at }
     ensures { result ≡ holds_value (lookup notes.entry.stores.nv.now notes.entry.stores.vol.now (variable
         (part trigger.namespace (trigger.namespace + 16) e.now)
@@ -51,28 +51,23 @@ fn trigger_holds<'a>(e: &[u8], trigger: Trigger, notes: Notes<'a>) -> bool
 
 // Whether the variable is settled, where at most so many links are followed: an entry is chosen for it, and the lock of that entry holds.
 #[cycle(lock_holds_settled)]
-fn settled<'a>(
-    policy: &[u8],
-    entry_ends: &[u16; policy::ENTRIES],
-    count: usize,
-    notes: Notes<'a>,
+fn settled(
+    entries: Entries<'_>,
+    notes: Notes<'_>,
     namespace: &[u8; 16],
     name: &[u8],
     links: usize,
 ) -> bool
-    requires { Prepared policy.now count entry_ends.now }
-    ensures { result ≡ settled_in links (chosen (entries_of policy.now)) (lookup notes.entry.stores.nv.now notes.entry.stores.vol.now) (variable namespace.now name.now) }
+    ensures { result ≡ settled_in links (chosen (entries_of entries.entry.bytes.now)) (lookup notes.entry.stores.nv.now notes.entry.stores.vol.now) (variable namespace.now name.now) }
 {
-    let Some(chosen) = policy::choose(policy, count, entry_ends, namespace, name) else {
+    let Some(chosen) = policy::choose(entries, namespace, name) else {
         return false;
     };
     let at = chosen.at;
-    let end = at + slices::get16(policy, at + limits::SIZE_AT);
+    let end = at + slices::get16(entries.bytes, at + limits::SIZE_AT);
     lock_holds(
-        &policy[at..end],
-        policy,
-        entry_ends,
-        count,
+        &entries.bytes[at..end],
+        entries,
         notes,
         namespace,
         name,
@@ -83,18 +78,16 @@ fn settled<'a>(
 // Whether the lock of the entry e, which is chosen for the variable, holds: by its kind, and of type 3, where a link is left and the trigger holds the Value, by
 // whether the trigger's variable is settled with one link fewer.
 #[cycle(lock_holds_settled)]
-fn lock_holds<'a>(
+fn lock_holds(
     e: &[u8],
-    policy: &[u8],
-    entry_ends: &[u16; policy::ENTRIES],
-    count: usize,
-    notes: Notes<'a>,
+    entries: Entries<'_>,
+    notes: Notes<'_>,
     namespace: &[u8; 16],
     name: &[u8],
     links: usize,
 ) -> bool
-    requires { (well_formed e.now ≡ true) × Prepared policy.now count entry_ends.now }
-    ensures { result ≡ lock_holds_in links (chosen (entries_of policy.now)) (lookup notes.entry.stores.nv.now notes.entry.stores.vol.now) e.now (variable namespace.now name.now) }
+    requires { well_formed e.now ≡ true }
+    ensures { result ≡ lock_holds_in links (chosen (entries_of entries.entry.bytes.now)) (lookup notes.entry.stores.nv.now notes.entry.stores.vol.now) e.now (variable namespace.now name.now) }
 {
     match entry::lock_of(e) {
         LockRule::NoLock => false,
@@ -109,41 +102,22 @@ fn lock_holds<'a>(
             }
             let its_namespace = namespace_at(e, trigger.namespace);
             let its_name = slices::part(e, trigger.name, trigger.name_end);
-            settled(
-                policy,
-                entry_ends,
-                count,
-                notes,
-                &its_namespace,
-                its_name,
-                links - 1,
-            )
+            settled(entries, notes, &its_namespace, its_name, links - 1)
         }
     }
 }
 
 // Whether the variable is settled, over sound stores and a valid policy record.
-pub fn is_settled<'a>(
-    policy: &[u8],
-    entry_ends: &[u16; policy::ENTRIES],
-    count: usize,
-    stores: Stores<'a>,
+pub fn is_settled(
+    entries: Entries<'_>,
+    stores: Stores<'_>,
     namespace: &[u8; 16],
     name: &[u8],
 ) -> bool
-    requires { Prepared policy.now count entry_ends.now }
-    ensures { result ≡ settled_in max_links (chosen (entries_of policy.now)) (lookup stores.entry.nv.now stores.entry.vol.now) (variable namespace.now name.now) }
+    ensures { result ≡ settled_in max_links (chosen (entries_of entries.entry.bytes.now)) (lookup stores.entry.nv.now stores.entry.vol.now) (variable namespace.now name.now) }
 {
     let mut in_nv = noted::none();
     let mut in_vol = noted::none();
     let notes = Notes::new(stores, &mut in_nv, &mut in_vol);
-    settled(
-        policy,
-        entry_ends,
-        count,
-        notes,
-        namespace,
-        name,
-        limits::MAX_LINKS,
-    )
+    settled(entries, notes, namespace, name, limits::MAX_LINKS)
 }
