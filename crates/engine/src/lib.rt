@@ -18,7 +18,7 @@ ghost use Rattle.rules.specs.Engine.Call.{power_on, restart, register, dump, loc
 ghost use Rattle.engine.specs.Answers.{dump_answer, query_answer, refused_reading, reading_at, reading_of, ReadStep, payload_place, settled_answer, not_settled};
 
 use rules::Report;
-use set::Known;
+use set::{Known, Request};
 use status::Status;
 use stores::Place;
 use switches::{SwitchAnswer, Switches};
@@ -354,23 +354,16 @@ pub fn set(
         count: extent.count,
         place,
     };
-    let decided = set::decide(
-        policy,
-        &entry_ends,
-        switches,
-        nv,
-        vol,
-        known,
-        &namespace,
+    let request = Request {
+        namespace: &namespace,
         name,
         attributes,
         payload,
-    );
+    };
+    let decided = set::decide(policy, &entry_ends, switches, nv, vol, known, request);
     let decision = decided.decision;
     let report = decided.report;
-    set::carry_out(
-        decision, nv, vol, known, &namespace, name, attributes, payload,
-    );
+    set::carry_out(decision, nv, vol, known, request);
     SetAnswer {
         status: set::status_of(decision),
         report,

@@ -23,6 +23,7 @@ ghost use Rattle.rules.specs.Engine.{speaking};
 ghost use Rattle.rules.specs.Stored.{Stored};
 ghost use Rattle.rules.specs.declared.Ground.TheVariants.{AttributeGround};
 ghost use Rattle.rules.specs.Decision.{Store};
+ghost use Rattle.set.specs.Asked.{asked};
 ghost use Rattle.set.specs.Known.{Located, Knows};
 ghost use Rattle.set.specs.Decided.{decided_by};
 ghost use Rattle.set.specs.Writable.{found_in, Writable};
@@ -33,6 +34,10 @@ use status::Status;
 use store::Found;
 use stores::{Ends, Place};
 use switches::Switches;
+
+mod request;
+
+pub use request::Request;
 
 // What a set has found out of sound stores and a valid policy record: where the records end, how many entries there are, and where the request's variable stands.
 #[derive(Clone, Copy)]
@@ -49,92 +54,18 @@ pub struct Decided {
     pub report: Report,
 }
 
-// ---- Steps 1 to 3.
-
-// Whether RT or append stands without BS.
-fn needs_bs(attributes: u32) -> bool
-    ensures { result ≡ needs_bs attributes }
-{
-    if store::has_bs(attributes) {
-        return false;
-    }
-    if store::has_rt(attributes) {
-        return true;
-    }
-    store::has_append(attributes)
-}
-
-// Whether a set is a deletion (RULES.md, 10.9): without append, and with no payload or with neither of BS and RT.
-fn is_deletion(attributes: u32, payload: &[u8]) -> bool
-    ensures { result ≡ is_deletion attributes payload.now }
-{
-    if store::has_append(attributes) {
-        return false;
-    }
-    if payload.len() == 0 {
-        return true;
-    }
-    if store::has_bs(attributes) {
-        return false;
-    }
-    !store::has_rt(attributes)
-}
-
-// Whether a set after exit is no deletion and lacks one of NV, BS and RT.
-fn needs_runtime(exited: bool, attributes: u32, payload: &[u8]) -> bool
-    ensures { result ≡ needs_runtime exited attributes payload.now }
-{
-    if !exited {
-        return false;
-    }
-    if is_deletion(attributes, payload) {
-        return false;
-    }
-    !(store::has_nv(attributes) & store::has_bs(attributes) & store::has_rt(attributes))
-}
-
-// INVALID_PARAMETER for a name or a payload that a set does not take; UNSUPPORTED for an attribute bit outside 0x47;
-// INVALID_PARAMETER for RT or append without BS; INVALID_PARAMETER, after exit, for a set that is no deletion without one of NV, BS and RT.
-pub fn check_request(exited: bool, name: &[u8], attributes: u32, payload: &[u8]) -> Status
-    ensures { (namespace : Bytes) → length namespace ≡ namespace_bytes
-        → result ≡ request_status exited (request_of namespace name.now attributes payload.now) }
-{
-    if !names::is_name(name) {
-        return Status::InvalidParameter;
-    }
-    if limits::MAX_PAYLOAD < payload.len() {
-        return Status::InvalidParameter;
-    }
-    if attributes & limits::KNOWN_ATTRIBUTES != attributes {
-        return Status::Unsupported;
-    }
-    if needs_bs(attributes) {
-        return Status::InvalidParameter;
-    }
-    if needs_runtime(exited, attributes, payload) {
-        return Status::InvalidParameter;
-    }
-    Status::Success
-}
-
 // ---- What would be stored.
 
 // How long the variable's payload would be afterwards: an append joins what is stored.
-fn length_after<'a>(
-    nv: &'a [u8],
-    vol: &'a [u8],
-    place: Place,
-    attributes: u32,
-    payload: &[u8],
-) -> usize
+fn length_after<'a>(nv: &'a [u8], vol: &'a [u8], place: Place, request: Request) -> usize
     requires { Within nv.now vol.now place }
-    ensures { result ≡ length (payload_after (record_at nv.now vol.now place) attributes payload.now) }
+    ensures { result ≡ length (payload_after (record_at nv.now vol.now place) request.entry.attributes request.entry.payload.now) }
 {
-    if store::has_append(attributes) {
+    if store::has_append(request.attributes) {
         let stored = stores::payload_at(nv, vol, place);
-        return stored.len() + payload.len();
+        return stored.len() + request.payload.len();
     }
-    payload.len()
+    request.payload.len()
 }
 
 // ---- Step 4.
@@ -159,11 +90,10 @@ fn attributes_allowed(must: u32, cant: u32, attributes: u32) -> bool
 }
 
 // Unless the request is a deletion: the size n against MinSize and MaxSize, then the request's attributes against those that the entry requires and prohibits.
-fn request_ground(entry: Entry, n: usize, attributes: u32, payload: &[u8]) -> Option<Ground>
-    ensures { (e : Bytes) (v : Variable) → entry ≡ entry_of e
-        → result ≡ request_ground e n (record { variable = v; attributes = attributes; payload = payload.now }) }
+fn request_ground(entry: Entry, n: usize, request: Request) -> Option<Ground>
+    ensures { (e : Bytes) → entry ≡ entry_of e → result ≡ request_ground e n (asked request.entry) }
 {
-    if is_deletion(attributes, payload) {
+    if request.is_deletion() {
         return None;
     }
     if !size_allowed(entry.min_size, entry.max_size, n) {
@@ -172,7 +102,7 @@ fn request_ground(entry: Entry, n: usize, attributes: u32, payload: &[u8]) -> Op
     if attributes_allowed(
         entry.attributes_must_have,
         entry.attributes_cant_have,
-        attributes,
+        request.attributes,
     ) {
         return None;
     }
@@ -222,17 +152,14 @@ fn entry_ground<'a>(
     nv: &'a [u8],
     vol: &'a [u8],
     known: Known,
-    attributes: u32,
-    payload: &[u8],
+    request: Request,
 ) -> Option<Ground>
-    requires { (known.ends ≡ ends_of nv.now vol.now) × Within nv.now vol.now known.place × (well_formed e.now ≡ true) }
-    ensures { (v : Variable) → Located known nv.now vol.now v
-        → result ≡ ground_of e.now (lookup nv.now vol.now)
-        (record { variable = v; attributes = attributes; payload = payload.now }) }
+    requires { Located known nv.now vol.now (asked request).variable × (well_formed e.now ≡ true) }
+    ensures { result ≡ ground_of e.now (lookup nv.now vol.now) (asked request.entry) }
 {
     let entry = entry::entry_of(e);
-    let n = length_after(nv, vol, known.place, attributes, payload);
-    if let Some(ground) = request_ground(entry, n, attributes, payload) {
+    let n = length_after(nv, vol, known.place, request);
+    if let Some(ground) = request_ground(entry, n, request) {
         return Some(ground);
     }
     let rule = entry.lock;
@@ -307,33 +234,36 @@ fn report<'a>(
     nv: &'a [u8],
     vol: &'a [u8],
     known: Known,
-    namespace: &[u8; 16],
-    name: &[u8],
-    attributes: u32,
-    payload: &[u8],
+    request: Request,
 ) -> Report
-    requires { Knows known nv.now vol.now policy.now (variable namespace.now name.now) × EntryEnds entry_ends.now policy.now }
-    ensures { result ≡ report_by (ground_by (speaking enabled (chosen (entries_of policy.now) (variable namespace.now name.now)))
+    requires { Knows known nv.now vol.now policy.now (asked request).variable × EntryEnds entry_ends.now policy.now }
+    ensures { result ≡ report_by (ground_by (speaking enabled (chosen (entries_of policy.now) (asked request.entry).variable))
         (lookup nv.now vol.now)
-        (request_of namespace.now name.now attributes payload.now))
-        (entries_of policy.now) (chosen (entries_of policy.now) (variable namespace.now name.now)) attributes }
+        (asked request.entry))
+        (entries_of policy.now) (chosen (entries_of policy.now) (asked request.entry).variable) request.entry.attributes }
 {
     if !enabled {
         return no_report();
     }
-    let Some(chosen) = policy::choose(policy, known.count, entry_ends, namespace, name) else {
+    let Some(chosen) = policy::choose(
+        policy,
+        known.count,
+        entry_ends,
+        request.namespace,
+        request.name,
+    ) else {
         return no_report();
     };
     let at = chosen.at;
     let end = at + slices::get16(policy, at + limits::SIZE_AT);
     let e = &policy[at..end];
-    let ground = entry_ground(e, nv, vol, known, attributes, payload);
+    let ground = entry_ground(e, nv, vol, known, request);
     report_for(
         ground,
         chosen.index as u32,
         chosen.rank as u32,
         e,
-        attributes,
+        request.attributes,
     )
 }
 
@@ -381,36 +311,20 @@ fn decide_delete(exited: bool, nv: &[u8], vol: &[u8], place: Place) -> Result<Ch
     Ok(Change::Delete)
 }
 
-// Whether a set is an append that joins nothing.
-fn is_empty_append(attributes: u32, payload: &[u8]) -> bool
-    ensures { result ≡ is_empty_append attributes payload.now }
-{
-    if store::has_append(attributes) {
-        return payload.len() == 0;
-    }
-    false
-}
-
 // Whether the store that the attributes name has room for the variable's record with a payload of n bytes. The variable does not
 // stand in the other store.
-fn has_room(
-    nv: &[u8],
-    vol: &[u8],
-    known: Known,
-    namespace: &[u8; 16],
-    name: &[u8],
-    attributes: u32,
-    n: usize,
-) -> bool
-    requires { (sound nv.now vol.now ≡ true) × Located known nv.now vol.now (variable namespace.now name.now)
-        × (named (variable namespace.now name.now) ≡ true)
-        × (other_attributes (lookup nv.now vol.now (variable namespace.now name.now)) attributes ≡ false) × (n ≤ max_payload) }
+fn has_room(nv: &[u8], vol: &[u8], known: Known, request: Request, n: usize) -> bool
+    requires { (sound nv.now vol.now ≡ true) × Located known nv.now vol.now (asked request).variable
+        × (named (asked request).variable ≡ true)
+        × (other_attributes (lookup nv.now vol.now (asked request).variable) request.attributes ≡ false) × (n ≤ max_payload) }
     ensures { (p : Bytes) → length p ≡ n
-        → result ≡ has_room (has_nv attributes) (store_of attributes nv.now vol.now) (variable namespace.now name.now)
-        (encode_record (stored_attributes attributes) (variable namespace.now name.now) p) }
+        → result ≡ has_room (has_nv request.entry.attributes) (store_of request.entry.attributes nv.now vol.now) (asked request.entry).variable
+        (encode_record (stored_attributes request.entry.attributes) (asked request.entry).variable p) }
 {
     let found = known.place.found;
-    if store::has_nv(attributes) {
+    let namespace = request.namespace;
+    let name = request.name;
+    if store::has_nv(request.attributes) {
         return store::has_room(nv, true, known.ends.nv, found, namespace, name, n);
     }
     store::has_room(vol, false, known.ends.vol, found, namespace, name, n)
@@ -421,22 +335,19 @@ fn decide_store<'a>(
     nv: &'a [u8],
     vol: &'a [u8],
     known: Known,
-    namespace: &[u8; 16],
-    name: &[u8],
-    attributes: u32,
-    payload: &[u8],
+    request: Request,
 ) -> Result<Change, Refusal>
-    requires { (sound nv.now vol.now ≡ true) × Located known nv.now vol.now (variable namespace.now name.now)
-        × (named (variable namespace.now name.now) ≡ true)
-        × (other_attributes (lookup nv.now vol.now (variable namespace.now name.now)) attributes ≡ false) }
-    ensures { result ≡ store_decision nv.now vol.now (lookup nv.now vol.now (variable namespace.now name.now))
-        (request_of namespace.now name.now attributes payload.now) }
+    requires { (sound nv.now vol.now ≡ true) × Located known nv.now vol.now (asked request).variable
+        × (named (asked request).variable ≡ true)
+        × (other_attributes (lookup nv.now vol.now (asked request).variable) request.attributes ≡ false) }
+    ensures { result ≡ store_decision nv.now vol.now (lookup nv.now vol.now (asked request.entry).variable)
+        (asked request.entry) }
 {
-    let n = length_after(nv, vol, known.place, attributes, payload);
+    let n = length_after(nv, vol, known.place, request);
     if limits::MAX_PAYLOAD < n {
         return Err(Refusal::ByStatus(Status::OutOfResources));
     }
-    if has_room(nv, vol, known, namespace, name, attributes, n) {
+    if has_room(nv, vol, known, request, n) {
         return Ok(Change::Store);
     }
     Err(Refusal::ByStatus(Status::OutOfResources))
@@ -448,27 +359,24 @@ fn decide_write<'a>(
     nv: &'a [u8],
     vol: &'a [u8],
     known: Known,
-    namespace: &[u8; 16],
-    name: &[u8],
-    attributes: u32,
-    payload: &[u8],
+    request: Request,
 ) -> Result<Change, Refusal>
-    requires { (sound nv.now vol.now ≡ true) × Located known nv.now vol.now (variable namespace.now name.now)
-        × (named (variable namespace.now name.now) ≡ true) }
-    ensures { result ≡ write_decision exited nv.now vol.now (lookup nv.now vol.now (variable namespace.now name.now))
-        (request_of namespace.now name.now attributes payload.now) }
+    requires { (sound nv.now vol.now ≡ true) × Located known nv.now vol.now (asked request).variable
+        × (named (asked request).variable ≡ true) }
+    ensures { result ≡ write_decision exited nv.now vol.now (lookup nv.now vol.now (asked request.entry).variable)
+        (asked request.entry) }
 {
-    if is_deletion(attributes, payload) {
+    if request.is_deletion() {
         return decide_delete(exited, nv, vol, known.place);
     }
     let found = stores::is_somewhere(known.place);
-    if found & (stores::attributes_at(nv, vol, known.place) != attributes % 8) {
+    if found & (stores::attributes_at(nv, vol, known.place) != request.attributes % 8) {
         return Err(Refusal::ByStatus(Status::InvalidParameter));
     }
-    if is_empty_append(attributes, payload) {
+    if request.is_empty_append() {
         return Ok(Change::Keep);
     }
-    decide_store(nv, vol, known, namespace, name, attributes, payload)
+    decide_store(nv, vol, known, request)
 }
 
 // All steps, over sound stores and a valid policy record.
@@ -479,16 +387,13 @@ pub fn decide<'a>(
     nv: &'a [u8],
     vol: &'a [u8],
     known: Known,
-    namespace: &[u8; 16],
-    name: &[u8],
-    attributes: u32,
-    payload: &[u8],
+    request: Request,
 ) -> Decided
-    requires { (sound nv.now vol.now ≡ true) × Knows known nv.now vol.now policy.now (variable namespace.now name.now) × EntryEnds entry_ends.now policy.now }
+    requires { (sound nv.now vol.now ≡ true) × Knows known nv.now vol.now policy.now (asked request).variable × EntryEnds entry_ends.now policy.now }
     ensures { result ≡ decided_by (entries_of policy.now) switches nv.now vol.now
-        (request_of namespace.now name.now attributes payload.now) }
+        (asked request.entry) }
 {
-    let by_request = check_request(switches.exited, name, attributes, payload);
+    let by_request = request.check(switches.exited);
     if by_request != Status::Success {
         return Decided {
             decision: Err(Refusal::ByStatus(by_request)),
@@ -502,23 +407,11 @@ pub fn decide<'a>(
         nv,
         vol,
         known,
-        namespace,
-        name,
-        attributes,
-        payload,
+        request,
     );
     let ground = said.ground;
     let decision = match ground {
-        None => decide_write(
-            switches.exited,
-            nv,
-            vol,
-            known,
-            namespace,
-            name,
-            attributes,
-            payload,
-        ),
+        None => decide_write(switches.exited, nv, vol, known, request),
         Some(ground) => Err(Refusal::ByGround(ground)),
     };
     Decided {
@@ -540,12 +433,14 @@ pub fn status_of(decided: Result<Change, Refusal>) -> Status
 // ---- Step 10, and deletions.
 
 // Takes the variable out of whichever of two sound stores holds it.
-fn delete(nv: &mut [u8], vol: &mut [u8], known: Known, namespace: &[u8; 16], name: &[u8])
-    requires { (sound nv.old vol.old ≡ true) × Located known nv.old vol.old (variable namespace.now name.now) }
-    ensures nv_after { nv.new ≡ without_variable true nv.old (variable namespace.now name.now) }
-    ensures vol_after { vol.new ≡ without_variable false vol.old (variable namespace.now name.now) }
+fn delete(nv: &mut [u8], vol: &mut [u8], known: Known, request: Request)
+    requires { (sound nv.old vol.old ≡ true) × Located known nv.old vol.old (asked request).variable }
+    ensures nv_after { nv.new ≡ without_variable true nv.old (asked request.entry).variable }
+    ensures vol_after { vol.new ≡ without_variable false vol.old (asked request.entry).variable }
 {
     let place = known.place;
+    let namespace = request.namespace;
+    let name = request.name;
     if place.nonvolatile {
         store::remove(nv, true, known.ends.nv, place.found, namespace, name);
     } else {
@@ -554,24 +449,18 @@ fn delete(nv: &mut [u8], vol: &mut [u8], known: Known, namespace: &[u8; 16], nam
 }
 
 // Stores the request's payload in one store, joined to what is stored there by an append.
-fn put(
-    s: &mut [u8],
-    nonvolatile: bool,
-    end: usize,
-    found: Option<Found>,
-    namespace: &[u8; 16],
-    name: &[u8],
-    attributes: u32,
-    payload: &[u8],
-)
-    requires { (end ≡ end_of nonvolatile s.old) × (found ≡ place_of nonvolatile s.old (variable namespace.now name.now))
-        × Writable nonvolatile s.old (request_of namespace.now name.now attributes payload.now) }
-    ensures { s.new ≡ with_record nonvolatile s.old (variable namespace.now name.now)
-        (record_after (found_in nonvolatile s.old (variable namespace.now name.now))
-        (request_of namespace.now name.now attributes payload.now)) }
+fn put(s: &mut [u8], nonvolatile: bool, end: usize, found: Option<Found>, request: Request)
+    requires { (end ≡ end_of nonvolatile s.old) × (found ≡ place_of nonvolatile s.old (asked request).variable)
+        × Writable nonvolatile s.old (asked request) }
+    ensures { s.new ≡ with_record nonvolatile s.old (asked request.entry).variable
+        (record_after (found_in nonvolatile s.old (asked request.entry).variable)
+        (asked request.entry)) }
 {
-    let stored = (attributes % 8) as u8;
-    if store::has_append(attributes) {
+    let namespace = request.namespace;
+    let name = request.name;
+    let payload = request.payload;
+    let stored = (request.attributes % 8) as u8;
+    if store::has_append(request.attributes) {
         store::append(s, nonvolatile, end, found, stored, namespace, name, payload);
     } else {
         store::write(s, nonvolatile, end, found, stored, namespace, name, payload);
@@ -579,45 +468,19 @@ fn put(
 }
 
 // Stores the request's payload in the store that the attributes name, of two sound stores.
-fn put_variable(
-    nv: &mut [u8],
-    vol: &mut [u8],
-    known: Known,
-    namespace: &[u8; 16],
-    name: &[u8],
-    attributes: u32,
-    payload: &[u8],
-)
-    requires { (sound nv.old vol.old ≡ true) × Located known nv.old vol.old (variable namespace.now name.now)
-        × Stored nv.old vol.old (lookup nv.old vol.old (variable namespace.now name.now)) (request_of namespace.now name.now attributes payload.now) }
-    ensures nv_after { nv.new ≡ decision_store Store true nv.old (lookup nv.old vol.old (variable namespace.now name.now))
-        (request_of namespace.now name.now attributes payload.now) }
-    ensures vol_after { vol.new ≡ decision_store Store false vol.old (lookup nv.old vol.old (variable namespace.now name.now))
-        (request_of namespace.now name.now attributes payload.now) }
+fn put_variable(nv: &mut [u8], vol: &mut [u8], known: Known, request: Request)
+    requires { (sound nv.old vol.old ≡ true) × Located known nv.old vol.old (asked request).variable
+        × Stored nv.old vol.old (lookup nv.old vol.old (asked request).variable) (asked request) }
+    ensures nv_after { nv.new ≡ decision_store Store true nv.old (lookup nv.old vol.old (asked request.entry).variable)
+        (asked request.entry) }
+    ensures vol_after { vol.new ≡ decision_store Store false vol.old (lookup nv.old vol.old (asked request.entry).variable)
+        (asked request.entry) }
 {
     let found = known.place.found;
-    if store::has_nv(attributes) {
-        put(
-            nv,
-            true,
-            known.ends.nv,
-            found,
-            namespace,
-            name,
-            attributes,
-            payload,
-        );
+    if store::has_nv(request.attributes) {
+        put(nv, true, known.ends.nv, found, request);
     } else {
-        put(
-            vol,
-            false,
-            known.ends.vol,
-            found,
-            namespace,
-            name,
-            attributes,
-            payload,
-        );
+        put(vol, false, known.ends.vol, found, request);
     }
 }
 
@@ -627,24 +490,21 @@ pub fn carry_out(
     nv: &mut [u8],
     vol: &mut [u8],
     known: Known,
-    namespace: &[u8; 16],
-    name: &[u8],
-    attributes: u32,
-    payload: &[u8],
+    request: Request,
 )
-    requires { (sound nv.old vol.old ≡ true) × Located known nv.old vol.old (variable namespace.now name.now)
-        × ((x : Bool) × (o : Option Bytes) × (decided ≡ decision x o nv.old vol.old (request_of namespace.now name.now attributes payload.now))) }
-    ensures nv_after { nv.new ≡ decision_store decided true nv.old (lookup nv.old vol.old (variable namespace.now name.now))
-        (request_of namespace.now name.now attributes payload.now) }
-    ensures vol_after { vol.new ≡ decision_store decided false vol.old (lookup nv.old vol.old (variable namespace.now name.now))
-        (request_of namespace.now name.now attributes payload.now) }
+    requires { (sound nv.old vol.old ≡ true) × Located known nv.old vol.old (asked request).variable
+        × ((x : Bool) × (o : Option Bytes) × (decided ≡ decision x o nv.old vol.old (asked request))) }
+    ensures nv_after { nv.new ≡ decision_store decided true nv.old (lookup nv.old vol.old (asked request.entry).variable)
+        (asked request.entry) }
+    ensures vol_after { vol.new ≡ decision_store decided false vol.old (lookup nv.old vol.old (asked request.entry).variable)
+        (asked request.entry) }
 {
     let Ok(change) = decided else {
         return;
     };
     match change {
-        Change::Delete => delete(nv, vol, known, namespace, name),
+        Change::Delete => delete(nv, vol, known, request),
         Change::Keep => (),
-        Change::Store => put_variable(nv, vol, known, namespace, name, attributes, payload),
+        Change::Store => put_variable(nv, vol, known, request),
     }
 }
