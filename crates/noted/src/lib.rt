@@ -6,12 +6,12 @@ ghost use Rattle.std.specs.Prelude.{◌≡◌, true, false, cond, ◌+◌, ◌�
 ghost use Rattle.limits.specs.Limits.{max_store};
 ghost use Rattle.names.specs.Name.{variable};
 ghost use Rattle.store.specs.Store.{end_of};
-ghost use Rattle.stores.specs.Pair.{sound, lookup, ends_of};
-ghost use Rattle.stores.specs.Place.{record_at, Within};
 ghost use Rattle.noted.specs.Noted.{keys, notes, NoteOf, Noted, Tried};
 
+mod notes;
+
+pub use notes::Notes;
 use store::Found;
-use stores::{Ends, Place};
 
 // How many keys there are, and how long the notes of a store: of each key the first record and the last. `specs/Noted.antt` has the same for the proofs.
 const KEYS: usize = 1024;
@@ -104,37 +104,4 @@ fn find(
     let last = table[KEYS + k];
     let first = try_note(s, nonvolatile, table[k], namespace, name);
     first.or_else(|| try_note(s, nonvolatile, last, namespace, name))
-}
-
-// Where the variable's record stands, in whichever of two sound stores: where the notes lead, or by a search.
-pub fn locate(
-    nv: &[u8],
-    vol: &[u8],
-    ends: Ends,
-    in_nv: &[u16; NOTES],
-    in_vol: &[u16; NOTES],
-    namespace: &[u8],
-    name: &[u8],
-) -> Place
-    requires { (sound nv.now vol.now ≡ true) × (ends ≡ ends_of nv.now vol.now) × (length in_nv.now ≡ notes) × (length in_vol.now ≡ notes)
-        × Noted true nv.now in_nv.now × Noted false vol.now in_vol.now }
-    ensures is { record_at nv.now vol.now result ≡ lookup nv.now vol.now (variable namespace.now name.now) }
-    ensures within { Within nv.now vol.now result }
-{
-    let k = key(name);
-    let first = find(nv, true, in_nv, k, namespace, name);
-    if first.is_some() {
-        return Place {
-            nonvolatile: true,
-            found: first,
-        };
-    }
-    let second = find(vol, false, in_vol, k, namespace, name);
-    if second.is_some() {
-        return Place {
-            nonvolatile: false,
-            found: second,
-        };
-    }
-    stores::locate(nv, vol, ends, namespace, name)
 }

@@ -12,6 +12,9 @@ ghost use Rattle.stores.specs.Pair.{sound_alone, ends_of, pair_check};
 ghost use Rattle.stores.specs.Filter.{slots, hash_of, slot_of, fingerprint_of, Filter, scanned};
 ghost use Rattle.stores.specs.Place.{place_in, is_somewhere, attributes_at, payload_at, bounds_at, Within};
 
+mod sound;
+
+pub use sound::Stores;
 use std::ops::Range;
 use store::Found;
 
