@@ -97,9 +97,12 @@ module _ (w : Switches) (nv vol : Bytes) (v : Variable) where
     unfolding reading_of
     read_step = by_tests (sound nv vol) (named v) (is_shown w.exited nv vol v) refl read_status_lem
 
-  -- both promises of a read, once its reading is known
-  pub reads : {r : Reading} → r ≡ reading_of w.exited nv vol v → (r ≡ reading_of w.exited nv vol v) × ((policy : Bytes) → ReadStep (state_of nv vol policy w) v r)
-  reads e = (e, λ policy. subst (ReadStep (state_of nv vol policy w) v) (sym e) (read_step policy))
+  -- both promises of a read, once its reading is known of what the stores a and b hold that were checked
+  pub reads : {r : Reading} {a b : Bytes} → a ≡ nv → b ≡ vol → r ≡ reading_of w.exited a b v
+      → (r ≡ reading_of w.exited nv vol v) × ((policy : Bytes) → ReadStep (state_of nv vol policy w) v r)
+  reads p q k =
+      let e = k ∙ ap₂ (λ s t. reading_of w.exited s t v) p q in
+      (e, λ policy. subst (ReadStep (state_of nv vol policy w) v) (sym e) (read_step policy))
 
 -- ---- the part that a reading names
 

@@ -1,5 +1,5 @@
 -- What the question whether a variable is settled gets, by what the code found. Assumes nothing.
-use mathlib.Core.Path.{◌≡◌, sym, ap, ◌∙◌}
+use mathlib.Core.Path.{◌≡◌, sym, ap, subst, ◌∙◌}
 use mathlib.Core.List.{[]}
 use mathlib.Core.Bool.{Bool, true, false, cond}
 use mathlib.Core.Option.{none}
@@ -47,3 +47,11 @@ module _ (nv vol p : Bytes) (v : Variable) where
         → (w : Switches) → step (lent w) (settled v) ≡ (settled_answer (record { status = Success; settled = y }), lent w)
     unfolding settled_status
     settled_told h e w = step_is (lent w) (settled v) Success (tested Success (rw h) w) ∙ ap (λ b. (answer_of Success (cond b 1 0) [] none, lent w)) (sym (e w))
+
+-- what is answered over the stores a and b that were checked is answered over those that are lent
+pub settled_lent : {a b nv vol p : Bytes} (v : Variable) (r : SettledAnswer) → a ≡ nv → b ≡ vol
+    → ((w : Switches) → step (state_of a b p w) (settled v) ≡ (settled_answer r, state_of a b p w))
+    → (w : Switches) → step (state_of nv vol p w) (settled v) ≡ (settled_answer r, state_of nv vol p w)
+settled_lent {a} {b} {nv} {vol} {p} v r e k h w =
+    subst (λ t. step (state_of nv t p w) (settled v) ≡ (settled_answer r, state_of nv t p w)) k
+    (subst (λ s. step (state_of s b p w) (settled v) ≡ (settled_answer r, state_of s b p w)) e (h w))

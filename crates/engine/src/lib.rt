@@ -20,7 +20,7 @@ ghost use Rattle.engine.specs.Answers.{dump_answer, query_answer, refused_readin
 use rules::Report;
 use set::{Known, Request};
 use status::Status;
-use stores::Place;
+use stores::{Place, Stores};
 use switches::{SwitchAnswer, Switches};
 
 // What a read tells: its status, the variable's attributes, which store holds it, and from where up to where its payload stands there. Zeros beside a refusal.
@@ -253,14 +253,14 @@ fn refused_reading(status: Status) -> Reading
 }
 
 // What a read tells of the record at a place.
-fn reading_at(nv: &[u8], vol: &[u8], place: Place) -> Reading
-    requires { Within nv.now vol.now place }
-    ensures { result ≡ reading_at nv.now vol.now place }
+fn reading_at<'a>(stores: Stores<'a>, place: Place) -> Reading
+    requires { Within stores.nv.now stores.vol.now place }
+    ensures { result ≡ reading_at stores.entry.nv.now stores.entry.vol.now place }
 {
-    let bounds = stores::payload_bounds(nv, vol, place);
+    let bounds = stores.payload_bounds(place);
     Reading {
         status: Status::Success,
-        attributes: stores::attributes_at(nv, vol, place),
+        attributes: stores.attributes_at(place),
         nonvolatile: place.nonvolatile,
         from: bounds.start,
         to: bounds.end,
@@ -274,17 +274,17 @@ pub fn read(nv: &[u8], vol: &[u8], switches: Switches, namespace: [u8; 16], name
     ensures answers { (policy : Bytes)
         → ReadStep (state_of nv.now vol.now policy switches) (variable namespace name.now) result }
 {
-    let Some(ends) = stores::check(nv, vol) else {
+    let Some(stores) = Stores::new(nv, vol) else {
         return refused_reading(Status::VolumeCorrupted);
     };
     if !names::is_name(name) {
         return refused_reading(Status::InvalidParameter);
     }
-    let place = stores::locate(nv, vol, ends, &namespace, name);
-    if !set::is_shown(switches.exited, nv, vol, place) {
+    let place = stores.locate(&namespace, name);
+    if !set::is_shown(switches.exited, stores.nv, stores.vol, place) {
         return refused_reading(Status::NotFound);
     }
-    reading_at(nv, vol, place)
+    reading_at(stores, place)
 }
 
 // The second call of the read pair (RULES.md, 10.8): the payload as a subslice of its store, and of length 0 where the read is refused.
@@ -392,7 +392,7 @@ pub fn settled<'a>(
     ensures { (w : Switches) → step (state_of nv.now vol.now policy.now w) (settled (variable namespace name.now))
         ≡ (settled_answer result, state_of nv.now vol.now policy.now w) }
 {
-    let Some(ends) = stores::check(nv, vol) else {
+    let Some(stores) = Stores::new(nv, vol) else {
         return not_settled(Status::VolumeCorrupted);
     };
     let mut entry_ends = policy::no_ends();
@@ -404,15 +404,6 @@ pub fn settled<'a>(
     }
     SettledAnswer {
         status: Status::Success,
-        settled: settled::is_settled(
-            policy,
-            &entry_ends,
-            extent.count,
-            nv,
-            vol,
-            ends,
-            &namespace,
-            name,
-        ),
+        settled: settled::is_settled(policy, &entry_ends, extent.count, stores, &namespace, name),
     }
 }

@@ -9,13 +9,14 @@ ghost use Rattle.names.specs.Name.{variable};
 ghost use Rattle.entry.specs.Entry.{well_formed};
 ghost use Rattle.policy.specs.Policy.{entries_of};
 ghost use Rattle.policy.specs.Choice.{chosen};
-ghost use Rattle.stores.specs.Pair.{sound, lookup, ends_of};
+ghost use Rattle.stores.specs.Pair.{lookup};
 ghost use Rattle.rules.specs.Set.{exists, holds_value};
 ghost use Rattle.rules.specs.Settled.{lock_holds_in, settled_in};
-ghost use Rattle.settled.specs.Prepared.{Prepared, Searched};
+ghost use Rattle.settled.specs.Prepared.{Prepared};
 
 use entry::{LockRule, Trigger};
-use stores::Ends;
+use noted::Notes;
+use stores::Stores;
 
 // The namespace that stands at a place of an entry.
 fn namespace_at(e: &[u8], at: usize) -> [u8; 16]
@@ -28,41 +29,24 @@ fn namespace_at(e: &[u8], at: usize) -> [u8; 16]
 }
 
 // Whether the variable exists.
-fn variable_exists(
-    nv: &[u8],
-    vol: &[u8],
-    ends: Ends,
-    in_nv: &[u16; noted::NOTES],
-    in_vol: &[u16; noted::NOTES],
-    namespace: &[u8; 16],
-    name: &[u8],
-) -> bool
-    requires { Searched nv.now vol.now ends in_nv.now in_vol.now }
-    ensures { result ≡ exists (lookup nv.now vol.now (variable namespace.now name.now)) }
+fn variable_exists<'a>(notes: Notes<'a>, namespace: &[u8; 16], name: &[u8]) -> bool
+    ensures { result ≡ exists (lookup notes.entry.stores.nv.now notes.entry.stores.vol.now (variable namespace.now name.now)) }
 {
-    stores::is_somewhere(noted::locate(nv, vol, ends, in_nv, in_vol, namespace, name))
+    stores::is_somewhere(notes.locate(namespace, name))
 }
 
 // Whether the trigger of an entry holds the Value (RULES.md, 5).
-fn trigger_holds<'a>(
-    e: &[u8],
-    trigger: Trigger,
-    nv: &'a [u8],
-    vol: &'a [u8],
-    ends: Ends,
-    in_nv: &[u16; noted::NOTES],
-    in_vol: &[u16; noted::NOTES],
-) -> bool
-    requires { Searched nv.now vol.now ends in_nv.now in_vol.now × (trigger.namespace ≡ trigger_namespace_at) }
-    ensures { result ≡ holds_value (lookup nv.now vol.now (variable
+fn trigger_holds<'a>(e: &[u8], trigger: Trigger, notes: Notes<'a>) -> bool
+    requires { trigger.namespace ≡ trigger_namespace_at }
+    ensures { result ≡ holds_value (lookup notes.entry.stores.nv.now notes.entry.stores.vol.now (variable
         (part trigger.namespace (trigger.namespace + 16) e.now)
         (part trigger.name trigger.name_end e.now))) trigger.value }
 {
     let from = trigger.namespace;
     let namespace = slices::part(e, from, from + limits::NAMESPACE_BYTES);
     let name = slices::part(e, trigger.name, trigger.name_end);
-    let place = noted::locate(nv, vol, ends, in_nv, in_vol, namespace, name);
-    set::is_value(stores::payload_at(nv, vol, place), trigger.value)
+    let place = notes.locate(namespace, name);
+    set::is_value(notes.stores.payload_at(place), trigger.value)
 }
 
 // Whether the variable is settled, where at most so many links are followed: an entry is chosen for it, and the lock of that entry holds.
@@ -71,17 +55,13 @@ fn settled<'a>(
     policy: &[u8],
     entry_ends: &[u16; policy::ENTRIES],
     count: usize,
-    nv: &'a [u8],
-    vol: &'a [u8],
-    ends: Ends,
-    in_nv: &[u16; noted::NOTES],
-    in_vol: &[u16; noted::NOTES],
+    notes: Notes<'a>,
     namespace: &[u8; 16],
     name: &[u8],
     links: usize,
 ) -> bool
-    requires { Prepared policy.now count entry_ends.now × Searched nv.now vol.now ends in_nv.now in_vol.now }
-    ensures { result ≡ settled_in links (chosen (entries_of policy.now)) (lookup nv.now vol.now) (variable namespace.now name.now) }
+    requires { Prepared policy.now count entry_ends.now }
+    ensures { result ≡ settled_in links (chosen (entries_of policy.now)) (lookup notes.entry.stores.nv.now notes.entry.stores.vol.now) (variable namespace.now name.now) }
 {
     let Some(chosen) = policy::choose(policy, count, entry_ends, namespace, name) else {
         return false;
@@ -93,11 +73,7 @@ fn settled<'a>(
         policy,
         entry_ends,
         count,
-        nv,
-        vol,
-        ends,
-        in_nv,
-        in_vol,
+        notes,
         namespace,
         name,
         links,
@@ -112,27 +88,23 @@ fn lock_holds<'a>(
     policy: &[u8],
     entry_ends: &[u16; policy::ENTRIES],
     count: usize,
-    nv: &'a [u8],
-    vol: &'a [u8],
-    ends: Ends,
-    in_nv: &[u16; noted::NOTES],
-    in_vol: &[u16; noted::NOTES],
+    notes: Notes<'a>,
     namespace: &[u8; 16],
     name: &[u8],
     links: usize,
 ) -> bool
-    requires { (well_formed e.now ≡ true) × Prepared policy.now count entry_ends.now × Searched nv.now vol.now ends in_nv.now in_vol.now }
-    ensures { result ≡ lock_holds_in links (chosen (entries_of policy.now)) (lookup nv.now vol.now) e.now (variable namespace.now name.now) }
+    requires { (well_formed e.now ≡ true) × Prepared policy.now count entry_ends.now }
+    ensures { result ≡ lock_holds_in links (chosen (entries_of policy.now)) (lookup notes.entry.stores.nv.now notes.entry.stores.vol.now) e.now (variable namespace.now name.now) }
 {
     match entry::lock_of(e) {
         LockRule::NoLock => false,
         LockRule::LockNow => true,
-        LockRule::LockOnCreate => variable_exists(nv, vol, ends, in_nv, in_vol, namespace, name),
+        LockRule::LockOnCreate => variable_exists(notes, namespace, name),
         LockRule::LockOnVarState(trigger) => {
             if links == 0 {
                 return false;
             }
-            if !trigger_holds(e, trigger, nv, vol, ends, in_nv, in_vol) {
+            if !trigger_holds(e, trigger, notes) {
                 return false;
             }
             let its_namespace = namespace_at(e, trigger.namespace);
@@ -141,11 +113,7 @@ fn lock_holds<'a>(
                 policy,
                 entry_ends,
                 count,
-                nv,
-                vol,
-                ends,
-                in_nv,
-                in_vol,
+                notes,
                 &its_namespace,
                 its_name,
                 links - 1,
@@ -159,28 +127,21 @@ pub fn is_settled<'a>(
     policy: &[u8],
     entry_ends: &[u16; policy::ENTRIES],
     count: usize,
-    nv: &'a [u8],
-    vol: &'a [u8],
-    ends: Ends,
+    stores: Stores<'a>,
     namespace: &[u8; 16],
     name: &[u8],
 ) -> bool
-    requires { Prepared policy.now count entry_ends.now × (sound nv.now vol.now ≡ true) × (ends ≡ ends_of nv.now vol.now) }
-    ensures { result ≡ settled_in max_links (chosen (entries_of policy.now)) (lookup nv.now vol.now) (variable namespace.now name.now) }
+    requires { Prepared policy.now count entry_ends.now }
+    ensures { result ≡ settled_in max_links (chosen (entries_of policy.now)) (lookup stores.entry.nv.now stores.entry.vol.now) (variable namespace.now name.now) }
 {
     let mut in_nv = noted::none();
-    noted::note(nv, true, ends.nv, &mut in_nv);
     let mut in_vol = noted::none();
-    noted::note(vol, false, ends.vol, &mut in_vol);
+    let notes = Notes::new(stores, &mut in_nv, &mut in_vol);
     settled(
         policy,
         entry_ends,
         count,
-        nv,
-        vol,
-        ends,
-        &in_nv,
-        &in_vol,
+        notes,
         namespace,
         name,
         limits::MAX_LINKS,
