@@ -18,7 +18,7 @@ ghost use Rattle.rules.specs.Engine.Call.{power_on, restart, register, dump, loc
 ghost use Rattle.engine.specs.Answers.{dump_answer, query_answer, refused_reading, reading_at, reading_of, ReadStep, payload_place, settled_answer, not_settled};
 
 use rules::Report;
-use set::{Known, Request};
+use set::{Located, Request};
 use status::Status;
 use stores::{Place, Stores};
 use switches::{SwitchAnswer, Switches};
@@ -281,7 +281,7 @@ pub fn read(nv: &[u8], vol: &[u8], switches: Switches, namespace: [u8; 16], name
         return refused_reading(Status::InvalidParameter);
     }
     let place = stores.locate(&namespace, name);
-    if !set::is_shown(switches.exited, stores.nv, stores.vol, place) {
+    if !set::is_shown(switches.exited, stores, place) {
         return refused_reading(Status::NotFound);
     }
     reading_at(stores, place)
@@ -341,18 +341,12 @@ pub fn set(
         (set (request_of namespace name.now attributes payload.now))
         ≡ (with_report result.status result.report, state_of nv.new vol.new policy.now switches) }
 {
-    let Some(ends) = stores::check(nv, vol) else {
+    let Some(stores) = Stores::new(nv, vol) else {
         return corrupted_set();
     };
     let mut entry_ends = policy::no_ends();
     let Some(extent) = policy::check_noting(policy, &mut entry_ends) else {
         return corrupted_set();
-    };
-    let place = stores::locate(nv, vol, ends, &namespace, name);
-    let known = Known {
-        ends,
-        count: extent.count,
-        place,
     };
     let request = Request {
         namespace: &namespace,
@@ -360,9 +354,11 @@ pub fn set(
         attributes,
         payload,
     };
-    let decided = set::decide(policy, &entry_ends, switches, nv, vol, known, request);
+    let located = Located::new(request, stores);
+    let decided = set::decide(policy, &entry_ends, extent.count, switches, located);
     let decision = decided.decision;
     let report = decided.report;
+    let known = located.known();
     set::carry_out(decision, nv, vol, known, request);
     SetAnswer {
         status: set::status_of(decision),

@@ -12,13 +12,13 @@ use Rattle.set.proofs.report.Goals as goal
 pub returns-then-not-enabled : goal.returns-then-not-enabled
 returns-then-not-enabled c =
     let a = c.args in
-    disabled_report (entries_of a.policy.now) (lookup a.nv.now a.vol.now) (asked a.request) a.request.attributes
-    a.enabled (chosen (entries_of a.policy.now) (asked a.request).variable) c.no_report.ensures c.if-not-enabled.true
+    disabled_report (entries_of a.policy.now) (lookup a.located.stores.nv.now a.located.stores.vol.now) (asked a.located.request) a.located.request.attributes
+    a.enabled (chosen (entries_of a.policy.now) (asked a.located.request).variable) c.no_report.ensures c.if-not-enabled.true
 
 pub returns-in_default : goal.returns-in_default
 returns-in_default c =
     let a = c.args in
-    unchosen_report (entries_of a.policy.now) (lookup a.nv.now a.vol.now) (asked a.request) a.request.attributes
+    unchosen_report (entries_of a.policy.now) (lookup a.located.stores.nv.now a.located.stores.vol.now) (asked a.located.request) a.located.request.attributes
     a.enabled _ c.no_report-in_default.ensures
     (choice_none _ _ (sym c.choose.ensures ∙ c.in_default.is))
 
@@ -45,15 +45,15 @@ slice_bounds-e-end c =
 pub entry_ground-ground-requires : goal.entry_ground-ground-requires
 entry_ground-ground-requires c =
     let chosen_is = sym c.choose.ensures ∙ c.in-Some.is in
-    (c.requires.0.located, entry_formed _ _ _ chosen_is _ c.get16.ensures.is)
+    entry_formed _ _ _ chosen_is _ c.get16.ensures.is
 
-pub overflow_cast-chosen : goal.overflow_cast-chosen
-overflow_cast-chosen c =
+pub overflow_cast-place : goal.overflow_cast-place
+overflow_cast-place c =
     let chosen_is = sym c.choose.ensures ∙ c.in-Some.is in
     omega (arith, index_below _ _ _ chosen_is c.requires.1.few)
 
-pub overflow_cast-chosen-2 : goal.overflow_cast-chosen-2
-overflow_cast-chosen-2 c =
+pub overflow_cast-chosen : goal.overflow_cast-chosen
+overflow_cast-chosen c =
     let chosen_is = sym c.choose.ensures ∙ c.in-Some.is in
     omega (arith, rank_below _ _ _ chosen_is)
 
