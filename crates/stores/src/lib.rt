@@ -97,11 +97,7 @@ fn scan(
         → Filter t.new (records_of other o.now ++ records_of nonvolatile s.now) }
 {
     let mut at = 0;
-    loop {
-        let n = store::record_length(&s[at..], nonvolatile);
-        if n == 0 {
-            return Some(at);
-        }
+    while let Some(n) = store::record_length(&s[at..], nonvolatile) {
         let next = at + n;
         let h = hash(&s[at..next]);
         let k = slot(h);
@@ -115,6 +111,7 @@ fn scan(
         t[k] = joined(v, f);
         at = next;
     }
+    Some(at)
 }
 
 // A filter that has no record.
