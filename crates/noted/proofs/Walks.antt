@@ -6,11 +6,11 @@ use mathlib.Core.Bool.{Bool, true, false, ◌||◌, cond, false≢true}
 use mathlib.Core.Option.{some}
 use mathlib.Core.Logic.{inl, inr}
 use native.Mathlib.Omega.{arith}
-use lib.Dec.{eqb}
-use lib.ListN.{length, get_or, set, take, drop, replicate, length-set, length-replicate}
+use lib.Dec.{eqb, ltb}
+use lib.ListN.{length, get_or, set, take, drop, replicate, length-set, length-replicate, length-drop}
 use lib.Seq.{get_or-set_same, get_or-set_other, drop-drop, drop-length, take-length, length-take-le}
-use borrow.Author.Tests.{eqb-true, eqb-false}
-use Rattle.lists.specs.Lists.{Among}
+use borrow.Author.Tests.{eqb-true, eqb-false, ltb-true, ltb-false}
+use Rattle.lists.specs.Lists.{Among, All, nil, more}
 use Rattle.lists.proofs.ListsLaws.{among_left, among_right}
 use Rattle.slices.specs.Bytes.{Bytes, part}
 use Rattle.slices.specs.Chunks.{contains}
@@ -19,13 +19,13 @@ use Rattle.slices.proofs.ChunksLaws.{chunks_step, chunks_stop, used_step, used_s
 use Rattle.names.specs.Name.{Variable}
 use Rattle.store.specs.Record.{name_size, data_size, record_size, record_length, is_of}
 use Rattle.store.proofs.RecordLaws.{record_length-within, record_length-local}
-use Rattle.store.specs.Store.{records_of, end_of, place_of}
+use Rattle.store.specs.Store.{records_of, end_of, placed, place_of}
 use Rattle.store.specs.Parts.{is_found, record_in, Held, HeaderFits}
 use Rattle.store.proofs.PlaceLaws.{contains_place}
 use Rattle.store.proofs.DistinctLaws.{found_only}
 use Rattle.store.specs.declared.Found.{Found}
 use Rattle.std.specs.Prelude.{Option, Some, None}
-use Rattle.store.proofs.Walk.{Here, here, rest_at}
+use Rattle.store.proofs.Walk.{Here, here, ended, rest_at}
 use Rattle.stores.specs.Pair.{all_records, sound, lookup}
 use Rattle.stores.proofs.PairLaws.{sound_distinct}
 use Rattle.stores.specs.declared.Place.{Place}
@@ -74,17 +74,49 @@ module _ (b : Bool) (s : Bytes) where
 
   -- ---- a walk
 
+  -- where each record of a list stands, one begins
   module _ (at m : ℕ) (h : Here b at m s) where
     steps : records_of b (drop at s) ≡ take m (drop at s) ∷ records_of b (drop (at + m) s)
     steps = chunks_step (record_length b) (record_length-within b) m (drop at s) h.is h.some ∙ rw drop-drop
 
     module _ (sub : (x : Bytes) → Among x (records_of b (drop at s)) → Among x (records_of b s)) where
-      pub begins_here : at ≤ length s → end_of b s ≡ at + end_of b (drop at s) → at < end_of b s → Begins b s at
+      begins_here : at ≤ length s → end_of b s ≡ at + end_of b (drop at s) → at < end_of b s → Begins b s at
       begins_here w q k =
           record { within = w; rest = q; before = k; stands = sub _ (subst⁻¹ (Among _) steps (inl (ap (λ z. take z (drop at s)) h.whole))) }
 
-      pub stands_next : (x : Bytes) → Among x (records_of b (drop (at + m) s)) → Among x (records_of b s)
+      stands_next : (x : Bytes) → Among x (records_of b (drop (at + m) s)) → Among x (records_of b s)
       stands_next x k = sub x (subst⁻¹ (Among x) steps (inr k))
+
+  abbrev Each : ℕ → List Bytes → Type 0
+  Each at rs = All (λ (x : ℕ × Bytes). Begins b s x.0) (placed at rs)
+
+  abbrev Subset : List Bytes → Type 0
+  Subset rs = (x : Bytes) → Among x rs → Among x (records_of b s)
+
+  each_begins : (rs : List Bytes) (at : ℕ) → records_of b (drop at s) ≡ rs → at ≤ length s → end_of b s ≡ at + end_of b (drop at s) → Subset (records_of b (drop at s)) → Each at rs
+  unfolding placed
+  each_begins [] at e w q sub = nil
+  each_begins (r ∷ rs) at e w q sub = go (ltb at (end_of b s)) refl (each_begins rs)
+    where
+      go : (t : Bool) → ltb at (end_of b s) ≡ t
+          → ((n : ℕ) → records_of b (drop n s) ≡ rs → n ≤ length s → end_of b s ≡ n + end_of b (drop n s) → Subset (records_of b (drop n s)) → Each n rs)
+          → All (λ (x : ℕ × Bytes). Begins b s x.0) ((at, r) ∷ placed (at + length r) rs)
+      go true k others =
+          let m : ℕ = record_size (name_size (drop at s)) (data_size (drop at s)) in
+          let before : at < end_of b s = ltb-true at (end_of b s) k in
+          let h : Here b at m s = here b at s w q before in
+          let both : ◌≡◌ {A = List Bytes} (r ∷ rs) (take m (drop at s) ∷ records_of b (drop (at + m) s)) = sym e ∙ steps at m h in
+          let first : r ≡ take m (drop at s) = cc in
+          let behind : records_of b (drop (at + m) s) ≡ rs = cc in
+          let size : length r ≡ m = ap length first ∙ length-take-le m (drop at s) (rw length-drop (omega (arith, h.next))) in
+          more (begins_here at m h sub w q before) (rw size (others (at + m) behind h.next h.step (stands_next at m h sub)))
+      go false k others =
+          let none : ◌≡◌ {A = List Bytes} [] (r ∷ rs) = sym (chunks_stop (record_length b) (drop at s) (ended b at s q (ltb-false at (end_of b s) k))) ∙ e in
+          let z : ◌≡◌ {A = ℕ} 0 1 = cc in
+          absurd (omega arith)
+
+  pub records_begin : Each 0 (records_of b s)
+  records_begin = each_begins (records_of b s) 0 refl (omega arith) (omega arith) (λ x k. k)
 
   -- ---- the record that a note leads to
 

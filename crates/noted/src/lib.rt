@@ -65,12 +65,12 @@ pub fn note(s: &[u8], nonvolatile: bool, end: usize, table: &mut [u16; NOTES])
     requires { (end ≡ end_of nonvolatile s.now) × (length s.now ≤ max_store) × (length table.old ≡ notes) × Noted nonvolatile s.now table.old }
     ensures { (length table.new ≡ notes) × Noted nonvolatile s.now table.new }
 {
-    let mut at = 0;
-    while at < end {
-        let r = &s[at..];
-        let size = store::record_size(slices::get32(r, 8), slices::get32(r, 12));
-        put(table, key(store::name_of(&r[..size])), (at + 1) as u16);
-        at += size;
+    for record in store::Records::new(s, nonvolatile, end) {
+        put(
+            table,
+            key(store::name_of(record.bytes)),
+            (record.at + 1) as u16,
+        );
     }
 }
 

@@ -9,3 +9,4 @@ pub mod DistinctLaws
 pub mod AttributeLaws
 pub mod StoreLaws
 pub mod PlaceLaws
+pub mod Standing

@@ -85,9 +85,9 @@ byte x h =
     let q : x / 256 ≡ 0 = omega arith in
     number x (omega arith) ∙ rw (p, q)
 
-pub header_bytes_lem : (a n d : ℕ) → a < 256 → n < 256 → d < 65536
-    → 0xAA ∷ 0x55 ∷ 0x3F ∷ 0 ∷ a ∷ 0 ∷ 0 ∷ 0 ∷ n ∷ 0 ∷ 0 ∷ 0 ∷ (d % 256) ∷ (d / 256) ∷ 0 ∷ 0 ∷ [] ≡ record_mark ++ le32_bytes a ++ le32_bytes n ++ le32_bytes d
-header_bytes_lem a n d ha hn hd = rw (byte a ha, byte n hn, number d hd)
+pub header_bytes_lem : {low high : ℕ} (a n d : ℕ) → a < 256 → n < 256 → d < 65536 → low ≡ d % 256 → high ≡ d / 256
+    → 0xAA ∷ 0x55 ∷ 0x3F ∷ 0 ∷ a ∷ 0 ∷ 0 ∷ 0 ∷ n ∷ 0 ∷ 0 ∷ 0 ∷ low ∷ high ∷ 0 ∷ 0 ∷ [] ≡ record_mark ++ le32_bytes a ++ le32_bytes n ++ le32_bytes d
+header_bytes_lem a n d ha hn hd p q = rw (byte a ha, byte n hn, number d hd, p, q)
 
 -- the six writes of a record
 module _ (s : Bytes) (at a : ℕ) (v : Variable) (p : Bytes) (hg : length v.namespace ≡ namespace_bytes) (hs : at ≤ length s) where

@@ -112,7 +112,7 @@ four_name r f b =
     ∙ four_terminated t (and_left _ _ b)
     ∙ ap (λ (n : ℕ). le32 (take n t) 0) k ∙ ap (λ (u : Bytes). le32 u 0) (take-take (30 + name_size r - 32) (32 + name_size r - 32) (drop 32 r) (omega arith))
 
-other_first : (v : Variable) (r : Bytes) → HeaderFits r → body_ok r ≡ true → (le32 r 32 ≡ le32 v.name 0 → ⊥) → is_of v r ≡ false
+pub other_first : (v : Variable) (r : Bytes) → HeaderFits r → body_ok r ≡ true → (le32 r 32 ≡ le32 v.name 0 → ⊥) → is_of v r ≡ false
 other_first v r f b h = forced_off (is_of v r) (λ t. absurd (h (four_name r f b ∙ ap (λ (u : Bytes). le32 u 0) (is_of-name v r t))))
 
 pub other_here : (non_volatile : Bool) (at m : ℕ) (s : Bytes) (v : Variable) → Here non_volatile at m s → (le32 (drop at s) 32 ≡ le32 v.name 0 → ⊥)

@@ -25,6 +25,15 @@ pack_store n rs = packed n 255 rs
 unfoldable pub store_ok : Bool → Bytes → Bool
 store_ok non_volatile s = leb (length s) max_store and all_are 255 (drop (end_of non_volatile s) s)
 
+-- records with where each begins, the first at the byte at
+unfoldable pub placed : ℕ → List Bytes → List (ℕ × Bytes)
+placed at [] = []
+placed at (r ∷ rs) = (at, r) ∷ placed (at + length r) rs
+
+-- the records that stand in a store from the byte at on, with where each begins
+abbrev pub standing : Bool → ℕ → Bytes → List (ℕ × Bytes)
+standing non_volatile at s = placed at (records_of non_volatile (drop at s))
+
 -- where the first record that the test takes stands, among records that begin at the byte at
 unfoldable pub place_from : (Bytes → Bool) → ℕ → List Bytes → Option Found
 place_from p at [] = None

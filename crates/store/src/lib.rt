@@ -1,14 +1,17 @@
 // The store of variables: one record, the search, where a payload stands, and the edits in place.
 #![tactic(auto)]
 
-ghost use Rattle.std.specs.Prelude.{◌≡◌, true, ◌++◌, ℕ, ◌+◌, ◌≤◌, ◌<◌, length, drop};
+ghost use Rattle.std.specs.Prelude.{◌≡◌, true, ◌++◌, ℕ, ◌+◌, ◌/◌, ◌%◌, ◌≤◌, ◌<◌, eqb, length, drop, MatchOption};
 ghost use Rattle.limits.specs.Limits.{namespace_bytes, max_name_bytes, max_payload, record_header};
-ghost use Rattle.slices.specs.Bytes.{Bytes, le32_bytes, all_are, overwrite};
+ghost use Rattle.slices.specs.Bytes.{Bytes, le32, le32_bytes, all_are, overwrite};
 ghost use Rattle.slices.specs.Chunks.{find};
 ghost use Rattle.store.specs.Record.{has_nv, has_bs, has_rt, has_append, attributes_of, name_size, data_size, namespace_of, name_of, record_size, attributes_ok, record_mark, header_ok, body_ok, record_length, is_of, encode_record};
 ghost use Rattle.store.specs.Store.{records_of, end_of, store_ok, place_of, without_variable, has_room, with_record};
 ghost use Rattle.store.specs.Parts.{variable, HeaderFits, Storable, record_in, attributes_in, payload_in, bounds_in, Held, joined, resized};
 
+mod records;
+
+pub use records::{Record, Records};
 use std::ops::Range;
 
 // Where a record was found: it begins at `at` and is `len` bytes long.
@@ -18,42 +21,47 @@ pub struct Found {
     pub len: usize,
 }
 
+// Whether an attribute word has the bit of this weight, a power of two.
+fn has<const WEIGHT: u32>(attributes: u32) -> bool
+    requires { 0 < WEIGHT }
+    ensures { result ≡ eqb (attributes / WEIGHT % 2) 1 }
+{
+    attributes / WEIGHT % 2 == 1
+}
+
 // The bits of an attribute word.
 pub fn has_nv(attributes: u32) -> bool
     ensures { result ≡ has_nv attributes }
 {
-    attributes % 2 == 1
+    has::<1>(attributes)
 }
 
 pub fn has_bs(attributes: u32) -> bool
     ensures { result ≡ has_bs attributes }
 {
-    attributes / 2 % 2 == 1
+    has::<2>(attributes)
 }
 
 pub fn has_rt(attributes: u32) -> bool
     ensures { result ≡ has_rt attributes }
 {
-    attributes / 4 % 2 == 1
+    has::<4>(attributes)
 }
 
 pub fn has_append(attributes: u32) -> bool
     ensures { result ≡ has_append attributes }
 {
-    attributes / 64 % 2 == 1
+    has::<64>(attributes)
 }
 
 // Whether a record of the store may have these attributes.
 fn attributes_ok(attributes: u32, nonvolatile: bool) -> bool
     ensures { result ≡ attributes_ok nonvolatile attributes }
 {
-    let low = (attributes <= 7) & has_bs(attributes);
-    if nonvolatile {
-        return low & has_nv(attributes);
-    }
-    low & !has_nv(attributes)
+    attributes <= 7 && has_bs(attributes) && has_nv(attributes) == nonvolatile
 }
 
+// Whether the header is that of a record. Nine tests of numbers at hand, with no branch between them: `&&` is no plainer.
 fn header_ok(r: &[u8], nonvolatile: bool) -> bool
     requires { record_header ≤ length r.now }
     ensures { result ≡ header_ok nonvolatile r.now }
@@ -75,10 +83,8 @@ fn body_ok(r: &[u8], n: usize, d: usize) -> bool
     requires { (n ≡ name_size r.now) × (d ≡ data_size r.now) × (record_header + n + d ≤ length r.now) }
     ensures { result ≡ body_ok r.now }
 {
-    if !names::is_terminated(&r[limits::RECORD_HEADER..limits::RECORD_HEADER + n]) {
-        return false;
-    }
-    slices::few_are(&r[limits::RECORD_HEADER + n + d..], 255)
+    names::is_terminated(&r[limits::RECORD_HEADER..limits::RECORD_HEADER + n])
+        && slices::few_are(&r[limits::RECORD_HEADER + n + d..], 255)
 }
 
 // How long a record is with a NameSize of n and a DataSize of d.
@@ -89,23 +95,21 @@ pub fn record_size(n: usize, d: usize) -> usize
     (limits::RECORD_HEADER + 3 + n + d) / 4 * 4
 }
 
-// The length of the well-formed record that begins t, or 0.
-pub fn record_length(t: &[u8], nonvolatile: bool) -> usize
-    ensures { result ≡ record_length nonvolatile t.now }
+// The length of the well-formed record that begins t, if one does.
+pub fn record_length(t: &[u8], nonvolatile: bool) -> Option<usize>
+    ensures { MatchOption result (record_length nonvolatile t.now ≡ 0) (λ n. (0 < n) × (record_length nonvolatile t.now ≡ n)) }
 {
     if t.len() < limits::RECORD_HEADER {
-        return 0;
+        return None;
     }
     if !header_ok(t, nonvolatile) {
-        return 0;
+        return None;
     }
     let n = slices::get32(t, 8);
     let d = slices::get32(t, 12);
     let size = record_size(n, d);
-    if t.len() < size {
-        return 0;
-    }
-    if body_ok(&t[..size], n, d) { size } else { 0 }
+    let record = t.get(..size)?;
+    body_ok(record, n, d).then_some(size)
 }
 
 // The namespace of a record.
@@ -130,14 +134,20 @@ fn is_of(r: &[u8], namespace: &[u8], name: &[u8]) -> bool
     requires { HeaderFits r.now }
     ensures { result ≡ is_of (variable namespace.now name.now) r.now }
 {
-    if !names::same_name(name_of(r), name) {
-        return false;
-    }
-    names::same_name(namespace_of(r), namespace)
+    names::same_name(name_of(r), name) && names::same_name(namespace_of(r), namespace)
 }
 
-// Where the variable's record stands in a store whose records end at `end`. What is known to be a record is not tested again.
-// The first four bytes of its name rule most records out: a name of one unit has its closing zero unit there.
+// The same of a record of a store, with the first four bytes of the name, which rule most records out: a name of one unit has its closing zero unit there.
+#[inline(always)]
+fn stands_for(record: &Record<'_>, first: usize, namespace: &[u8], name: &[u8]) -> bool
+    requires { first ≡ le32 name.now 0 }
+    ensures { result ≡ is_of (variable namespace.now name.now) record.now.bytes.now }
+{
+    slices::get32(record.bytes, limits::RECORD_HEADER) == first
+        && is_of(record.bytes, namespace, name)
+}
+
+// Where the variable's record stands in a store whose records end at `end`.
 pub fn find_within(
     s: &[u8],
     nonvolatile: bool,
@@ -149,18 +159,12 @@ pub fn find_within(
     ensures { result ≡ place_of nonvolatile s.now (variable namespace.now name.now) }
 {
     let first = slices::le32(name, 0) as usize;
-    let mut at = 0;
-    while at < end {
-        let r = &s[at..];
-        let size = record_size(slices::get32(r, 8), slices::get32(r, 12));
-        if slices::get32(r, limits::RECORD_HEADER) == first {
-            if is_of(&r[..size], namespace, name) {
-                return Some(Found { at, len: size });
-            }
-        }
-        at += size;
-    }
-    None
+    Records::new(s, nonvolatile, end)
+        .find(|r| stands_for(r, first, namespace, name))
+        .map(|r| Found {
+            at: r.at,
+            len: r.bytes.len(),
+        })
 }
 
 // The attributes of a record.
@@ -245,9 +249,8 @@ pub fn remove(
     requires { (store_ok nonvolatile s.old ≡ true) × (end ≡ end_of nonvolatile s.old) × (found ≡ place_of nonvolatile s.old (variable namespace.now name.now)) }
     ensures { s.new ≡ without_variable nonvolatile s.old (variable namespace.now name.now) }
 {
-    match found {
-        Some(r) => resize_record(s, r.at, r.len, 0, end),
-        None => (),
+    if let Some(r) = found {
+        resize_record(s, r.at, r.len, 0, end);
     }
 }
 
@@ -256,8 +259,7 @@ fn header(attributes: u8, n: usize, d: usize) -> [u8; 16]
     requires { (n < 256) × (d < 65536) }
     ensures { result ≡ record_mark ++ le32_bytes attributes ++ le32_bytes n ++ le32_bytes d }
 {
-    let low = (d % 256) as u8;
-    let high = (d / 256) as u8;
+    let [low, high] = (d as u16).to_le_bytes();
     [
         0xAA,
         0x55,

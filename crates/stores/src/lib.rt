@@ -81,11 +81,7 @@ fn scan(s: &[u8], nonvolatile: bool, others: Walked<'_>, t: &mut [u8; SLOTS]) ->
         → Filter t.new (records_of others.entry.nonvolatile others.entry.s.now ++ records_of nonvolatile s.now) }
 {
     let mut at = 0;
-    loop {
-        let n = store::record_length(&s[at..], nonvolatile);
-        if n == 0 {
-            return Some(at);
-        }
+    while let Some(n) = store::record_length(&s[at..], nonvolatile) {
         let next = at + n;
         let h = hash(&s[at..next]);
         let k = slot(h);
@@ -104,6 +100,7 @@ fn scan(s: &[u8], nonvolatile: bool, others: Walked<'_>, t: &mut [u8; SLOTS]) ->
         t[k] = joined(v, f);
         at = next;
     }
+    Some(at)
 }
 
 // No record of the non-volatile store.

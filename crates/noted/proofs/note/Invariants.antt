@@ -1,17 +1,15 @@
-use Prim.Native.Nat.{◌+◌, ◌-◌, ◌≤◌}
+use Prim.Native.Nat.{ℕ}
 use mathlib.Core.Path.{◌≡◌}
-use lib.ListN.{length, drop}
-use Rattle.lists.specs.Lists.{Among}
+use lib.ListN.{length}
 use Rattle.slices.specs.Bytes.{Bytes}
-use Rattle.store.specs.Store.{records_of, end_of}
-use Rattle.noted.specs.Noted.{notes, Noted}
+use Rattle.lists.specs.Lists.{All}
+use Rattle.store.specs.Store.{standing}
+use Rattle.noted.specs.Noted.{notes, Begins, Noted}
 use Rattle.noted.proofs.note.Given as goal
 
-abbrev pub invariant-loop-at : goal.invariant-loop-at
-invariant-loop-at l =
-    (l.at ≤ length l.s) × (end_of l.nonvolatile l.s ≡ l.at + end_of l.nonvolatile (drop l.at l.s))
-    × ((x : Bytes) → Among x (records_of l.nonvolatile (drop l.at l.s)) → Among x (records_of l.nonvolatile l.s))
+abbrev pub invariant-loop-record : goal.invariant-loop-record
+invariant-loop-record l =
+    let left = l.record-iterator in
+    (goal.iterator-loop-record).can_next left × (goal.iterator-loop-record).is_finite left
+    × All (λ (x : ℕ × Bytes). Begins l.nonvolatile l.s x.0) (standing left.nonvolatile left.at left.store.now)
     × (length l.table ≡ notes) × Noted l.nonvolatile l.s l.table
-
-abbrev pub decreases-loop-at : goal.decreases-loop-at
-decreases-loop-at l = length l.s - l.at

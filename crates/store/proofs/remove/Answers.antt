@@ -20,6 +20,6 @@ returns-in-Some c =
     let at-is : place_of c.args.nonvolatile c.args.s.now (variable c.args.namespace.now c.args.name.now) ≡ Some c.in-Some.r = sym c.requires.2 ∙ c.in-Some.is in
     removed _ _ _ _ (at-is) c.requires.1 c.resize_record.ensures
 
-pub returns-in-None : goal.returns-in-None
-returns-in-None c =
-    sym (without_absent c.args.nonvolatile c.args.s.now _ c.requires.0 (place_absent _ _ 0 (sym c.requires.2 ∙ c.in-None.is)))
+pub returns-in_default : goal.returns-in_default
+returns-in_default c =
+    sym (without_absent c.args.nonvolatile c.args.s.now _ c.requires.0 (place_absent _ _ 0 (sym c.requires.2 ∙ c.in_default.is)))
