@@ -46,6 +46,9 @@ pub fn each_unit<F: Fn(u16) -> bool>(s: &[u8], test: F) -> bool
     blocks.iter().all(|block| block_passes(block, |u| test(u))) && Units(rest).all(|u| test(u))
 }
 
+// The bits that '#' has not.
+const OTHER_BITS: u16 = 0xFFDC;
+
 // How many bytes from the start on, by sixteens, have only units with a bit that '#' has not: then none is zero or '#'. What is behind
 // them decides.
 fn clear_length(s: &[u8]) -> usize
@@ -55,7 +58,7 @@ fn clear_length(s: &[u8]) -> usize
     let (blocks, _) = s.as_chunks::<16>();
     let clear = blocks
         .iter()
-        .take_while(|block| block_passes(*block, |u| u & 0xFFDC != 0));
+        .take_while(|block| block_passes(*block, |u| u & OTHER_BITS != 0));
     16 * clear.count()
 }
 
