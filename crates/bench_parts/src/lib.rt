@@ -8,6 +8,7 @@ ghost use Rattle.policy.specs.Policy.{policy_check};
 ghost use Rattle.stores.specs.Pair.{pair_check};
 ghost use Rattle.bench_parts.specs.Parts.{of_policy, of_pair, of_place, chosen_in, found_in, slot_in, filled, copied, moved};
 
+use policy::Entries;
 use store::Found;
 use stores::Place;
 
@@ -53,7 +54,12 @@ pub extern "C" fn bench_choose(policy: &[u8], namespace: &[u8; 16], name: &[u8])
     if name.len() == 0 {
         return answer(0, 0, 0);
     }
-    match policy::choose(policy, extent.count, &ends, namespace, name) {
+    let entries = Entries {
+        bytes: policy,
+        count: extent.count,
+        ends: &ends,
+    };
+    match policy::choose(entries, namespace, name) {
         Some(chosen) => answer(1, chosen.at, chosen.rank),
         None => answer(0, 0, 0),
     }
@@ -120,13 +126,7 @@ pub extern "C" fn bench_slot(s: &[u8]) -> usize
 fn fits(len: usize, at: usize, n: usize) -> bool
     ensures { result ≡ leb (at + n) len }
 {
-    if len < n {
-        return false;
-    }
-    if len - n < at {
-        return false;
-    }
-    true
+    n <= len && at <= len - n
 }
 
 // Whether an entry's name matches a variable's.

@@ -17,6 +17,7 @@ ghost use Rattle.rules.specs.Engine.{state_of, step, only_status, hand_back, wit
 ghost use Rattle.rules.specs.Engine.Call.{power_on, restart, register, dump, lock, disable, exit, query, read, set, settled};
 ghost use Rattle.engine.specs.Answers.{dump_answer, query_answer, refused_reading, reading_at, reading_of, ReadStep, payload_place, settled_answer, not_settled};
 
+use policy::Entries;
 use rules::Report;
 use set::{Located, Request};
 use status::Status;
@@ -348,6 +349,11 @@ pub fn set(
     let Some(extent) = policy::check_noting(policy, &mut entry_ends) else {
         return corrupted_set();
     };
+    let entries = Entries {
+        bytes: policy,
+        count: extent.count,
+        ends: &entry_ends,
+    };
     let request = Request {
         namespace: &namespace,
         name,
@@ -355,7 +361,7 @@ pub fn set(
         payload,
     };
     let located = Located::new(request, stores);
-    let decided = set::decide(policy, &entry_ends, extent.count, switches, located);
+    let decided = set::decide(entries, switches, located);
     let decision = decided.decision;
     let report = decided.report;
     let known = located.known();
@@ -398,8 +404,13 @@ pub fn settled<'a>(
     if !names::is_name(name) {
         return not_settled(Status::InvalidParameter);
     }
+    let entries = Entries {
+        bytes: policy,
+        count: extent.count,
+        ends: &entry_ends,
+    };
     SettledAnswer {
         status: Status::Success,
-        settled: settled::is_settled(policy, &entry_ends, extent.count, stores, &namespace, name),
+        settled: settled::is_settled(entries, stores, &namespace, name),
     }
 }

@@ -8,6 +8,7 @@ use Rattle.std.specs.Int.Bits.{bit_and, and_zero_l}
 use Rattle.std.specs.Int.{from_le_bytes, w16}
 use Rattle.std.specs.List.{fold, list_all, prefix_len, zip, filter, sum_by}
 use Rattle.std.specs.Simd.{first_chunks}
+use Rattle.std.specs.Cmp.Lexicographic.{pointwise}
 use Rattle.std.proofs.lemmas.List.Folds.{length-prefix_len}
 use lib.Seq.{drop-drop}
 use Rattle.limits.specs.Limits.{max_name_bytes, namespace_bytes}
@@ -16,7 +17,7 @@ use Rattle.lists.proofs.ListsLaws.{all_among, among_left, among_right}
 use Rattle.slices.specs.Test.{◌and◌}
 use Rattle.slices.proofs.TestLaws.{or_cases, and_left, and_right, and_intro, and_no, and_off, and_yes, and_assoc, and_eager}
 use Rattle.slices.specs.Bytes.{Bytes, le16, pairwise}
-use Rattle.slices.proofs.BytesLaws.{pairwise_later, same_eq, same_of}
+use Rattle.slices.proofs.BytesLaws.{pairwise_later, same_eq, same_of, same_eight, same_last}
 use Rattle.slices.proofs.PartLaws.{drop_step}
 use Rattle.names.specs.Name.{units, each, no_zero, is_name, is_terminated, Variable, named, hex_digits, is_hex_digit, unit_matches, wildcards, number_sign, one_if, is_plain_terminated, name_length, closed, signs_in, plain_unit, unit_near}
 
@@ -57,25 +58,6 @@ module _ (s : Bytes) (i : ℕ) (h : i + 2 ≤ length s) where
       let e : i + 1 + 1 ≡ i + 2 = omega arith in
       rw (drop_step s i (omega arith), drop_step s (i + 1) (omega arith), e)
 
-  module _ (test : ℕ → Bool) where
-    each_step : each test (units (drop i s)) ≡ (test (le16 s i) and each test (units (drop (i + 2) s)))
-    unfolding each
-    each_step = rw units_step
-
-    pub each_hit : test (le16 s i) ≡ false → each test (units (drop i s)) ≡ false
-    each_hit e = each_step ∙ rw e (and_off (each test (units (drop (i + 2) s))))
-
-    pub each_miss : test (le16 s i) ≡ true → each test (units (drop i s)) ≡ each test (units (drop (i + 2) s))
-    unfolding ◌and◌
-    each_miss e = each_step ∙ rw e
-
--- the same where the loop goes on after a unit that does not pass
-pub each_more : (test : ℕ → Bool) {a b : Bool} (ok : Bool) (s : Bytes) (i j : ℕ) → i + j + 2 ≤ length s → a ≡ (ok and each test (units (drop (i + j) s)))
-    → b ≡ test (le16 s (i + j)) → a ≡ ((ok && b) and each test (units (drop (i + (j + 2)) s)))
-each_more test ok s i j h e v =
-    let n : i + (j + 2) ≡ i + j + 2 = omega arith in
-    e ∙ rw (v, n, and_eager, each_step s (i + j) h test) (sym (and_assoc ok (test (le16 s (i + j))) (each test (units (drop (i + j + 2) s)))))
-
 -- no whole unit is left
 units_end : (s : Bytes) (i : ℕ) → length s < i + 2 → units (drop i s) ≡ []
 unfolding units
@@ -96,24 +78,46 @@ units_read [] h e = absurd (omega arith)
 units_read (a ∷ []) h e = absurd (omega arith)
 units_read (a ∷ b ∷ s) h e = rw e (ap (λ n. (a + n) ∷ units s) {x = 256 * b} {y = b * 256} (omega arith))
 
-pub each_end : (test : ℕ → Bool) (s : Bytes) (i : ℕ) → length s < i + 2 → each test (units (drop i s)) ≡ true
-unfolding each
-each_end test s i h = rw (units_end s i h)
-
 module _ (s : Bytes) (i : ℕ) (h : i + 2 ≤ length s) where
   pub wildcards_step : wildcards (units (drop i s)) ≡ one_if (eqb (le16 s i) number_sign) + wildcards (units (drop (i + 2) s))
   unfolding wildcards
   wildcards_step = rw (units_step s i h)
 
-  pub wildcards_hit : le16 s i ≡ number_sign → wildcards (units (drop i s)) ≡ 1 + wildcards (units (drop (i + 2) s))
-  wildcards_hit e = wildcards_step ∙ rw (eq-eqb (le16 s i) number_sign e)
-
-  pub wildcards_miss : (le16 s i ≡ number_sign → ⊥) → wildcards (units (drop i s)) ≡ wildcards (units (drop (i + 2) s))
-  wildcards_miss e = wildcards_step ∙ rw (ne_eqb (le16 s i) number_sign e) (omega arith)
-
 pub wildcards_end : (s : Bytes) (i : ℕ) → length s < i + 2 → wildcards (units (drop i s)) ≡ 0
 unfolding wildcards
 wildcards_end s i h = rw (units_end s i h)
+
+-- what `==` says of two slices, or of two arrays, of bytes
+pub pointwise_same : (l m : Bytes) → pointwise eqb l m ≡ pairwise eqb l m
+unfolding pairwise
+pointwise_same [] [] = refl
+pointwise_same [] (y ∷ m) = refl
+pointwise_same (x ∷ l) [] = refl
+pointwise_same (x ∷ l) (y ∷ m) = rw (and_eager, pointwise_same l m)
+
+-- two names by words of eight bytes: k of them, and then what is behind them
+words_same : ℕ → Bytes → Bytes → Bool
+words_same k l m = list_all (λ w. pointwise eqb w.0 w.1) (zip (first_chunks 8 k l) (first_chunks 8 k m))
+
+each_word : (k : ℕ) (l m : Bytes) → pairwise eqb l m ≡ (words_same k l m and pairwise eqb (drop (k * 8) l) (drop (k * 8) m))
+unfolding ◌and◌ words_same
+each_word zero l m = refl
+each_word (suc k) l m =
+    let first : Bool = pointwise eqb (take 8 l) (take 8 m) in
+    let n : 8 + k * 8 ≡ suc k * 8 = omega arith in
+    same_eight l m 0 refl ∙ ap₂ ◌and◌ (sym (pointwise_same (take 8 l) (take 8 m)))
+    (each_word k (drop 8 l) (drop 8 m) ∙ ap₂ (λ p v. words_same k (drop 8 l) (drop 8 m) and pairwise eqb p v) (drop-drop (k * 8) 8 l) (drop-drop (k * 8) 8 m))
+    ∙ sym (and_assoc first (words_same k (drop 8 l) (drop 8 m)) (pairwise eqb (drop (8 + k * 8) l) (drop (8 + k * 8) m)))
+    ∙ ap₂ (λ b j. b and pairwise eqb (drop j l) (drop j m)) (sym (and_eager first (words_same k (drop 8 l) (drop 8 m)))) n
+
+-- names as long whose last words are the same: the words decide
+pub words_decide : {x r : Bool} (k j : ℕ) (l m : Bytes) → x ≡ list_all (λ w. pointwise eqb w.0 w.1) (zip (first_chunks 8 k l) (first_chunks 8 j m))
+    → length l ≡ length m → k ≡ length l / 8 → j ≡ length m / 8 → r ≡ pairwise eqb (take 8 (drop (length l - 8) l)) (take 8 (drop (length l - 8) m)) → r ≡ true → x ≡ pairwise eqb l m
+unfolding ◌and◌ words_same
+words_decide {x} k j l m e h a b last t =
+    let n : j ≡ k = omega (arith, a, b, h) in
+    let rest = same_last l m (length l - 8) last (k * 8) t (omega arith) (omega (arith, h)) (omega (arith, a)) in
+    sym (each_word k l m ∙ rw rest (and_yes (words_same k l m)) ∙ ap (λ i. list_all (λ w. pointwise eqb w.0 w.1) (zip (first_chunks 8 k l) (first_chunks 8 i m))) (sym n) ∙ sym e)
 
 -- ---- what a chain over units gives
 
@@ -512,14 +516,6 @@ module _ (mask : ℕ) (none : bit_and number_sign mask ≡ 0) where
   clear_block [] e = refl
   clear_block (u ∷ us) e = and_intro _ _ (clear_plain u (and_left _ _ e)) (clear_block us (and_right _ _ e))
 
--- the code asks for a unit that is zero or '#'
-pub plain_unless : {u : ℕ} (v : ℕ) {t : Bool} → u ≡ v → (eqb u 0 || eqb u number_sign) ≡ t → plain_unit v ≡ not t
-plain_unless {u} v h e = rw (← h) (go (eqb u 0) (eqb u number_sign) e)
-  where
-    go : (a b : Bool) {t : Bool} → (a || b) ≡ t → (not a && not b) ≡ not t
-    go true b k = ap not k
-    go false b k = ap not k
-
 -- ---- which units are hex digits
 
 -- n numbers from a on
@@ -720,24 +716,6 @@ module _ (p v : Bytes) (i j : ℕ) (h : i + j + 2 ≤ length p) (g : i + j + 2 �
   pub pairs_more : (f : ℕ → ℕ → Bool) {x r : Bool} (ok : Bool) → x ≡ (ok and pairs_from f p v (i + j)) → r ≡ f a b → x ≡ ((ok && r) and pairs_from f p v (i + (j + 2)))
   pairs_more f ok e q =
       e ∙ rw (q, behind, and_eager, pairs_step f p v (i + j) h g ea eb) (sym (and_assoc ok (f a b) (pairs_from f p v (i + j + 2))))
-
-  -- a unit that is the same in both, and no '#'
-  pub matches_plain : {x : Bool} (ok : Bool) → (ok ≡ true → x ≡ matches_from p v (i + j)) → (ok && (eqb a b && not (eqb a number_sign))) ≡ true
-      → x ≡ matches_from p v (i + (j + 2))
-  matches_plain true f e = f refl ∙ pairs_hit unit_matches p v (i + j) h g ea eb (plain (eqb a b) (eqb a number_sign) refl refl e) ∙ rw behind
-    where
-      plain : (s t : Bool) → eqb a b ≡ s → eqb a number_sign ≡ t → (s && not t) ≡ true → unit_matches a b ≡ true
-      plain true false y z k = plain_unit_lem a b z ∙ y
-      plain true true y z k = absurd (false≢true k)
-      plain false t y z k = absurd (false≢true k)
-  matches_plain false f e = absurd (false≢true e)
-
-  -- what holds as long as all before match
-  pub matches_near : {x r : Bool} (ok : Bool) → (x ≡ true → (ok ≡ true) × (matches_from p v (i + j) ≡ true)) → (unit_matches a b ≡ true → r ≡ true)
-      → x ≡ true → ((ok && r) ≡ true) × (matches_from p v (i + (j + 2)) ≡ true)
-  matches_near {x} {r} ok f q t =
-      let m : (unit_matches a b and matches_from p v (i + j + 2)) ≡ true = sym (pairs_step unit_matches p v (i + j) h g ea eb) ∙ (f t).1 in
-      (and_eager ok r ∙ and_intro ok r (f t).0 (q (and_left _ _ m)), rw behind (and_right _ _ m))
 
 pub units_later : (k : ℕ) (s : Bytes) → units (drop (2 * k) s) ≡ drop k (units s)
 unfolding units

@@ -320,21 +320,6 @@ pub fn matches(p: &[u8], v: &[u8]) -> bool
     units_match(own, name)
 }
 
-// Whether two names as long hold the same bytes, left at the first that differs: for a few bytes.
-fn few_equal(a: &[u8], b: &[u8]) -> bool
-    requires { length a.now ≡ length b.now }
-    ensures { result ≡ same a.now b.now }
-{
-    let mut i = 0;
-    while i < a.len() {
-        if a[i] != b[i] {
-            return false;
-        }
-        i += 1;
-    }
-    true
-}
-
 // The one comparison of two names: whether they are the same bytes. The last eight are compared first, since names differ there most often.
 pub fn same_name(a: &[u8], b: &[u8]) -> bool
     ensures { result ≡ same a.now b.now }
@@ -343,34 +328,26 @@ pub fn same_name(a: &[u8], b: &[u8]) -> bool
         return false;
     }
     if a.len() < 8 {
-        return few_equal(a, b);
+        return a == b;
     }
     let last = a.len() - 8;
     if !slices::eight(a, b, last) {
         return false;
     }
-    let mut i = 0;
-    while i < last {
-        if !slices::eight(a, b, i) {
-            return false;
-        }
-        i += 8;
-    }
-    true
+    let (words, _) = a.as_chunks::<8>();
+    let (others, _) = b.as_chunks::<8>();
+    words.iter().zip(others).all(|(x, y)| *x == *y)
 }
 
-// Whether two namespaces are equal. No exit before the end, so that it is compiled to one wide compare.
+// Whether two namespaces are equal. Of arrays, whose length is known, this is compiled to one wide compare.
 pub fn same_namespace(a: &[u8], b: &[u8]) -> bool
     requires { (length a.now ≡ namespace_bytes) × (length b.now ≡ namespace_bytes) }
     ensures { result ≡ same a.now b.now }
 {
-    let mut ok = true;
-    let mut i = 0;
-    while i < limits::NAMESPACE_BYTES {
-        ok = ok & (a[i] == b[i]);
-        i += 1;
+    match (a.as_array::<16>(), b.as_array::<16>()) {
+        (Some(a), Some(b)) => *a == *b,
+        _ => false,
     }
-    ok
 }
 
 // The number of '#' among the units, each looked at.

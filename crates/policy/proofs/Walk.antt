@@ -145,34 +145,25 @@ pub record EntryAt (p : Bytes) (i start end : ℕ) : Type 0 where
   pub is : part start end p ≡ get_or (entries_of p) i []
   pub formed : well_formed (part start end p) ≡ true
 
-entry_at : (ends : List ℕ) (p : Bytes) (i start : ℕ) → EntryEnds ends p → i < length (entries_of p) → start ≡ length (flat (take i (entries_of p)))
-    → EntryAt p i start (get_or ends i 0)
-entry_at ends p i start q h e =
-    let w = at_index p i (omega arith) in
-    let g = hand ends p i _ q w h in
-    let n : i ≡ i + 0 = omega arith in
-    let k : get_or (entries_of p) i [] ≡ take g.size (drop (length (flat (take i (entries_of p)))) p) =
-    ap (λ (m : ℕ). get_or (entries_of p) m []) n ∙ sym (get_or-drop i (entries_of p) 0 []) ∙ ap (λ (l : List Bytes). get_or l 0 []) (split p i _ w g.size g.here (omega (arith, g.least))) in
-    record { inside = g.inside; behind = omega (arith, g.ends, e); is = ap (λ (m : ℕ). part m (get_or ends i 0) p) e ∙ g.own ∙ sym k; formed = rw e g.formed }
-
-module _ (ends : List ℕ) (p : Bytes) (i : ℕ) (q : EntryEnds ends p) (h : i < length (entries_of p)) where
-  pub end_inside : get_or ends i 0 ≤ length p
-  end_inside = (entry_at ends p i _ q h refl).inside
-
-  first_entry : i ≡ 0 → EntryAt p i 0 (get_or ends i 0)
+-- the entry at an index, of count, begins where the one before it ends
+module _ (ends : List ℕ) (p : Bytes) {count : ℕ} (i : ℕ) (c : count ≡ length (entries_of p)) (q : EntryEnds ends p) (h : i < count) where
+  pub first_start : i ≡ 0 → 0 ≡ length (flat (take i (entries_of p)))
   unfolding flat
-  first_entry z = entry_at ends p i 0 q h (rw z)
+  first_start z = rw z
 
-  pub first_is : i ≡ 0 → (take (get_or ends i 0) p ≡ get_or (entries_of p) i []) × (well_formed (take (get_or ends i 0) p) ≡ true)
-  first_is z =
-      let n : get_or ends i 0 ≡ get_or ends i 0 - 0 = omega arith in
-      let e = ap (λ (m : ℕ). take m p) n in
-      (e ∙ (first_entry z).is, ap well_formed e ∙ (first_entry z).formed)
-
-  pub later_entry : (i ≡ 0 → ⊥) → EntryAt p i (get_or ends (i - 1) 0) (get_or ends i 0)
-  later_entry z =
+  pub later_start : (i ≡ 0 → ⊥) → get_or ends (i - 1) 0 ≡ length (flat (take i (entries_of p)))
+  later_start z =
       let n : i - 1 + 1 ≡ i = omega arith in
-      entry_at ends p i (get_or ends (i - 1) 0) q h (q.end (i - 1) (omega arith) ∙ ap (λ (m : ℕ). length (flat (take m (entries_of p)))) n)
+      q.end (i - 1) (omega (arith, c, h)) ∙ ap (λ (m : ℕ). length (flat (take m (entries_of p)))) n
+
+  pub entry_at : {start : ℕ} → start ≡ length (flat (take i (entries_of p))) → EntryAt p i start (get_or ends i 0)
+  entry_at {start = start} e =
+      let w = at_index p i (omega (arith, c, h)) in
+      let g = hand ends p i _ q w (omega (arith, c, h)) in
+      let n : i ≡ i + 0 = omega arith in
+      let k : get_or (entries_of p) i [] ≡ take g.size (drop (length (flat (take i (entries_of p)))) p) =
+      ap (λ (m : ℕ). get_or (entries_of p) m []) n ∙ sym (get_or-drop i (entries_of p) 0 []) ∙ ap (λ (l : List Bytes). get_or l 0 []) (split p i _ w g.size g.here (omega (arith, g.least))) in
+      record { inside = g.inside; behind = omega (arith, g.ends, e); is = ap (λ (m : ℕ). part m (get_or ends i 0) p) e ∙ g.own ∙ sym k; formed = rw e g.formed }
 
 -- ---- a search among the first count entries
 module _ (f : Bytes → Bool) (p : Bytes) (count i at n : ℕ) (w : At p i at) (e : entry_length (drop at p) ≡ n) (h : 0 < n) (q : i < count) where

@@ -16,6 +16,9 @@ ghost use Rattle.policy.specs.Choice.{choice_of};
 ghost use Rattle.policy.specs.Walk.{At, EntryEnds, Passed};
 ghost use Rattle.policy.specs.Best.{as_choice};
 
+mod entries;
+
+pub use entries::Entries;
 use names::Tail;
 
 // The slots of the filter; `specs/Filter.antt` has the same for the proofs.
@@ -267,20 +270,6 @@ pub fn check_dump(dump: &[u8], ends: &mut [u16; ENTRIES]) -> Option<Extent>
     (dump.len() <= extent.used).then_some(extent)
 }
 
-// The entry at index, of those whose ends were noted.
-pub fn entry_at<'a>(policy: &'a [u8], ends: &[u16; ENTRIES], index: usize) -> &'a [u8]
-    requires { (index < length (entries_of policy.now)) × EntryEnds ends.now policy.now }
-    ensures is { result.now ≡ get_or (entries_of policy.now) index [] }
-    ensures formed { well_formed result.now ≡ true }
-{
-    let end = ends[index] as usize;
-    if index == 0 {
-        return &policy[..end];
-    }
-    let start = ends[index - 1] as usize;
-    &policy[start..end]
-}
-
 // Whether an entry of the record has the namespace and the name of e: what registration answers 20 to.
 pub fn contains(policy: &[u8], count: usize, e: &[u8]) -> bool
     requires { (count ≡ length (entries_of policy.now)) × (well_formed e.now ≡ true) }
@@ -413,16 +402,14 @@ fn choice_of(rank: usize, index: usize, at: usize) -> Option<Chosen>
 // The chosen entry for the variable of that namespace and name. The entries were counted, and where they end was noted, when the record
 // was found valid.
 // The best rank so far is NO_RANK while there is none; a rank of 0 is not beaten.
-pub fn choose(
-    policy: &[u8],
-    count: usize,
-    ends: &[u16; ENTRIES],
-    namespace: &[u8; 16],
-    name: &[u8],
-) -> Option<Chosen>
-    requires { (count ≡ length (entries_of policy.now)) × EntryEnds ends.now policy.now }
-    ensures { result ≡ choice_of (entries_of policy.now) (variable namespace.now name.now) }
+pub fn choose(entries: Entries<'_>, namespace: &[u8; 16], name: &[u8]) -> Option<Chosen>
+    ensures { result ≡ choice_of (entries_of entries.entry.bytes.now) (variable namespace.now name.now) }
 {
+    let Entries {
+        bytes: policy,
+        count,
+        ends,
+    } = entries;
     let mut best = limits::NO_RANK;
     let mut best_index = 0;
     let mut best_at = 0;

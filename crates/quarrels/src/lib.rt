@@ -1,7 +1,7 @@
 // Entries of a dump that quarrel (RULES.md, 10.11): two of equal rank that target one variable.
 #![tactic(auto)]
 
-ghost use Rattle.std.specs.Prelude.{◌≡◌, true, ◌≤◌, ◌<◌, length, get_or, replicate, eqb, ltb, []};
+ghost use Rattle.std.specs.Prelude.{◌≡◌, ℕ, true, ◌≤◌, ◌<◌, length, get_or, replicate, eqb, ltb, []};
 ghost use Rattle.std.specs.Int.Bits.{bit_and};
 ghost use Rattle.slices.specs.Test.{◌and◌};
 ghost use Rattle.patterns.specs.Common.{same_signs};
@@ -9,12 +9,11 @@ ghost use Rattle.limits.specs.Limits.{max_entries};
 ghost use Rattle.patterns.specs.Literals.{literal_mask_of, literals_of};
 ghost use Rattle.entry.specs.Entry.{well_formed, name_of};
 ghost use Rattle.policy.specs.Policy.{entries_of};
-ghost use Rattle.policy.specs.Walk.{EntryEnds};
 ghost use Rattle.policy.specs.Dump.{dump_valid};
 ghost use Rattle.quarrels.specs.Quarrel.{quarrel, quarrel_at, pair_of, quarrels_of, buffer_after};
 ghost use Rattle.quarrels.specs.Group.{groups, group_of, group_at, InGroup, Rises, Chains, Others, front, notes, noted_for, Noted, Skipped};
 
-use policy::ENTRIES;
+use policy::{ENTRIES, Entries};
 
 // The groups of entries that may quarrel; `specs/Group.antt` has the same for the proofs.
 const GROUPS: usize = 256;
@@ -48,6 +47,14 @@ pub struct FoundQuarrel {
 // The bytes are no dump.
 #[derive(Clone, Copy, Debug, PartialEq, Eq)]
 pub struct NoDump;
+
+// The entries of a dump that was found valid. (That its bytes are less than 256 is not told of a field.)
+#[derive(Clone, Copy)]
+struct Dump<'a> {
+    entries: Entries<'a>,
+    ghost valid: { dump_valid entries.bytes.now ≡ true },
+    ghost fit: { (k : ℕ) → get_or entries.bytes.now k 0 < 256 },
+}
 
 // The group of an entry: of two that quarrel it is the same. GROUPS where there is no '#' in its name, since such entries quarrel with none.
 fn group_of(e: &[u8]) -> usize
@@ -116,14 +123,13 @@ fn no_notes() -> [usize; NOTES]
 }
 
 // Whether there is an entry at that place, and it has '#' just where the name has it.
-fn alike(dump: &[u8], count: usize, ends: &[u16; ENTRIES], name: &[u8], place: usize) -> bool
-    requires { (count ≡ length (entries_of dump.now)) × EntryEnds ends.now dump.now }
-    ensures { result ≡ (ltb place count and same_signs name.now (name_of (get_or (entries_of dump.now) place []))) }
+fn alike(entries: Entries<'_>, name: &[u8], place: usize) -> bool
+    ensures { result ≡ (ltb place entries.entry.count and same_signs name.now (name_of (get_or (entries_of entries.entry.bytes.now) place []))) }
 {
-    if count <= place {
+    if entries.count <= place {
         return false;
     }
-    let e = policy::entry_at(dump, ends, place);
+    let e = entries.get(place);
     patterns::same_signs(name, entry::name_bytes(e))
 }
 
@@ -154,26 +160,23 @@ fn note(name: &[u8], place: usize, masks: &mut [usize; NOTES], shown: &mut [usiz
 // Links each entry with '#' in its name to the next one of its group, and to the first that has '#' at other places; its first and last units are
 // noted. From the last entry to the first, so that `heads` has the first of each group among those that were met.
 fn link(
-    dump: &[u8],
-    count: usize,
-    ends: &[u16; ENTRIES],
+    entries: Entries<'_>,
     next: &mut [u32; ENTRIES],
     first: &mut [u32; ENTRIES],
     masks: &mut [usize; NOTES],
     shown: &mut [usize; NOTES],
 )
-    requires { (count ≡ length (entries_of dump.now)) × EntryEnds ends.now dump.now
-        × Chains (group_at (entries_of dump.now)) (length (entries_of dump.now)) next.old (length (entries_of dump.now))
-        × Others (entries_of dump.now) first.old (length (entries_of dump.now))
-        × Noted literal_mask_of (entries_of dump.now) masks.old (length (entries_of dump.now))
-        × Noted literals_of (entries_of dump.now) shown.old (length (entries_of dump.now)) }
-    ensures chained { Chains (group_at (entries_of dump.now)) (length (entries_of dump.now)) next.new 0 }
-    ensures others { Others (entries_of dump.now) first.new 0 }
-    ensures noted { Noted literal_mask_of (entries_of dump.now) masks.new 0 × Noted literals_of (entries_of dump.now) shown.new 0 }
+    requires { Chains (group_at (entries_of entries.bytes.now)) (length (entries_of entries.bytes.now)) next.old (length (entries_of entries.bytes.now))
+        × Others (entries_of entries.bytes.now) first.old (length (entries_of entries.bytes.now))
+        × Noted literal_mask_of (entries_of entries.bytes.now) masks.old (length (entries_of entries.bytes.now))
+        × Noted literals_of (entries_of entries.bytes.now) shown.old (length (entries_of entries.bytes.now)) }
+    ensures chained { Chains (group_at (entries_of entries.entry.bytes.now)) (length (entries_of entries.entry.bytes.now)) next.new 0 }
+    ensures others { Others (entries_of entries.entry.bytes.now) first.new 0 }
+    ensures noted { Noted literal_mask_of (entries_of entries.entry.bytes.now) masks.new 0 × Noted literals_of (entries_of entries.entry.bytes.now) shown.new 0 }
 {
     let mut heads = no_heads();
-    for i in (0..count).rev() {
-        let e = policy::entry_at(dump, ends, i);
+    for i in (0..entries.count).rev() {
+        let e = entries.get(i);
         let group = group_of(e);
         if group < GROUPS {
             let name = entry::name_bytes(e);
@@ -183,7 +186,7 @@ fn link(
             first[i] = behind;
             note(name, i, masks, shown);
             let other = place(behind);
-            if alike(dump, count, ends, name, other) {
+            if alike(entries, name, other) {
                 first[i] = first[other];
             }
         }
@@ -200,17 +203,15 @@ fn agree(masks: &[usize; NOTES], shown: &[usize; NOTES], i: usize, j: usize) -> 
 
 // Whether the entries at two places of one group quarrel. Their names are looked at where the first and the last units agree.
 fn quarrel_at(
-    dump: &[u8],
-    ends: &[u16; ENTRIES],
+    dump: Dump<'_>,
     masks: &[usize; NOTES],
     shown: &[usize; NOTES],
     earlier: usize,
     later: usize,
 ) -> bool
-    requires { (dump_valid dump.now ≡ true) × EntryEnds ends.now dump.now
-        × Noted literal_mask_of (entries_of dump.now) masks.now 0 × Noted literals_of (entries_of dump.now) shown.now 0
-        × InGroup (entries_of dump.now) earlier later }
-    ensures { result ≡ quarrel_at (entries_of dump.now) earlier later }
+    requires { Noted literal_mask_of (entries_of dump.entries.bytes.now) masks.now 0 × Noted literals_of (entries_of dump.entries.bytes.now) shown.now 0
+        × InGroup (entries_of dump.entries.bytes.now) earlier later }
+    ensures { result ≡ quarrel_at (entries_of dump.entry.entries.bytes.now) earlier later }
 {
     if !agree(masks, shown, earlier, later) {
         return false;
@@ -218,8 +219,8 @@ fn quarrel_at(
     if !agree(masks, shown, TAILS + earlier, TAILS + later) {
         return false;
     }
-    let e = policy::entry_at(dump, ends, earlier);
-    let f = policy::entry_at(dump, ends, later);
+    let e = dump.entries.get(earlier);
+    let f = dump.entries.get(later);
     quarrel(e, f)
 }
 
@@ -246,25 +247,23 @@ fn candidate(
 // The first two entries that quarrel: of each entry those behind it in its group are looked at, from the first on that has '#' at other places, and behind
 // that one those whose first units agree with its own. (`candidate` is called once only: with two calls the compiler laid one of the loops out with a jump more.)
 fn first_pair(
-    dump: &[u8],
-    count: usize,
-    ends: &[u16; ENTRIES],
+    dump: Dump<'_>,
     next: &[u32; ENTRIES],
     first: &[u32; ENTRIES],
     masks: &[usize; NOTES],
     shown: &[usize; NOTES],
 ) -> Option<Pair>
-    requires { (count ≡ length (entries_of dump.now)) × (dump_valid dump.now ≡ true) × EntryEnds ends.now dump.now
-        × Noted literal_mask_of (entries_of dump.now) masks.now 0 × Noted literals_of (entries_of dump.now) shown.now 0
-        × Chains (group_at (entries_of dump.now)) (length (entries_of dump.now)) next.now 0 × Others (entries_of dump.now) first.now 0 }
-    ensures { result ≡ pair_of (entries_of dump.now) }
+    requires { Noted literal_mask_of (entries_of dump.entries.bytes.now) masks.now 0 × Noted literals_of (entries_of dump.entries.bytes.now) shown.now 0
+        × Chains (group_at (entries_of dump.entries.bytes.now)) (length (entries_of dump.entries.bytes.now)) next.now 0 × Others (entries_of dump.entries.bytes.now) first.now 0 }
+    ensures { result ≡ pair_of (entries_of dump.entry.entries.bytes.now) }
 {
+    let count = dump.entries.count;
     for i in 0..count {
         let own = shown[i];
         let mask = masks[i];
         let mut j = place(first[i]);
         while j < count {
-            if quarrel_at(dump, ends, masks, shown, i, j) {
+            if quarrel_at(dump, masks, shown, i, j) {
                 return Some(Pair {
                     earlier: i,
                     later: j,
@@ -277,21 +276,18 @@ fn first_pair(
 }
 
 // Links and notes the entries of a dump that was found valid, and looks for the first two that quarrel. Without a '#' in it there is nothing to look for.
-fn pair_of(dump: &[u8], count: usize, ends: &[u16; ENTRIES]) -> Option<Pair>
-    requires { (count ≡ length (entries_of dump.now)) × EntryEnds ends.now dump.now × (dump_valid dump.now ≡ true) }
-    ensures { result ≡ pair_of (entries_of dump.now) }
+fn pair_of(dump: Dump<'_>) -> Option<Pair>
+    ensures { result ≡ pair_of (entries_of dump.entry.entries.bytes.now) }
 {
-    if !patterns::has_sign(dump) {
+    if !patterns::has_sign(dump.entries.bytes) {
         return None;
     }
     let mut next = no_links();
     let mut first = no_links();
     let mut masks = no_notes();
     let mut shown = no_notes();
-    link(
-        dump, count, ends, &mut next, &mut first, &mut masks, &mut shown,
-    );
-    first_pair(dump, count, ends, &next, &first, &masks, &shown)
+    link(dump.entries, &mut next, &mut first, &mut masks, &mut shown);
+    first_pair(dump, &next, &first, &masks, &shown)
 }
 
 // The quarrels of a dump: whether the bytes are one, and if so the first two entries that quarrel, with the least name that both target at the
@@ -304,11 +300,16 @@ pub fn quarrels(dump: &[u8], name: &mut [u8; 128]) -> Result<Option<FoundQuarrel
     let Some(extent) = policy::check_dump(dump, &mut ends) else {
         return Err(NoDump);
     };
-    let Some(pair) = pair_of(dump, extent.count, &ends) else {
+    let entries = Entries {
+        bytes: dump,
+        count: extent.count,
+        ends: &ends,
+    };
+    let Some(pair) = pair_of(Dump { entries }) else {
         return Ok(None);
     };
-    let own = entry::name_bytes(policy::entry_at(dump, &ends, pair.earlier));
-    let other = entry::name_bytes(policy::entry_at(dump, &ends, pair.later));
+    let own = entry::name_bytes(entries.get(pair.earlier));
+    let other = entry::name_bytes(entries.get(pair.later));
     patterns::put_least(own, other, name);
     Ok(Some(FoundQuarrel {
         pair,

@@ -12,10 +12,10 @@ ghost use Rattle.policy.specs.Choice.{chosen};
 ghost use Rattle.stores.specs.Pair.{lookup};
 ghost use Rattle.rules.specs.Set.{exists, holds_value};
 ghost use Rattle.rules.specs.Settled.{lock_holds_in, settled_in};
-ghost use Rattle.settled.specs.Prepared.{Prepared};
 
 use entry::{LockRule, Trigger};
 use noted::Notes;
+use policy::Entries;
 use stores::Stores;
 
 // The namespace that stands at a place of an entry.
@@ -52,32 +52,21 @@ fn trigger_holds<'a>(e: &[u8], trigger: Trigger, notes: Notes<'a>) -> bool
 // Whether the variable is settled, where at most so many links are followed: an entry is chosen for it, and the lock of that entry holds.
 #[cycle(lock_holds_settled)]
 fn settled<'a>(
-    policy: &[u8],
-    entry_ends: &[u16; policy::ENTRIES],
-    count: usize,
+    entries: Entries<'_>,
     notes: Notes<'a>,
     namespace: &[u8; 16],
     name: &[u8],
     links: usize,
 ) -> bool
-    requires { Prepared policy.now count entry_ends.now }
-    ensures { result ≡ settled_in links (chosen (entries_of policy.now)) (lookup notes.entry.stores.nv.now notes.entry.stores.vol.now) (variable namespace.now name.now) }
+    ensures { result ≡ settled_in links (chosen (entries_of entries.entry.bytes.now)) (lookup notes.entry.stores.nv.now notes.entry.stores.vol.now) (variable namespace.now name.now) }
 {
-    let Some(chosen) = policy::choose(policy, count, entry_ends, namespace, name) else {
+    let Some(chosen) = policy::choose(entries, namespace, name) else {
         return false;
     };
+    let policy = entries.bytes;
     let at = chosen.at;
     let end = at + slices::get16(policy, at + limits::SIZE_AT);
-    lock_holds(
-        &policy[at..end],
-        policy,
-        entry_ends,
-        count,
-        notes,
-        namespace,
-        name,
-        links,
-    )
+    lock_holds(&policy[at..end], entries, notes, namespace, name, links)
 }
 
 // Whether the lock of the entry e, which is chosen for the variable, holds: by its kind, and of type 3, where a link is left and the trigger holds the Value, by
@@ -85,16 +74,14 @@ fn settled<'a>(
 #[cycle(lock_holds_settled)]
 fn lock_holds<'a>(
     e: &[u8],
-    policy: &[u8],
-    entry_ends: &[u16; policy::ENTRIES],
-    count: usize,
+    entries: Entries<'_>,
     notes: Notes<'a>,
     namespace: &[u8; 16],
     name: &[u8],
     links: usize,
 ) -> bool
-    requires { (well_formed e.now ≡ true) × Prepared policy.now count entry_ends.now }
-    ensures { result ≡ lock_holds_in links (chosen (entries_of policy.now)) (lookup notes.entry.stores.nv.now notes.entry.stores.vol.now) e.now (variable namespace.now name.now) }
+    requires { well_formed e.now ≡ true }
+    ensures { result ≡ lock_holds_in links (chosen (entries_of entries.entry.bytes.now)) (lookup notes.entry.stores.nv.now notes.entry.stores.vol.now) e.now (variable namespace.now name.now) }
 {
     match entry::lock_of(e) {
         LockRule::NoLock => false,
@@ -109,41 +96,22 @@ fn lock_holds<'a>(
             }
             let its_namespace = namespace_at(e, trigger.namespace);
             let its_name = slices::part(e, trigger.name, trigger.name_end);
-            settled(
-                policy,
-                entry_ends,
-                count,
-                notes,
-                &its_namespace,
-                its_name,
-                links - 1,
-            )
+            settled(entries, notes, &its_namespace, its_name, links - 1)
         }
     }
 }
 
 // Whether the variable is settled, over sound stores and a valid policy record.
 pub fn is_settled<'a>(
-    policy: &[u8],
-    entry_ends: &[u16; policy::ENTRIES],
-    count: usize,
+    entries: Entries<'_>,
     stores: Stores<'a>,
     namespace: &[u8; 16],
     name: &[u8],
 ) -> bool
-    requires { Prepared policy.now count entry_ends.now }
-    ensures { result ≡ settled_in max_links (chosen (entries_of policy.now)) (lookup stores.entry.nv.now stores.entry.vol.now) (variable namespace.now name.now) }
+    ensures { result ≡ settled_in max_links (chosen (entries_of entries.entry.bytes.now)) (lookup stores.entry.nv.now stores.entry.vol.now) (variable namespace.now name.now) }
 {
     let mut in_nv = noted::none();
     let mut in_vol = noted::none();
     let notes = Notes::new(stores, &mut in_nv, &mut in_vol);
-    settled(
-        policy,
-        entry_ends,
-        count,
-        notes,
-        namespace,
-        name,
-        limits::MAX_LINKS,
-    )
+    settled(entries, notes, namespace, name, limits::MAX_LINKS)
 }

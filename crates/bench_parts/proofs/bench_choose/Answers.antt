@@ -14,10 +14,10 @@ returns-in_default c = c.answer.ensures ∙ not_ok _ _ _ (check_invalid _ (sym c
 pub returns-then-name-eq0 : goal.returns-then-name-eq0
 returns-then-name-eq0 c = c.answer-then-name-eq0.ensures ∙ not_asked _ _ _ c.if-name-eq0.true
 
-pub choose-requires : goal.choose-requires
-choose-requires c =
+pub invariant_of-entries : goal.invariant_of-entries
+invariant_of-entries c =
     let known : Checked c.args.policy.now c.in-Some.extent.count c.in-Some.extent.used = check_valid _ _ (sym c.check_noting.ensures.answer ∙ c.in-Some.is) in
-    ((known).counted, c.check_noting.ensures.noted (known).valid)
+    record { counted = (known).counted; noted = c.check_noting.ensures.noted (known).valid }
 
 pub returns-in-Some-choose : goal.returns-in-Some-choose
 returns-in-Some-choose c =

@@ -27,10 +27,10 @@ returns-then-not-is_name c =
     settled_lent _ _ (ap (λ s. s.now) told.0) (ap (λ s. s.now) told.1)
     (settled_unnamed _ _ _ _ c.in-Some.stores.checked (valid).valid c.not_settled-then-not-is_name.ensures (simp (n, and_no)))
 
-pub is_settled-requires : goal.is_settled-requires
-is_settled-requires c =
+pub invariant_of-entries : goal.invariant_of-entries
+invariant_of-entries c =
     let valid : Checked c.args.policy.now c.in-Some-check_noting.extent.count c.in-Some-check_noting.extent.used = check_valid _ _ (sym c.check_noting.ensures.answer ∙ c.in-Some-check_noting.is) in
-    record { counted = (valid).counted; ends = c.check_noting.ensures.noted (valid).valid }
+    record { counted = (valid).counted; noted = c.check_noting.ensures.noted (valid).valid }
 
 pub returns : goal.returns
 unfolding named ◌and◌

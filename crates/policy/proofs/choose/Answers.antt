@@ -14,7 +14,7 @@ use Rattle.policy.proofs.choose.Goals.{else-rank-best, then-rank-best}
 
 pub candidate-next-requires : goal.candidate-next-requires
 candidate-next-requires c =
-    (c.requires.0, c.requires.1, at_start c.args.policy.now, c.tail_of-tail.ensures)
+    (c.args.entries.counted, c.args.entries.noted, at_start c.args.entries.bytes.now, c.tail_of-tail.ensures)
 
 pub loop-next-init : goal.loop-next-init
 unfolding as_choice
@@ -22,48 +22,48 @@ loop-next-init c = (omega arith, omega arith, c.candidate-next.ensures.at.1, c.c
 
 pub slice_bounds-rank_for-count : goal.slice_bounds-rank_for-count
 slice_bounds-rank_for-count c =
-    let P : Bytes = c.args.policy.now in
-    let at-hand : Hand (P) c.loop-next.next.index c.loop-next.next.at (get_or c.args.ends.now c.loop-next.next.index 0) = hand c.args.ends.now (P) c.loop-next.next.index c.loop-next.next.at c.requires.1 c.loop-next.invariant.2 (omega (arith, c.requires.0, c.loop-next-test.true)) in
+    let P : Bytes = c.args.entries.bytes.now in
+    let at-hand : Hand (P) c.loop-next.next.index c.loop-next.next.at (get_or c.args.entries.ends.now c.loop-next.next.index 0) = hand c.args.entries.ends.now (P) c.loop-next.next.index c.loop-next.next.at c.args.entries.noted c.loop-next.invariant.2 (omega (arith, c.args.entries.counted, c.loop-next-test.true)) in
     omega (arith, (at-hand).ends)
 
 pub slice_bounds-rank_for-start : goal.slice_bounds-rank_for-start
 slice_bounds-rank_for-start c =
-    let P : Bytes = c.args.policy.now in
-    let at-hand : Hand (P) c.loop-next.next.index c.loop-next.next.at (get_or c.args.ends.now c.loop-next.next.index 0) = hand c.args.ends.now (P) c.loop-next.next.index c.loop-next.next.at c.requires.1 c.loop-next.invariant.2 (omega (arith, c.requires.0, c.loop-next-test.true)) in
+    let P : Bytes = c.args.entries.bytes.now in
+    let at-hand : Hand (P) c.loop-next.next.index c.loop-next.next.at (get_or c.args.entries.ends.now c.loop-next.next.index 0) = hand c.args.entries.ends.now (P) c.loop-next.next.index c.loop-next.next.at c.args.entries.noted c.loop-next.invariant.2 (omega (arith, c.args.entries.counted, c.loop-next-test.true)) in
     omega (arith, (at-hand).ends)
 
 pub slice_bounds-rank_for-end : goal.slice_bounds-rank_for-end
 slice_bounds-rank_for-end c =
-    let P : Bytes = c.args.policy.now in
-    let at-hand : Hand (P) c.loop-next.next.index c.loop-next.next.at (get_or c.args.ends.now c.loop-next.next.index 0) = hand c.args.ends.now (P) c.loop-next.next.index c.loop-next.next.at c.requires.1 c.loop-next.invariant.2 (omega (arith, c.requires.0, c.loop-next-test.true)) in
+    let P : Bytes = c.args.entries.bytes.now in
+    let at-hand : Hand (P) c.loop-next.next.index c.loop-next.next.at (get_or c.args.entries.ends.now c.loop-next.next.index 0) = hand c.args.entries.ends.now (P) c.loop-next.next.index c.loop-next.next.at c.args.entries.noted c.loop-next.invariant.2 (omega (arith, c.args.entries.counted, c.loop-next-test.true)) in
     (at-hand).inside
 
 pub rank_for-rank-requires : goal.rank_for-rank-requires
 rank_for-rank-requires c =
-    let P : Bytes = c.args.policy.now in
-    let at-hand : Hand (P) c.loop-next.next.index c.loop-next.next.at (get_or c.args.ends.now c.loop-next.next.index 0) = hand c.args.ends.now (P) c.loop-next.next.index c.loop-next.next.at c.requires.1 c.loop-next.invariant.2 (omega (arith, c.requires.0, c.loop-next-test.true)) in
+    let P : Bytes = c.args.entries.bytes.now in
+    let at-hand : Hand (P) c.loop-next.next.index c.loop-next.next.at (get_or c.args.entries.ends.now c.loop-next.next.index 0) = hand c.args.entries.ends.now (P) c.loop-next.next.index c.loop-next.next.at c.args.entries.noted c.loop-next.invariant.2 (omega (arith, c.args.entries.counted, c.loop-next-test.true)) in
     (at-hand).formed
 
 pub returns-then-rank-eq0 : goal.returns-then-rank-eq0
 returns-then-rank-eq0 c =
-    let P : Bytes = c.args.policy.now in
+    let P : Bytes = c.args.entries.bytes.now in
     let Asked : Variable = variable c.args.namespace.now c.args.name.now in
-    let at-hand : Hand (P) c.loop-next.next.index c.loop-next.next.at (get_or c.args.ends.now c.loop-next.next.index 0) = hand c.args.ends.now (P) c.loop-next.next.index c.loop-next.next.at c.requires.1 c.loop-next.invariant.2 (omega (arith, c.requires.0, c.loop-next-test.true)) in
+    let at-hand : Hand (P) c.loop-next.next.index c.loop-next.next.at (get_or c.args.entries.ends.now c.loop-next.next.index 0) = hand c.args.entries.ends.now (P) c.loop-next.next.index c.loop-next.next.at c.args.entries.noted c.loop-next.invariant.2 (omega (arith, c.args.entries.counted, c.loop-next-test.true)) in
     on_zero (P) (Asked) c.loop-next.next.index c.loop-next.next.at _ c.loop-next.invariant.2 (at-hand)
     c.loop-next.best c.loop-next.best_index c.loop-next.best_at c.loop-next.invariant.0 c.loop-next.invariant.3 c.rank_for-rank.result c.rank_for-rank.ensures c.if-rank-eq0.true c.loop-next.invariant.1
 
 pub candidate-next-requires-in-loop-next : goal.candidate-next-requires-in-loop-next
 candidate-next-requires-in-loop-next c =
-    let P : Bytes = c.args.policy.now in
+    let P : Bytes = c.args.entries.bytes.now in
     let tail : TailOf (whole_units c.args.name.now) c.tail_of-tail.result.mask c.tail_of-tail.result.shown = c.tail_of-tail.ensures in
-    let at-hand : Hand (P) c.loop-next.next.index c.loop-next.next.at (get_or c.args.ends.now c.loop-next.next.index 0) = hand c.args.ends.now (P) c.loop-next.next.index c.loop-next.next.at c.requires.1 c.loop-next.invariant.2 (omega (arith, c.requires.0, c.loop-next-test.true)) in
-    (c.requires.0, c.requires.1, (at-hand).next, tail)
+    let at-hand : Hand (P) c.loop-next.next.index c.loop-next.next.at (get_or c.args.entries.ends.now c.loop-next.next.index 0) = hand c.args.entries.ends.now (P) c.loop-next.next.index c.loop-next.next.at c.args.entries.noted c.loop-next.invariant.2 (omega (arith, c.args.entries.counted, c.loop-next-test.true)) in
+    (c.args.entries.counted, c.args.entries.noted, (at-hand).next, tail)
 
 pub loop-next-preserved : goal.loop-next-preserved
 loop-next-preserved c =
-    let P : Bytes = c.args.policy.now in
+    let P : Bytes = c.args.entries.bytes.now in
     let Asked : Variable = variable c.args.namespace.now c.args.name.now in
-    let at-hand : Hand (P) c.loop-next.next.index c.loop-next.next.at (get_or c.args.ends.now c.loop-next.next.index 0) = hand c.args.ends.now (P) c.loop-next.next.index c.loop-next.next.at c.requires.1 c.loop-next.invariant.2 (omega (arith, c.requires.0, c.loop-next-test.true)) in
+    let at-hand : Hand (P) c.loop-next.next.index c.loop-next.next.at (get_or c.args.entries.ends.now c.loop-next.next.index 0) = hand c.args.entries.ends.now (P) c.loop-next.next.index c.loop-next.next.at c.args.entries.noted c.loop-next.invariant.2 (omega (arith, c.args.entries.counted, c.loop-next-test.true)) in
     elim c.if-rank-best.branch [
       | then-rank-best v ↦ (
         omega (arith, v.if-rank-best.true),
@@ -85,7 +85,7 @@ loop-next-preserved c =
 
 pub returns : goal.returns
 returns c =
-    let P : Bytes = c.args.policy.now in
+    let P : Bytes = c.args.entries.bytes.now in
     let Asked : Variable = variable c.args.namespace.now c.args.name.now in
     c.choice_of.ensures
-    ∙ sym (c.loop-next.invariant.3 ∙ choice_end (as_choice c.loop-next.best c.loop-next.best_index c.loop-next.best_at) c.loop-next.next.index c.loop-next.next.at (entries_of (P)) (Asked) (omega (arith, c.requires.0, c.loop-next-test.false)))
+    ∙ sym (c.loop-next.invariant.3 ∙ choice_end (as_choice c.loop-next.best c.loop-next.best_index c.loop-next.best_at) c.loop-next.next.index c.loop-next.next.at (entries_of (P)) (Asked) (omega (arith, c.args.entries.counted, c.loop-next-test.false)))

@@ -17,9 +17,9 @@ one-there : {r : Bool} {m e : Bytes} (name f : Bytes) (place count : ℕ) → pl
 unfolding ◌and◌
 one-there name f place count h a b c = a ∙ ap (same_signs name) (b ∙ ap name_of c) ∙ rw (lt-ltb place count h)
 
-pub returns-then-count-place : goal.returns-then-count-place
-returns-then-count-place c = none_there c.args.place c.args.count _ c.if-count-place.true
+pub returns-then-entries-place : goal.returns-then-entries-place
+returns-then-entries-place c = none_there c.args.place c.args.entries.count _ c.if-entries-place.true
 
 pub returns : goal.returns
 returns c =
-    one-there c.args.name.now _ c.args.place c.args.count c.if-count-place.false c.same_signs.ensures c.name_bytes.ensures c.entry_at-e.ensures.is
+    one-there c.args.name.now _ c.args.place c.args.entries.count c.if-entries-place.false c.same_signs.ensures c.name_bytes.ensures c.get-e.ensures.is

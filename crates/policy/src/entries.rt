@@ -1,0 +1,45 @@
+// The entries of a policy record or a dump that was found valid.
+
+ghost use Rattle.std.specs.Prelude.{◌≡◌, length};
+ghost use Rattle.policy.specs.Policy.{entries_of};
+ghost use Rattle.policy.specs.Walk.{EntryEnds};
+
+use crate::ENTRIES;
+
+// The bytes, how many entries they begin with, and where each of these ends.
+#[derive(Clone, Copy)]
+pub struct Entries<'a> {
+    pub bytes: &'a [u8],
+    pub count: usize,
+    pub ends: &'a [u16; ENTRIES],
+    pub ghost counted: { count ≡ length (entries_of bytes.now) },
+    pub ghost noted: { EntryEnds ends.now bytes.now },
+}
+
+impl<'a> Entries<'a> {
+    ghost use Rattle.std.specs.Prelude.{true, [], get_or, take, ◌<◌};
+    ghost use Rattle.slices.specs.Chunks.{flat};
+    ghost use Rattle.entry.specs.Entry.{well_formed};
+
+    // The first byte of the entry at index.
+    fn start(self, index: usize) -> usize
+        requires { index < self.count }
+        ensures { result ≡ length (flat (take index (entries_of self.entry.bytes.now))) }
+    {
+        if index == 0 {
+            return 0;
+        }
+        self.ends[index - 1] as usize
+    }
+
+    // The entry at index.
+    pub fn get(self, index: usize) -> &'a [u8]
+        requires { index < self.count }
+        ensures is { result.now ≡ get_or (entries_of self.entry.bytes.now) index [] }
+        ensures formed { well_formed result.now ≡ true }
+    {
+        let start = self.start(index);
+        let end = self.ends[index] as usize;
+        &self.bytes[start..end]
+    }
+}
