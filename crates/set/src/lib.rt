@@ -220,10 +220,9 @@ fn report(entries: Entries, enabled: bool, located: Located) -> Report
     let Some(chosen) = policy::choose(entries, request.namespace, request.name) else {
         return no_report();
     };
-    let policy = entries.bytes;
     let at = chosen.at;
-    let end = at + slices::get16(policy, at + limits::SIZE_AT);
-    let e = &policy[at..end];
+    let end = at + slices::get16(entries.bytes, at + limits::SIZE_AT);
+    let e = &entries.bytes[at..end];
     let ground = entry_ground(e, located);
     let place = chosen.index as u32;
     report_for(ground, place, chosen.rank as u32, e, request.attributes)

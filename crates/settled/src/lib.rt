@@ -29,14 +29,14 @@ fn namespace_at(e: &[u8], at: usize) -> [u8; 16]
 }
 
 // Whether the variable exists.
-fn variable_exists<'a>(notes: Notes<'a>, namespace: &[u8; 16], name: &[u8]) -> bool
+fn variable_exists(notes: Notes<'_>, namespace: &[u8; 16], name: &[u8]) -> bool
     ensures { result ≡ exists (lookup notes.entry.stores.nv.now notes.entry.stores.vol.now (variable namespace.now name.now)) }
 {
     stores::is_somewhere(notes.locate(namespace, name))
 }
 
 // Whether the trigger of an entry holds the Value (RULES.md, 5).
-fn trigger_holds<'a>(e: &[u8], trigger: Trigger, notes: Notes<'a>) -> bool
+fn trigger_holds(e: &[u8], trigger: Trigger, notes: Notes<'_>) -> bool
     requires { trigger.namespace ≡ trigger_namespace_at }
     ensures { result ≡ holds_value (lookup notes.entry.stores.nv.now notes.entry.stores.vol.now (variable
         (part trigger.namespace (trigger.namespace + 16) e.now)
@@ -51,9 +51,9 @@ fn trigger_holds<'a>(e: &[u8], trigger: Trigger, notes: Notes<'a>) -> bool
 
 // Whether the variable is settled, where at most so many links are followed: an entry is chosen for it, and the lock of that entry holds.
 #[cycle(lock_holds_settled)]
-fn settled<'a>(
+fn settled(
     entries: Entries<'_>,
-    notes: Notes<'a>,
+    notes: Notes<'_>,
     namespace: &[u8; 16],
     name: &[u8],
     links: usize,
@@ -63,19 +63,25 @@ fn settled<'a>(
     let Some(chosen) = policy::choose(entries, namespace, name) else {
         return false;
     };
-    let policy = entries.bytes;
     let at = chosen.at;
-    let end = at + slices::get16(policy, at + limits::SIZE_AT);
-    lock_holds(&policy[at..end], entries, notes, namespace, name, links)
+    let end = at + slices::get16(entries.bytes, at + limits::SIZE_AT);
+    lock_holds(
+        &entries.bytes[at..end],
+        entries,
+        notes,
+        namespace,
+        name,
+        links,
+    )
 }
 
 // Whether the lock of the entry e, which is chosen for the variable, holds: by its kind, and of type 3, where a link is left and the trigger holds the Value, by
 // whether the trigger's variable is settled with one link fewer.
 #[cycle(lock_holds_settled)]
-fn lock_holds<'a>(
+fn lock_holds(
     e: &[u8],
     entries: Entries<'_>,
-    notes: Notes<'a>,
+    notes: Notes<'_>,
     namespace: &[u8; 16],
     name: &[u8],
     links: usize,
@@ -102,9 +108,9 @@ fn lock_holds<'a>(
 }
 
 // Whether the variable is settled, over sound stores and a valid policy record.
-pub fn is_settled<'a>(
+pub fn is_settled(
     entries: Entries<'_>,
-    stores: Stores<'a>,
+    stores: Stores<'_>,
     namespace: &[u8; 16],
     name: &[u8],
 ) -> bool
