@@ -3,7 +3,7 @@ ghost use Rattle.std.specs.Prelude.{◌≡◌, true, false, length};
 ghost use Rattle.noted.specs.Noted.{notes, Noted};
 
 use crate::NOTES;
-use stores::{Place, Stores};
+use stores::{Lookup, Place, Stores};
 
 // The stores, and the notes of each.
 #[derive(Clone, Copy)]
@@ -62,5 +62,15 @@ impl<'a> Notes<'a> {
             };
         }
         self.stores.locate(namespace, name)
+    }
+}
+
+impl<'a> Lookup for Notes<'a> {
+    ghost use Rattle.stores.specs.Pair.{lookup};
+
+    ghost found = { λ n. lookup n.stores.nv.now n.stores.vol.now };
+
+    fn payload_of(&self, namespace: &[u8], name: &[u8]) -> &[u8] {
+        self.stores.payload_at(self.locate(namespace, name))
     }
 }

@@ -1,6 +1,6 @@
 -- The scans and the tests behind them together. Assumes nothing.
 use Prim.Native.Nat.{ℕ, ◌≤◌, ◌<◌}
-use mathlib.Core.Path.{◌≡◌, refl, sym, ◌∙◌}
+use mathlib.Core.Path.{◌≡◌, refl, sym, subst, subst⁻¹, ◌∙◌}
 use mathlib.Core.List.{List, [], ◌++◌}
 use mathlib.Core.Bool.{Bool, true, false, ◌&&◌}
 use native.Mathlib.Omega.{arith}
@@ -18,7 +18,8 @@ use Rattle.store.specs.Record.{same_variable}
 use Rattle.store.specs.Store.{records_of, end_of, store_ok}
 use Rattle.store.proofs.StoreLaws.{end_of-within}
 use Rattle.stores.specs.Pair.{all_records, ends_of, sound, sound_alone, pair_check}
-use Rattle.stores.specs.Filter.{scanned}
+use Rattle.slices.proofs.ChunksLaws.{nil}
+use Rattle.stores.specs.Filter.{slots, Filter, scanned}
 use Rattle.std.specs.Prelude.{Option, Some, None, cond}
 use Rattle.std.specs.Bool.{then_some}
 
@@ -47,6 +48,16 @@ module _ (non_volatile : Bool) (s : Bytes) (os : List Bytes) where
       go : (b : Bool) → distinct same_variable (os ++ records_of non_volatile s) ≡ b → distinct same_variable (os ++ records_of non_volatile s) ≡ false
       go true q = let f : ◌≡◌ {A = Option ℕ} (Some (end_of non_volatile s)) None = rw q at e in absurd (let z : ◌≡◌ {A = ℕ} 0 1 = cc in omega arith)
       go false q = q
+
+-- no record at all: no variable twice, and a filter of zeros has them
+pub empty_met : {os : List Bytes} {t : Bytes} → os ≡ [] → length t ≡ slots → (distinct same_variable os ≡ true) × Filter t os
+unfolding distinct
+empty_met {t = t} e h = subst⁻¹ (λ os. (distinct same_variable os ≡ true) × Filter t os) e (refl, record { room = h; marks = nil })
+
+-- the records of a store that was scanned behind none, and the filter that has them
+pub first_met : {os rs : List Bytes} {t : Bytes} → os ≡ [] → distinct same_variable rs ≡ true → (distinct same_variable (os ++ rs) ≡ true → Filter t (os ++ rs))
+    → (distinct same_variable rs ≡ true) × Filter t rs
+first_met {rs = rs} {t} e d f = (d, subst (λ os. distinct same_variable (os ++ rs) ≡ true → Filter t (os ++ rs)) e f d)
 
 -- a store's own test, from the bytes behind its records
 free_is : {x : Bool} {k : ℕ} (non_volatile : Bool) (s : Bytes) → length s ≤ max_store → k ≡ end_of non_volatile s → x ≡ all_are 255 (part k (length s) s) → store_ok non_volatile s ≡ x

@@ -2,7 +2,7 @@
 // The check's filter has one byte for each slot of a hash; a record is searched for only where its slot does not rule out that its variable was seen.
 #![tactic(auto)]
 
-ghost use Rattle.std.specs.Prelude.{◌≡◌, ◌++◌, true, false, ◌<◌, length};
+ghost use Rattle.std.specs.Prelude.{◌≡◌, ◌++◌, [], true, false, ◌<◌, length};
 ghost use Rattle.slices.specs.Filter.{joined};
 ghost use Rattle.slices.specs.Chunks.{contains, distinct};
 ghost use Rattle.store.specs.Record.{variable_of, is_of, same_variable};
@@ -12,11 +12,15 @@ ghost use Rattle.stores.specs.Pair.{sound_alone, ends_of, pair_check};
 ghost use Rattle.stores.specs.Filter.{slots, hash_of, slot_of, fingerprint_of, Filter, scanned};
 ghost use Rattle.stores.specs.Place.{place_in, is_somewhere, attributes_at, payload_at, bounds_at, Within};
 
+mod lookup;
 mod sound;
+mod walked;
 
+pub use lookup::Lookup;
 pub use sound::Stores;
 use std::ops::Range;
 use store::Found;
+use walked::Walked;
 
 // The slots of the filter; `specs/Filter.antt` has the same for the proofs.
 const SLOTS: usize = 8192;
@@ -58,46 +62,23 @@ fn joined(v: u8, fingerprint: u8) -> u8
     if v == 0 { fingerprint } else { 255 }
 }
 
-// Whether the variable has a record in a store whose records end at `end`.
-fn has_within(s: &[u8], nonvolatile: bool, end: usize, namespace: &[u8], name: &[u8]) -> bool
-    requires { end ≡ end_of nonvolatile s.now }
-    ensures { result ≡ contains (is_of (variable namespace.now name.now)) (records_of nonvolatile s.now) }
-{
-    store::find_within(s, nonvolatile, end, namespace, name).is_some()
-}
-
-// Whether the record r has a variable of o or of s.
-fn is_repeated(
-    r: &[u8],
-    o: &[u8],
-    other: bool,
-    oend: usize,
-    s: &[u8],
-    nonvolatile: bool,
-    end: usize,
-) -> bool
-    requires { HeaderFits r.now × (oend ≡ end_of other o.now) × (end ≡ end_of nonvolatile s.now) }
-    ensures { result ≡ contains (same_variable r.now) (records_of other o.now ++ records_of nonvolatile s.now) }
+// Whether the record r has a variable of one of two stores.
+fn is_repeated(r: &[u8], others: Walked<'_>, own: Walked<'_>) -> bool
+    requires { HeaderFits r.now }
+    ensures { result ≡ contains (same_variable r.now) (records_of others.entry.nonvolatile others.entry.s.now ++ records_of own.entry.nonvolatile own.entry.s.now) }
 {
     let namespace = store::namespace_of(r);
     let name = store::name_of(r);
-    has_within(o, other, oend, namespace, name) | has_within(s, nonvolatile, end, namespace, name)
+    others.has(namespace, name) | own.has(namespace, name)
 }
 
-// Walks the records of s behind those of o, which the filter t has, and answers where they end. No variable may stand twice: there is no answer then. The filter
-// then has both.
-fn scan(
-    s: &[u8],
-    nonvolatile: bool,
-    o: &[u8],
-    other: bool,
-    oend: usize,
-    t: &mut [u8; SLOTS],
-) -> Option<usize>
-    requires { (oend ≡ end_of other o.now) × (distinct same_variable (records_of other o.now) ≡ true) × Filter t.old (records_of other o.now) }
-    ensures answer { result ≡ scanned nonvolatile s.now (records_of other o.now) }
-    ensures filter { distinct same_variable (records_of other o.now ++ records_of nonvolatile s.now) ≡ true
-        → Filter t.new (records_of other o.now ++ records_of nonvolatile s.now) }
+// Walks the records of s behind those of another store, which the filter t has, and answers where they end. No variable may stand twice: there is no answer then.
+// The filter then has both.
+fn scan(s: &[u8], nonvolatile: bool, others: Walked<'_>, t: &mut [u8; SLOTS]) -> Option<usize>
+    requires { (distinct same_variable (records_of others.nonvolatile others.s.now) ≡ true) × Filter t.old (records_of others.nonvolatile others.s.now) }
+    ensures answer { result ≡ scanned nonvolatile s.now (records_of others.entry.nonvolatile others.entry.s.now) }
+    ensures filter { distinct same_variable (records_of others.entry.nonvolatile others.entry.s.now ++ records_of nonvolatile s.now) ≡ true
+        → Filter t.new (records_of others.entry.nonvolatile others.entry.s.now ++ records_of nonvolatile s.now) }
 {
     let mut at = 0;
     loop {
@@ -111,12 +92,28 @@ fn scan(
         let f = fingerprint(h);
         let v = t[k];
         if (v == 255) | (v == f) {
-            if is_repeated(&s[at..next], o, other, oend, &s[..at], nonvolatile, at) {
+            let own = Walked {
+                s: &s[..at],
+                nonvolatile,
+                end: at,
+            };
+            if is_repeated(&s[at..next], others, own) {
                 return None;
             }
         }
         t[k] = joined(v, f);
         at = next;
+    }
+}
+
+// No record of the non-volatile store.
+fn no_records(nv: &[u8]) -> Walked<'_>
+    ensures { records_of result.nonvolatile result.s.now ≡ [] }
+{
+    Walked {
+        s: &nv[..0],
+        nonvolatile: true,
+        end: 0,
     }
 }
 
@@ -138,8 +135,13 @@ pub fn check(nv: &[u8], vol: &[u8]) -> Option<Ends>
         return None;
     }
     let mut t = empty();
-    let nv_end = scan(nv, true, &nv[..0], true, 0, &mut t)?;
-    let vol_end = scan(vol, false, nv, true, nv_end, &mut t)?;
+    let nv_end = scan(nv, true, no_records(nv), &mut t)?;
+    let walked = Walked {
+        s: nv,
+        nonvolatile: true,
+        end: nv_end,
+    };
+    let vol_end = scan(vol, false, walked, &mut t)?;
     let free = slices::all_are(&nv[nv_end..], 255) & slices::all_are(&vol[vol_end..], 255);
     free.then_some(Ends {
         nv: nv_end,
@@ -155,7 +157,7 @@ pub fn check_alone(nv: &[u8]) -> bool
         return false;
     }
     let mut t = empty();
-    let Some(end) = scan(nv, true, &nv[..0], true, 0, &mut t) else {
+    let Some(end) = scan(nv, true, no_records(nv), &mut t) else {
         return false;
     };
     slices::all_are(&nv[end..], 255)

@@ -3,4 +3,4 @@ use Rattle.stores.proofs.is_repeated.Goals as goal
 
 pub returns : goal.returns
 returns c =
-    search_is _ _ _ c.namespace_of-namespace.ensures c.name_of-name.ensures c.has_within.ensures c.has_within-2.ensures
+    search_is _ _ _ c.namespace_of-namespace.ensures c.name_of-name.ensures c.has.ensures c.has-2.ensures

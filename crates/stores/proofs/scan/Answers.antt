@@ -16,7 +16,7 @@ use Rattle.stores.proofs.scan.Goals as goal
 use Rattle.stores.proofs.scan.Goals.{else-v-f, then-v-f+else-is_repeated}
 
 pub loop-nonvolatile-init : goal.loop-nonvolatile-init
-loop-nonvolatile-init c = seen_start _ _ _ _ c.requires.1 c.requires.2
+loop-nonvolatile-init c = seen_start _ _ _ _ c.requires.0 c.requires.1
 
 pub returns-then-n-eq0 : goal.returns-then-n-eq0
 returns-then-n-eq0 c =
@@ -42,17 +42,20 @@ hash-h-requires c =
     let fits : HeaderFits (part c.loop-nonvolatile.at (c.loop-nonvolatile.at + c.record_length-n.result) c.args.s.now) = rw (part_of c.loop-nonvolatile.at c.record_length-n.result c.args.s.now) (begins_fits _ _ _ (begins _ _ _ (found) (omega arith))) in
     fits
 
+pub invariant_of-own : goal.invariant_of-own
+invariant_of-own c = record { ended = seen_used _ _ _ _ _ c.loop-nonvolatile.invariant }
+
 pub is_repeated-requires : goal.is_repeated-requires
 is_repeated-requires c =
     let found : record_length c.args.nonvolatile (drop c.loop-nonvolatile.at c.args.s.now) ≡ c.record_length-n.result = sym (c.record_length-n.ensures ∙ ap (record_length _) (rest_at c.loop-nonvolatile.at _)) in
     let fits : HeaderFits (part c.loop-nonvolatile.at (c.loop-nonvolatile.at + c.record_length-n.result) c.args.s.now) = rw (part_of c.loop-nonvolatile.at c.record_length-n.result c.args.s.now) (begins_fits _ _ _ (begins _ _ _ (found) (omega arith))) in
-    (fits, c.requires.0, seen_used _ _ _ _ _ c.loop-nonvolatile.invariant)
+    fits
 
 pub returns-then-is_repeated : goal.returns-then-is_repeated
 returns-then-is_repeated c =
     let found : record_length c.args.nonvolatile (drop c.loop-nonvolatile.at c.args.s.now) ≡ c.record_length-n.result = sym (c.record_length-n.ensures ∙ ap (record_length _) (rest_at c.loop-nonvolatile.at _)) in
     let a = c.args in
-    let o = records_of a.other a.o.now in
+    let o = records_of a.others.nonvolatile a.others.s.now in
     let d = repeated a.nonvolatile c.loop-nonvolatile.at c.record_length-n.result a.s.now o _ c.loop-nonvolatile.invariant (found) (omega arith)
     (search_at c.loop-nonvolatile.at c.record_length-n.result a.s.now (o ++ records_of a.nonvolatile (take c.loop-nonvolatile.at a.s.now)) c.is_repeated.ensures) c.if-is_repeated.true in
     record { answer = scanned_repeated a.nonvolatile a.s.now o d; filter = λ q. absurd (let z : ◌≡◌ {A = ℕ} 0 1 = cc in omega arith) }
@@ -61,7 +64,7 @@ pub loop-nonvolatile-preserved : goal.loop-nonvolatile-preserved
 loop-nonvolatile-preserved c =
     let found : record_length c.args.nonvolatile (drop c.loop-nonvolatile.at c.args.s.now) ≡ c.record_length-n.result = sym (c.record_length-n.ensures ∙ ap (record_length _) (rest_at c.loop-nonvolatile.at _)) in
     let a = c.args in
-    let o = records_of a.other a.o.now in
+    let o = records_of a.others.nonvolatile a.others.s.now in
     let e = key_at_lem c.loop-nonvolatile.at c.record_length-n.result a.s.now c.hash-h.ensures in
     seen_step a.nonvolatile c.loop-nonvolatile.at c.record_length-n.result a.s.now o c.loop-nonvolatile.t c.loop-nonvolatile.invariant (found) (omega arith) e c.slot-k.ensures.value c.fingerprint-f.ensures c.joined.ensures c.slot-k.ensures.upper_bound
     (elim c.if-v-f.branch [
