@@ -19,6 +19,10 @@ use Rattle.rules.specs.Report.{no_report, decision_report}
 use Rattle.rules.specs.Engine.{State, state_of, speaking, decision_by, decision_in, set_decision, with_report, set_report, after, step}
 use Rattle.rules.specs.Engine.Call.{set}
 use Rattle.rules.proofs.EngineLaws.{answer_reported}
+use Rattle.stores.specs.declared.sound.Stores.{Stores}
+use Rattle.set.specs.declared.request.Request as asked_of
+use Rattle.set.specs.declared.located.Located.{Located}
+use Rattle.set.specs.Asked.{asked}
 use Rattle.set.specs.declared.Decided.{Decided}
 use Rattle.set.specs.Decided.{decided_by}
 use Rattle.engine.specs.declared.SetAnswer.{SetAnswer}
@@ -41,6 +45,11 @@ module _ {a : SetAnswer} (nv vol p : Bytes) (w : Switches) (r : Request) (k : a 
   set_invalid h = set_corrupt (rw h (and_no (sound nv vol)))
 
 -- ---- over sound stores and a valid record
+
+-- what is located of the stores s and of the request q is so of what was lent
+pub lent_as : {nv vol : Bytes} {s : Stores} {q : asked_of.Request} (l : Located) → (l.request ≡ q) × (l.stores ≡ s) → s.nv.now ≡ nv → s.vol.now ≡ vol
+    → ◌≡◌ {A = Bytes × Bytes × Request} (l.stores.nv.now, l.stores.vol.now, asked l.request) (nv, vol, asked q)
+lent_as {q = q} l e p r = ap₂ (λ x y. (x.nv.now, x.vol.now, asked y)) e.1 e.0 ∙ ap₂ (λ x y. (x, y, asked q)) p r
 
 -- what is decided is a decision of the rules
 pub decides : {d : Decided} (es : List Bytes) (w : Switches) (nv vol : Bytes) (r : Request) → d ≡ decided_by es w nv vol r

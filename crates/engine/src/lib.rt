@@ -19,7 +19,7 @@ ghost use Rattle.engine.specs.Answers.{dump_answer, query_answer, refused_readin
 
 use policy::Entries;
 use rules::Report;
-use set::Known;
+use set::{Located, Request};
 use status::Status;
 use stores::{Place, Stores};
 use switches::{SwitchAnswer, Switches};
@@ -282,7 +282,7 @@ pub fn read(nv: &[u8], vol: &[u8], switches: Switches, namespace: [u8; 16], name
         return refused_reading(Status::InvalidParameter);
     }
     let place = stores.locate(&namespace, name);
-    if !set::is_shown(switches.exited, stores.nv, stores.vol, place) {
+    if !set::is_shown(switches.exited, stores, place) {
         return refused_reading(Status::NotFound);
     }
     reading_at(stores, place)
@@ -342,36 +342,30 @@ pub fn set(
         (set (request_of namespace name.now attributes payload.now))
         ≡ (with_report result.status result.report, state_of nv.new vol.new policy.now switches) }
 {
-    let Some(ends) = stores::check(nv, vol) else {
+    let Some(stores) = Stores::new(nv, vol) else {
         return corrupted_set();
     };
     let mut entry_ends = policy::no_ends();
     let Some(extent) = policy::check_noting(policy, &mut entry_ends) else {
         return corrupted_set();
     };
-    let place = stores::locate(nv, vol, ends, &namespace, name);
-    let known = Known {
-        ends,
+    let entries = Entries {
+        bytes: policy,
         count: extent.count,
-        place,
+        ends: &entry_ends,
     };
-    let decided = set::decide(
-        policy,
-        &entry_ends,
-        switches,
-        nv,
-        vol,
-        known,
-        &namespace,
+    let request = Request {
+        namespace: &namespace,
         name,
         attributes,
         payload,
-    );
+    };
+    let located = Located::new(request, stores);
+    let decided = set::decide(entries, switches, located);
     let decision = decided.decision;
     let report = decided.report;
-    set::carry_out(
-        decision, nv, vol, known, &namespace, name, attributes, payload,
-    );
+    let known = located.known();
+    set::carry_out(decision, nv, vol, known, request);
     SetAnswer {
         status: set::status_of(decision),
         report,

@@ -21,14 +21,13 @@ use Rattle.stores.specs.declared.Place.{Place}
 use Rattle.stores.specs.Place.{Within, place_in, is_somewhere, record_at, payload_at}
 use Rattle.stores.proofs.PlaceLaws.{lookup_place, place_within_stores}
 use Rattle.rules.specs.Set.{Lookup, exists, holds_value, rule_locks, locks}
-use Rattle.set.specs.declared.Known.{Known}
-use Rattle.set.specs.Known.{Located}
+use Rattle.set.specs.declared.located.Located.{Located}
 
 -- ---- what a place tells
 
 -- where the variable stands is within the stores
-pub located_within : (k : Known) (nv vol : Bytes) (v : Variable) → Located k nv vol v → Within nv vol k.place
-located_within k nv vol v w = subst⁻¹ (Within nv vol) w.place (place_within_stores nv vol v)
+pub located_within : (l : Located) → Within l.stores.nv.now l.stores.vol.now l.place
+located_within l = subst⁻¹ (Within l.stores.nv.now l.stores.vol.now) l.stands (place_within_stores _ _ _)
 
 pub exists_at : (nv vol : Bytes) (p : Place) → exists (record_at nv vol p) ≡ is_somewhere p
 unfolding exists

@@ -22,7 +22,6 @@ use Rattle.store.proofs.StoreLaws.{without_absent}
 use Rattle.store.proofs.PlaceLaws.{place_absent}
 use Rattle.stores.specs.Place.{place_in}
 use Rattle.stores.proofs.PlaceLaws.{place_of_store, place_without_nv, place_without_vol, place_of_kind_absent, place_of_kind}
-use Rattle.status.specs.declared.Status.{Status}
 use Rattle.std.specs.Prelude.{Err}
 use Rattle.rules.specs.declared.Refusal.{Refusal}
 use Rattle.rules.specs.declared.Refusal.TheVariants.{ByStatus, ByGround}
@@ -32,7 +31,9 @@ use Rattle.rules.specs.Set.{Request, other_attributes, stored_attributes, payloa
 use Rattle.rules.proofs.SetLaws.{not_first, not_second}
 use Rattle.rules.specs.Stored.{Stored}
 use Rattle.set.specs.declared.Known.{Known}
-use Rattle.set.specs.Known.{Located}
+use Rattle.set.specs.declared.located.Located.{Located}
+use Rattle.set.specs.Asked.{asked}
+use Rattle.set.specs.Known.{Knows}
 use Rattle.set.specs.Writable.{found_in, Writable}
 
 -- ---- what makes the new record well formed
@@ -121,7 +122,10 @@ module _ (nv vol : Bytes) (r : Request) (ok : sound nv vol ≡ true) where
 
 -- ---- what is known of the variable, in the one store
 
-module _ (k : Known) (nv vol : Bytes) (v : Variable) (w : Located k nv vol v) where
+pub knows : (l : Located) → Knows (record { ends = l.stores.ends; place = l.place }) l.stores.nv.now l.stores.vol.now (asked l.request).variable
+knows l = record { ends = l.stores.ended; place = l.stands }
+
+module _ (k : Known) (nv vol : Bytes) (v : Variable) (w : Knows k nv vol v) where
   pub end_nv : k.ends.nv ≡ end_of true nv
   end_nv = ap (λ e. e.nv) w.ends
 

@@ -1,3 +1,4 @@
 pub mod Known
 pub mod Decided
 pub mod Writable
+pub mod Asked

@@ -1,6 +1,7 @@
 use Rattle.rules.specs.Decision.{Refuse}
 use Rattle.rules.proofs.DecisionLaws.{taken_named, blocked_by, write_unblocked, decision_refused, decision_blocked, decision_written}
-use Rattle.rules.specs.Set.{Request, request_of, request_status}
+use Rattle.rules.specs.Set.{Request, request_status}
+use Rattle.set.specs.Asked.{asked}
 use Rattle.policy.specs.Policy.{entries_of}
 use Rattle.slices.specs.Bytes.{Bytes}
 use Rattle.set.proofs.Decisions.{decided_silent, silent_report, decided_blocked, ground_in}
@@ -14,31 +15,31 @@ use Rattle.set.proofs.decide.Goals as goal
 
 pub returns-then-ne : goal.returns-then-ne
 returns-then-ne c =
-    let Asked : Request = request_of c.args.namespace.now c.args.name.now c.args.attributes c.args.payload.now in
-    let Entries : List Bytes = entries_of c.args.policy.now in
+    let Asked : Request = asked c.args.located.request in
+    let Entries : List Bytes = entries_of c.args.entries.bytes.now in
     let Lent : Switches = c.args.switches in
-    let NV : Bytes = c.args.nv.now in
-    let Vol : Bytes = c.args.vol.now in
-    let checked : c.check_request-by_request.result ≡ request_status (Lent).exited (Asked) = c.check_request-by_request.ensures _ c.requires.1.located.namespace in
-    decided_silent (Entries) (Lent) (NV) (Vol) (Asked) _ (ap (λ p. record { decision = Refuse c.check_request-by_request.result; report = p }) c.no_report.ensures)
+    let NV : Bytes = c.args.located.stores.nv.now in
+    let Vol : Bytes = c.args.located.stores.vol.now in
+    let checked : c.check-by_request.result ≡ request_status (Lent).exited (Asked) = c.check-by_request.ensures in
+    decided_silent (Entries) (Lent) (NV) (Vol) (Asked) _ (ap (λ p. record { decision = Refuse c.check-by_request.result; report = p }) c.no_report.ensures)
     (sym (decision_refused _ _ _ _ _ _ (sym (checked)) (differs_success _ c.if-ne.ensures))) refl
 
 pub decide_write-decision-requires : goal.decide_write-decision-requires
 decide_write-decision-requires c =
-    let Asked : Request = request_of c.args.namespace.now c.args.name.now c.args.attributes c.args.payload.now in
+    let Asked : Request = asked c.args.located.request in
     let Lent : Switches = c.args.switches in
-    let checked : c.check_request-by_request.result ≡ request_status (Lent).exited (Asked) = c.check_request-by_request.ensures _ c.requires.1.located.namespace in
+    let checked : c.check-by_request.result ≡ request_status (Lent).exited (Asked) = c.check-by_request.ensures in
     let taken : is_success (request_status (Lent).exited (Asked)) ≡ true = sym (ap is_success (checked)) ∙ differs_success _ c.if-ne.ensures in
-    (c.requires.0, c.requires.1.located, taken_named _ (Asked) (taken))
+    taken_named _ (Asked) (taken)
 
 pub returns-in-None : goal.returns-in-None
 returns-in-None c =
-    let Asked : Request = request_of c.args.namespace.now c.args.name.now c.args.attributes c.args.payload.now in
-    let Entries : List Bytes = entries_of c.args.policy.now in
+    let Asked : Request = asked c.args.located.request in
+    let Entries : List Bytes = entries_of c.args.entries.bytes.now in
     let Lent : Switches = c.args.switches in
-    let NV : Bytes = c.args.nv.now in
-    let Vol : Bytes = c.args.vol.now in
-    let checked : c.check_request-by_request.result ≡ request_status (Lent).exited (Asked) = c.check_request-by_request.ensures _ c.requires.1.located.namespace in
+    let NV : Bytes = c.args.located.stores.nv.now in
+    let Vol : Bytes = c.args.located.stores.vol.now in
+    let checked : c.check-by_request.result ≡ request_status (Lent).exited (Asked) = c.check-by_request.ensures in
     let taken : is_success (request_status (Lent).exited (Asked)) ≡ true = sym (ap is_success (checked)) ∙ differs_success _ c.if-ne.ensures in
     let q = sym (ground_in (Entries) (Lent) (NV) (Vol) (Asked) c.report-said.ensures) ∙ c.in-None.is in
     decided_silent (Entries) (Lent) (NV) (Vol) (Asked) _
@@ -47,12 +48,12 @@ returns-in-None c =
 
 pub returns-in-Some : goal.returns-in-Some
 returns-in-Some c =
-    let Asked : Request = request_of c.args.namespace.now c.args.name.now c.args.attributes c.args.payload.now in
-    let Entries : List Bytes = entries_of c.args.policy.now in
+    let Asked : Request = asked c.args.located.request in
+    let Entries : List Bytes = entries_of c.args.entries.bytes.now in
     let Lent : Switches = c.args.switches in
-    let NV : Bytes = c.args.nv.now in
-    let Vol : Bytes = c.args.vol.now in
-    let checked : c.check_request-by_request.result ≡ request_status (Lent).exited (Asked) = c.check_request-by_request.ensures _ c.requires.1.located.namespace in
+    let NV : Bytes = c.args.located.stores.nv.now in
+    let Vol : Bytes = c.args.located.stores.vol.now in
+    let checked : c.check-by_request.result ≡ request_status (Lent).exited (Asked) = c.check-by_request.ensures in
     let taken : is_success (request_status (Lent).exited (Asked)) ≡ true = sym (ap is_success (checked)) ∙ differs_success _ c.if-ne.ensures in
     let q = sym (ground_in (Entries) (Lent) (NV) (Vol) (Asked) c.report-said.ensures) ∙ c.in-Some.is in
     decided_blocked (Entries) (Lent) (NV) (Vol) (Asked) c.in-Some.ground (decision_blocked _ _ _ _ _ c.in-Some.ground (taken) q) c.report-said.ensures q

@@ -1,7 +1,7 @@
 use Rattle.set.proofs.Requests.{empty_is}
 use Rattle.rules.specs.Set.{is_empty_append}
 use Rattle.slices.specs.Test.{◌and◌}
-use Rattle.set.proofs.is_empty_append.Goals as goal
+use Rattle.set.proofs.request.Request.is_empty_append.Goals as goal
 
 pub returns-then-has_append : goal.returns-then-has_append
 unfolding ◌and◌ is_empty_append

@@ -1,7 +1,7 @@
 use Rattle.set.proofs.Requests.{not_exited, deletion_passes, runtime_asked}
 use mathlib.Core.Bool.{not}
 use mathlib.Core.Path.{ap}
-use Rattle.set.proofs.needs_runtime.Goals as goal
+use Rattle.set.proofs.request.Request.needs_runtime.Goals as goal
 
 pub returns-then-not-exited : goal.returns-then-not-exited
 returns-then-not-exited c = not_exited _ _ _ (ap not c.if-not-exited.true)

@@ -1,5 +1,5 @@
 use Rattle.set.proofs.Requests.{no_need, runtime_needs, append_needs}
-use Rattle.set.proofs.needs_bs.Goals as goal
+use Rattle.set.proofs.request.Request.needs_bs.Goals as goal
 
 pub returns-then-has_bs : goal.returns-then-has_bs
 returns-then-has_bs c = no_need _ c.has_bs.ensures c.if-has_bs.true
