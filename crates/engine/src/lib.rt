@@ -349,6 +349,11 @@ pub fn set(
     let Some(extent) = policy::check_noting(policy, &mut entry_ends) else {
         return corrupted_set();
     };
+    let entries = Entries {
+        bytes: policy,
+        count: extent.count,
+        ends: &entry_ends,
+    };
     let request = Request {
         namespace: &namespace,
         name,
@@ -356,7 +361,7 @@ pub fn set(
         payload,
     };
     let located = Located::new(request, stores);
-    let decided = set::decide(policy, &entry_ends, extent.count, switches, located);
+    let decided = set::decide(entries, switches, located);
     let decision = decided.decision;
     let report = decided.report;
     let known = located.known();

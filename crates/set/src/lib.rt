@@ -11,7 +11,6 @@ ghost use Rattle.names.specs.Name.{variable};
 ghost use Rattle.entry.specs.Entry.{well_formed, lock_of, entry_of};
 ghost use Rattle.entry.specs.Entry.{rank as rank_of};
 ghost use Rattle.policy.specs.Policy.{entries_of};
-ghost use Rattle.policy.specs.Walk.{EntryEnds};
 ghost use Rattle.policy.specs.Choice.{chosen};
 ghost use Rattle.store.specs.Store.{end_of, place_of, without_variable, with_record};
 ghost use Rattle.stores.specs.Pair.{sound, lookup};
@@ -208,34 +207,22 @@ fn report_for(ground: Option<Ground>, place: u32, rank: u32, e: &[u8], attribute
 }
 
 // What the chosen entry says against the request: nothing where no entry is chosen or the engine is disabled.
-fn report(
-    policy: &[u8],
-    entry_ends: &[u16; policy::ENTRIES],
-    count: usize,
-    enabled: bool,
-    located: Located,
-) -> Report
-    requires { (count ≡ length (entries_of policy.now)) × EntryEnds entry_ends.now policy.now }
-    ensures { result ≡ report_by (ground_by (speaking enabled (chosen (entries_of policy.now) (asked located.entry.request).variable))
+fn report(entries: Entries, enabled: bool, located: Located) -> Report
+    ensures { result ≡ report_by (ground_by (speaking enabled (chosen (entries_of entries.entry.bytes.now) (asked located.entry.request).variable))
         (lookup located.entry.stores.nv.now located.entry.stores.vol.now)
         (asked located.entry.request))
-        (entries_of policy.now) (chosen (entries_of policy.now) (asked located.entry.request).variable) located.entry.request.attributes }
+        (entries_of entries.entry.bytes.now) (chosen (entries_of entries.entry.bytes.now) (asked located.entry.request).variable) located.entry.request.attributes }
 {
     if !enabled {
         return no_report();
     }
     let request = located.request;
-    let entries = Entries {
-        bytes: policy,
-        count,
-        ends: entry_ends,
-    };
     let Some(chosen) = policy::choose(entries, request.namespace, request.name) else {
         return no_report();
     };
     let at = chosen.at;
-    let end = at + slices::get16(policy, at + limits::SIZE_AT);
-    let e = &policy[at..end];
+    let end = at + slices::get16(entries.bytes, at + limits::SIZE_AT);
+    let e = &entries.bytes[at..end];
     let ground = entry_ground(e, located);
     let place = chosen.index as u32;
     report_for(ground, place, chosen.rank as u32, e, request.attributes)
@@ -272,15 +259,8 @@ fn exit_protects(exited: bool, stores: Stores, place: Place) -> bool
 }
 
 // All steps, over sound stores and a valid policy record.
-pub fn decide(
-    policy: &[u8],
-    entry_ends: &[u16; policy::ENTRIES],
-    count: usize,
-    switches: Switches,
-    located: Located,
-) -> Decided
-    requires { (count ≡ length (entries_of policy.now)) × EntryEnds entry_ends.now policy.now }
-    ensures { result ≡ decided_by (entries_of policy.now) switches located.entry.stores.nv.now located.entry.stores.vol.now (asked located.entry.request) }
+pub fn decide(entries: Entries, switches: Switches, located: Located) -> Decided
+    ensures { result ≡ decided_by (entries_of entries.entry.bytes.now) switches located.entry.stores.nv.now located.entry.stores.vol.now (asked located.entry.request) }
 {
     let by_request = located.request.check(switches.exited);
     if by_request != Status::Success {
@@ -289,7 +269,7 @@ pub fn decide(
             report: no_report(),
         };
     }
-    let said = report(policy, entry_ends, count, switches.enabled, located);
+    let said = report(entries, switches.enabled, located);
     let ground = said.ground;
     let decision = match ground {
         None => located.decide_write(switches.exited),

@@ -16,10 +16,10 @@ pub returns-in_default-check_noting : goal.returns-in_default-check_noting
 returns-in_default-check_noting c =
     set_invalid _ _ _ _ _ c.corrupted_set-in_default-check_noting.ensures (check_invalid _ (sym c.check_noting.ensures.answer ∙ c.in_default-check_noting.is))
 
-pub decide-decided-requires : goal.decide-decided-requires
-decide-decided-requires c =
+pub invariant_of-entries : goal.invariant_of-entries
+invariant_of-entries c =
     let valid : Checked c.args.policy.now c.in-Some-check_noting.extent.count c.in-Some-check_noting.extent.used = check_valid _ _ (sym c.check_noting.ensures.answer ∙ c.in-Some-check_noting.is) in
-    ((valid).counted, c.check_noting.ensures.noted (valid).valid)
+    record { counted = (valid).counted; noted = c.check_noting.ensures.noted (valid).valid }
 
 pub carry_out-requires : goal.carry_out-requires
 carry_out-requires c =

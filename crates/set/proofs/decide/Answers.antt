@@ -16,7 +16,7 @@ use Rattle.set.proofs.decide.Goals as goal
 pub returns-then-ne : goal.returns-then-ne
 returns-then-ne c =
     let Asked : Request = asked c.args.located.request in
-    let Entries : List Bytes = entries_of c.args.policy.now in
+    let Entries : List Bytes = entries_of c.args.entries.bytes.now in
     let Lent : Switches = c.args.switches in
     let NV : Bytes = c.args.located.stores.nv.now in
     let Vol : Bytes = c.args.located.stores.vol.now in
@@ -35,7 +35,7 @@ decide_write-decision-requires c =
 pub returns-in-None : goal.returns-in-None
 returns-in-None c =
     let Asked : Request = asked c.args.located.request in
-    let Entries : List Bytes = entries_of c.args.policy.now in
+    let Entries : List Bytes = entries_of c.args.entries.bytes.now in
     let Lent : Switches = c.args.switches in
     let NV : Bytes = c.args.located.stores.nv.now in
     let Vol : Bytes = c.args.located.stores.vol.now in
@@ -49,7 +49,7 @@ returns-in-None c =
 pub returns-in-Some : goal.returns-in-Some
 returns-in-Some c =
     let Asked : Request = asked c.args.located.request in
-    let Entries : List Bytes = entries_of c.args.policy.now in
+    let Entries : List Bytes = entries_of c.args.entries.bytes.now in
     let Lent : Switches = c.args.switches in
     let NV : Bytes = c.args.located.stores.nv.now in
     let Vol : Bytes = c.args.located.stores.vol.now in

@@ -12,13 +12,13 @@ use Rattle.set.proofs.report.Goals as goal
 pub returns-then-not-enabled : goal.returns-then-not-enabled
 returns-then-not-enabled c =
     let a = c.args in
-    disabled_report (entries_of a.policy.now) (lookup a.located.stores.nv.now a.located.stores.vol.now) (asked a.located.request) a.located.request.attributes
-    a.enabled (chosen (entries_of a.policy.now) (asked a.located.request).variable) c.no_report.ensures c.if-not-enabled.true
+    disabled_report (entries_of a.entries.bytes.now) (lookup a.located.stores.nv.now a.located.stores.vol.now) (asked a.located.request) a.located.request.attributes
+    a.enabled (chosen (entries_of a.entries.bytes.now) (asked a.located.request).variable) c.no_report.ensures c.if-not-enabled.true
 
 pub returns-in_default : goal.returns-in_default
 returns-in_default c =
     let a = c.args in
-    unchosen_report (entries_of a.policy.now) (lookup a.located.stores.nv.now a.located.stores.vol.now) (asked a.located.request) a.located.request.attributes
+    unchosen_report (entries_of a.entries.bytes.now) (lookup a.located.stores.nv.now a.located.stores.vol.now) (asked a.located.request) a.located.request.attributes
     a.enabled _ c.no_report-in_default.ensures
     (choice_none _ _ (sym c.choose.ensures ∙ c.in_default.is))
 
@@ -50,7 +50,7 @@ entry_ground-ground-requires c =
 pub overflow_cast-place : goal.overflow_cast-place
 overflow_cast-place c =
     let chosen_is = sym c.choose.ensures ∙ c.in-Some.is in
-    omega (arith, index_below _ _ _ chosen_is c.requires.1.few)
+    omega (arith, index_below _ _ _ chosen_is c.args.entries.noted.few)
 
 pub overflow_cast-chosen : goal.overflow_cast-chosen
 overflow_cast-chosen c =
