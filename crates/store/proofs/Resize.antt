@@ -1,18 +1,19 @@
 -- Room in place of a record, and a record written, as writes into the bytes. Assumes nothing.
 use mathlib.Core.Path.{◌≡◌, refl, sym, ap, ◌∙◌}
 use mathlib.Core.Bool.{true}
-use mathlib.Core.List.{[], ◌∷◌, ◌++◌}
+use mathlib.Core.List.{[], ◌∷◌, ◌++◌, append-nil}
 use Prim.Native.Nat.{ℕ, ◌+◌, ◌-◌, ◌/◌, ◌%◌, ◌≤◌, ◌<◌}
 use native.Mathlib.Omega.{arith}
-use lib.ListN.{length, take, drop, replicate, length-append, length-drop, length-replicate, replicate-append-replicate, take-append-drop}
-use lib.Seq.{length-take-le, drop-drop, take-add}
-use Rattle.limits.specs.Limits.{namespace_bytes}
+use native.Mathlib.Nat.{zero-add}
+use lib.ListN.{length, take, drop, replicate, length-append, length-take, length-drop, length-replicate, replicate-append-replicate, take-append-drop}
+use lib.Seq.{length-take-le, drop-drop, drop-length, take-add}
 use Rattle.slices.specs.Bytes.{Bytes, le32_bytes, all_are, overwrite, padded}
 use Rattle.slices.proofs.BytesLaws.{all_are-is}
 use Rattle.slices.proofs.PartLaws.{length_middle, drop_replicate}
-use Rattle.slices.proofs.OverwriteLaws.{overwrite_seam, overwrite_next}
-use Rattle.names.specs.Name.{Variable}
-use Rattle.store.specs.Record.{record_size, record_mark, encode_record}
+use borrow.Rule.Slice.PartMut.{put_mid}
+use Rattle.slices.proofs.Writes.{part_written}
+use Rattle.slices.proofs.OverwriteLaws.{length_overwrite, overwrite_seam, overwrite_next}
+use Rattle.store.specs.Record.{record_mark}
 use Rattle.store.specs.Parts.{resized}
 
 -- behind the end there is only 0xFF
@@ -89,25 +90,25 @@ pub header_bytes_lem : {low high : ℕ} (a n d : ℕ) → a < 256 → n < 256 �
     → 0xAA ∷ 0x55 ∷ 0x3F ∷ 0 ∷ a ∷ 0 ∷ 0 ∷ 0 ∷ n ∷ 0 ∷ 0 ∷ 0 ∷ low ∷ high ∷ 0 ∷ 0 ∷ [] ≡ record_mark ++ le32_bytes a ++ le32_bytes n ++ le32_bytes d
 header_bytes_lem a n d ha hn hd p q = rw (byte a ha, byte n hn, number d hd, p, q)
 
--- the six writes of a record
-module _ (s : Bytes) (at a : ℕ) (v : Variable) (p : Bytes) (hg : length v.namespace ≡ namespace_bytes) (hs : at ≤ length s) where
-  abbrev n : ℕ
-  n = length v.name + 2
+-- ---- writes to the parts of a list, one behind the other, as `s[i..j]`
+pub copied : {t w : Bytes} (s v u : Bytes) (i j : ℕ) → t ≡ overwrite s 0 v → i ≡ length v → j ≡ i + length u → w ≡ u → put_mid i (j - i) t w ≡ overwrite s 0 (v ++ u)
+copied {t} {w} s v u i j e f g h =
+    ap (λ (k : ℕ). put_mid i (k - i) t w) g ∙ part_written t i (length u) u h refl ∙ overwrite_next s 0 i v u e (f ∙ sym (zero-add (length v))) (omega arith)
 
-  abbrev first : Bytes
-  first = record_mark ++ le32_bytes a ++ le32_bytes n ++ le32_bytes (length p)
+pub filled : {t w : Bytes} (s v : Bytes) (i j m x : ℕ) → t ≡ overwrite s 0 v → i ≡ length v → j ≡ i + m → i + m ≤ length s → w ≡ replicate (length (take (j - i) (drop i t))) x
+    → put_mid i (j - i) t w ≡ overwrite s 0 (v ++ replicate m x)
+filled {t} s v i j m x e f g h k =
+    let l : length t ≡ length s = ap length e ∙ length_overwrite s 0 v (omega arith) in
+    let r : j - i ≡ m = omega arith in
+    let q : length (take (j - i) (drop i t)) ≡ m = rw (r, length-take, length-drop) (omega arith) in
+    copied s v (replicate m x) i j e f (g ∙ ap (λ (y : ℕ). i + y) (sym (length-replicate {A = ℕ} m x))) (k ∙ ap (λ (y : ℕ). replicate y x) q)
 
-  pub record_writes : {h t₁ t₂ t₃ t₄ t₅ t₆ : Bytes} {z : ℕ} → h ≡ first → z ≡ record_size n (length p) → t₁ ≡ overwrite s at h → t₂ ≡ overwrite t₁ (at + 16) v.namespace
-      → t₃ ≡ overwrite t₂ (at + 32) v.name → t₄ ≡ overwrite t₃ (at + (32 + n) - 2) (0 ∷ 0 ∷ []) → t₅ ≡ overwrite t₄ (at + (32 + n)) p
-      → t₆ ≡ overwrite t₅ (at + (32 + n + length p)) (replicate (z - (32 + n + length p)) 255) → t₆ ≡ overwrite s at (encode_record a v p)
-  unfolding encode_record le32_bytes
-  record_writes {t₅ = t₅} q q₀ q₁ q₂ q₃ q₄ q₅ q₆ =
-      let h : Bytes = first in
-      let e₁ = q₂ ∙ overwrite_next s at (at + 16) h v.namespace (q₁ ∙ ap (overwrite s at) q) refl hs in
-      let e₂ = q₃ ∙ overwrite_next s at (at + 32) (h ++ v.namespace) v.name e₁ (simp length-append (omega arith)) hs in
-      let e₃ = q₄ ∙ overwrite_next s at (at + (32 + n) - 2) (h ++ v.namespace ++ v.name) (0 ∷ 0 ∷ []) e₂ (simp length-append (omega arith)) hs in
-      let e₄ = q₅ ∙ overwrite_next s at (at + (32 + n)) (h ++ v.namespace ++ v.name ++ (0 ∷ 0 ∷ [])) p e₃ (simp length-append (omega arith)) hs in
-      let k : 32 + n + length p ≡ 34 + length v.name + length p = omega arith in
-      q₆ ∙ ap (λ (m : ℕ). overwrite t₅ (at + (32 + n + length p)) (replicate m 255)) (ap (λ (m : ℕ). m - (32 + n + length p)) q₀ ∙ ap (λ (m : ℕ). record_size n (length p) - m) k)
-      ∙ overwrite_next s at (at + (32 + n + length p)) (h ++ v.namespace ++ v.name ++ (0 ∷ 0 ∷ []) ++ p) (replicate (record_size n (length p) - (34 + length v.name + length p)) 255) e₄
-      (simp length-append (omega arith)) hs
+-- the first of them, as `s[..i]`
+pub copied_first : {w : Bytes} (s u : Bytes) (i : ℕ) → i ≡ length u → w ≡ u → w ++ drop i s ≡ overwrite s 0 u
+unfolding overwrite
+copied_first s u i e f = rw (f, e, zero-add (length u))
+
+-- a write of all of it
+pub written_whole : (s v : Bytes) → length v ≡ length s → overwrite s 0 v ≡ v
+unfolding overwrite
+written_whole s v e = let k : 0 + length v ≡ length s = omega arith in rw (k, drop-length) (append-nil v)

@@ -79,6 +79,7 @@ fn header_ok(r: &[u8], nonvolatile: bool) -> bool
         & (d <= limits::MAX_PAYLOAD)
 }
 
+// Whether the name is terminated, and all behind the payload is 0xFF, in a record of a sound header.
 fn body_ok(r: &[u8], n: usize, d: usize) -> bool
     requires { (n ≡ name_size r.now) × (d ≡ data_size r.now) × (record_header + n + d ≤ length r.now) }
     ensures { result ≡ body_ok r.now }
@@ -296,13 +297,13 @@ fn put_record(
     let d = payload.len();
     let from = limits::RECORD_HEADER + n;
     let end = from + d;
-    let first = header(attributes, n, d);
-    slices::copy_in(s, at, &first);
-    slices::copy_in(s, at + 16, namespace);
-    slices::copy_in(s, at + limits::RECORD_HEADER, name);
-    slices::fill(s, at + from - 2, 2, 0);
-    slices::copy_in(s, at + from, payload);
-    slices::fill(s, at + end, record_size(n, d) - end, 255);
+    let record = &mut s[at..at + record_size(n, d)];
+    record[..16].copy_from_slice(&header(attributes, n, d));
+    record[16..limits::RECORD_HEADER].copy_from_slice(namespace);
+    record[limits::RECORD_HEADER..from - 2].copy_from_slice(name);
+    record[from - 2..from].fill(0);
+    record[from..end].copy_from_slice(payload);
+    record[end..].fill(255);
 }
 
 // Step 9: whether the store has room for the variable's record with a payload of n bytes, in place of the one found or behind the last.
