@@ -27,7 +27,7 @@ ghost use Rattle.set.specs.Known.{Located, Knows};
 ghost use Rattle.set.specs.Decided.{decided_by};
 ghost use Rattle.set.specs.Writable.{found_in, Writable};
 
-use entry::{Entry, LockRule, Trigger};
+use entry::{Entry, LockRule, Packed, Trigger};
 use policy::Entries;
 use rules::{Change, Ground, Refusal, Report};
 use status::Status;
@@ -231,7 +231,7 @@ fn entry_ground<'a>(
         → result ≡ ground_of e.now (lookup nv.now vol.now)
         (record { variable = v; attributes = attributes; payload = payload.now }) }
 {
-    let entry = entry::entry_of(e);
+    let entry = Packed { bytes: e }.fields();
     let n = length_after(nv, vol, known.place, attributes, payload);
     if let Some(ground) = request_ground(entry, n, attributes, payload) {
         return Some(ground);
