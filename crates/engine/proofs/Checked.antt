@@ -1,6 +1,6 @@
 -- The statuses of register and dump, by what the code found. Assumes nothing.
 use Prim.Native.Nat.{suc, ◌+◌, ◌≤◌, ◌<◌}
-use mathlib.Core.Path.{◌≡◌, refl, sym, ap, ◌∙◌}
+use mathlib.Core.Path.{◌≡◌, refl, sym, ap, subst, ◌∙◌}
 use mathlib.Core.List.{List}
 use mathlib.Core.Bool.{Bool, true, false, cond}
 use native.Mathlib.Omega.{arith}
@@ -11,9 +11,9 @@ use Rattle.slices.specs.Test.{◌and◌}
 use Rattle.slices.proofs.TestLaws.{and_no}
 use Rattle.slices.specs.Bytes.{Bytes}
 use Rattle.slices.specs.Chunks.{flat, contains}
-use Rattle.entry.specs.Entry.{well_formed, entry_of, parse, same_target}
-use Rattle.entry.specs.declared.Entry.{Entry}
-use Rattle.std.specs.Prelude.{Option, Some, None, is_some, not}
+use Rattle.entry.specs.Entry.{well_formed, same_target}
+use Rattle.entry.specs.declared.packed.Packed.{Packed}
+use Rattle.std.specs.Prelude.{Option, Some, None, MatchOption}
 use Rattle.policy.specs.Policy.{policy_valid}
 use Rattle.status.specs.declared.Status.{Status}
 use Rattle.status.specs.declared.Status.TheVariants.{Success, InvalidParameter, Unsupported, BufferTooSmall, WriteProtected, OutOfResources, VolumeCorrupted, AlreadyStarted}
@@ -21,20 +21,12 @@ use Rattle.switches.specs.declared.Switches.{Switches}
 use Rattle.switches.specs.Switches.{unless_exited}
 use Rattle.rules.specs.Engine.{register_status, dump_status}
 
--- what reading an entry tells
-parse_tells : (e : Bytes) → well_formed e ≡ is_some (parse e)
-unfolding parse
-parse_tells e = go (well_formed e)
-  where
-    go : (b : Bool) → b ≡ is_some (cond b (Some (entry_of e)) None)
-    go true = refl
-    go false = refl
+-- what is made of the bytes of an entry tells of them
+pub new_bytes : (e : Bytes) {o : Option Packed} {x : Packed} → MatchOption o (well_formed e ≡ false) (λ y. y.bytes.now ≡ e) → o ≡ Some x → x.bytes.now ≡ e
+new_bytes e m q = subst (λ o. MatchOption o (well_formed e ≡ false) (λ y. y.bytes.now ≡ e)) q m
 
-pub parse_formed : (e : Bytes) {o : Option Entry} {t : Bool} → o ≡ parse e → is_some o ≡ not t → t ≡ false → well_formed e ≡ true
-parse_formed e p q k = parse_tells e ∙ ap is_some (sym p) ∙ q ∙ ap not k
-
-pub parse_malformed : (e : Bytes) {o : Option Entry} {t : Bool} → o ≡ parse e → is_some o ≡ not t → t ≡ true → well_formed e ≡ false
-parse_malformed e p q k = parse_tells e ∙ ap is_some (sym p) ∙ q ∙ ap not k
+pub new_malformed : (e : Bytes) {o : Option Packed} → MatchOption o (well_formed e ≡ false) (λ y. y.bytes.now ≡ e) → o ≡ None → well_formed e ≡ false
+new_malformed e m q = subst (λ o. MatchOption o (well_formed e ≡ false) (λ y. y.bytes.now ≡ e)) q m
 
 -- a call that is lent the record, by the check
 pub lent_invalid : (p : Bytes) (n : Status) → policy_valid p ≡ false → cond (policy_valid p) n VolumeCorrupted ≡ VolumeCorrupted

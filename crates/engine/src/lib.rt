@@ -17,6 +17,7 @@ ghost use Rattle.rules.specs.Engine.{state_of, step, only_status, hand_back, wit
 ghost use Rattle.rules.specs.Engine.Call.{power_on, restart, register, dump, lock, disable, exit, query, read, set, settled};
 ghost use Rattle.engine.specs.Answers.{dump_answer, query_answer, refused_reading, reading_at, reading_of, ReadStep, payload_place, settled_answer, not_settled};
 
+use entry::Packed;
 use policy::Entries;
 use rules::Report;
 use set::{Located, Request};
@@ -154,19 +155,19 @@ pub fn register(policy: &mut [u8], switches: Switches, entry: &[u8]) -> Status
     if switches.locked {
         return Status::WriteProtected;
     }
-    if entry::parse(entry).is_none() {
+    let Some(entry) = Packed::new(entry) else {
         return Status::InvalidParameter;
-    }
+    };
     if policy::contains(policy, extent.count, entry) {
         return Status::AlreadyStarted;
     }
     if limits::MAX_ENTRIES <= extent.count {
         return Status::OutOfResources;
     }
-    if limits::POLICY_BYTES < extent.used + entry.len() {
+    if limits::POLICY_BYTES < extent.used + entry.bytes.len() {
         return Status::OutOfResources;
     }
-    policy::append(policy, extent.used, entry);
+    policy::append(policy, extent.used, entry.bytes);
     Status::Success
 }
 

@@ -2,7 +2,11 @@
 #![tactic(auto)]
 
 ghost use Rattle.std.specs.Prelude.{◌≡◌, true};
-ghost use Rattle.entry.specs.Entry.{offset_to_name, header_ok, lock_ok, name_ok, well_formed, name_of, lock_of, entry_of, parse, rank, same_target};
+ghost use Rattle.entry.specs.Entry.{offset_to_name, header_ok, lock_ok, name_ok, well_formed, parse};
+
+mod packed;
+
+pub use packed::Packed;
 
 // The trigger of the fourth lock rule: the value that locks, and where its namespace and its name stand in the entry's bytes.
 // The name's last byte before its closing zero unit is at name_end - 1.
@@ -97,84 +101,10 @@ pub fn well_formed(e: &[u8]) -> bool
     lock_ok(e, offset) && name_ok(e, offset)
 }
 
-// The lock rule of a well-formed entry.
-pub fn lock_of(e: &[u8]) -> LockRule
-    requires { well_formed e.now ≡ true }
-    ensures { result ≡ lock_of e.now }
-{
-    match slices::byte(e, limits::LOCK_TYPE_AT) {
-        0 => LockRule::NoLock,
-        1 => LockRule::LockNow,
-        2 => LockRule::LockOnCreate,
-        _ => LockRule::LockOnVarState(Trigger {
-            value: slices::byte(e, limits::TRIGGER_VALUE_AT),
-            namespace: limits::TRIGGER_NAMESPACE_AT,
-            name: limits::TRIGGER_NAME_AT,
-            name_end: slices::le16(e, limits::OFFSET_TO_NAME_AT) as usize - 2,
-        }),
-    }
-}
-
-// The fields of a well-formed entry.
-pub fn entry_of(e: &[u8]) -> Entry
-    requires { well_formed e.now ≡ true }
-    ensures { result ≡ entry_of e.now }
-{
-    let lock = lock_of(e);
-    Entry {
-        size: e.len(),
-        offset_to_name: slices::le16(e, limits::OFFSET_TO_NAME_AT) as usize,
-        min_size: slices::le32(e, limits::MIN_SIZE_AT),
-        max_size: slices::le32(e, limits::MAX_SIZE_AT),
-        attributes_must_have: slices::le32(e, limits::MUST_HAVE_AT),
-        attributes_cant_have: slices::le32(e, limits::CANT_HAVE_AT),
-        lock,
-    }
-}
-
 // A packed entry, checked and read.
 #[tactic(auto, unfolding(crate::specs::Entry::parse))]
 pub fn parse(e: &[u8]) -> Option<Entry>
     ensures { result ≡ parse e.now }
 {
-    well_formed(e).then(|| entry_of(e))
-}
-
-// The bytes of a well-formed entry's name without its zero unit; of an empty name, none.
-pub fn name_bytes(e: &[u8]) -> &[u8]
-    requires { well_formed e.now ≡ true }
-    ensures { result.now ≡ name_of e.now }
-{
-    let start = slices::get16(e, limits::OFFSET_TO_NAME_AT);
-    let end = e.len();
-    if start == end {
-        return &e[..0];
-    }
-    &e[start..end - 2]
-}
-
-// The rank of a well-formed entry.
-pub fn rank(e: &[u8]) -> usize
-    requires { well_formed e.now ≡ true }
-    ensures { result ≡ rank e.now }
-{
-    let name = name_bytes(e);
-    if name.len() == 0 {
-        return limits::WHOLE_NAMESPACE_RANK;
-    }
-    names::wildcards(name)
-}
-
-// Whether two well-formed entries have the same namespace and the same name: the names first, since most entries share a namespace.
-pub fn same_target(e: &[u8], f: &[u8]) -> bool
-    requires { (well_formed e.now ≡ true) × (well_formed f.now ≡ true) }
-    ensures { result ≡ same_target e.now f.now }
-{
-    if !names::same_name(name_bytes(e), name_bytes(f)) {
-        return false;
-    }
-    names::same_namespace(
-        &e[limits::NAMESPACE_AT..limits::MIN_SIZE_AT],
-        &f[limits::NAMESPACE_AT..limits::MIN_SIZE_AT],
-    )
+    Packed::new(e).map(|packed| packed.fields())
 }

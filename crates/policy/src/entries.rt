@@ -5,6 +5,7 @@ ghost use Rattle.policy.specs.Policy.{entries_of};
 ghost use Rattle.policy.specs.Walk.{EntryEnds};
 
 use crate::ENTRIES;
+use entry::Packed;
 
 // The bytes, how many entries they begin with, and where each of these ends.
 #[derive(Clone, Copy)]
@@ -17,9 +18,8 @@ pub struct Entries<'a> {
 }
 
 impl<'a> Entries<'a> {
-    ghost use Rattle.std.specs.Prelude.{true, [], get_or, take, ◌<◌};
+    ghost use Rattle.std.specs.Prelude.{[], get_or, take, ◌<◌};
     ghost use Rattle.slices.specs.Chunks.{flat};
-    ghost use Rattle.entry.specs.Entry.{well_formed};
 
     // The first byte of the entry at index.
     fn start(self, index: usize) -> usize
@@ -33,13 +33,14 @@ impl<'a> Entries<'a> {
     }
 
     // The entry at index.
-    pub fn get(self, index: usize) -> &'a [u8]
+    pub fn get(self, index: usize) -> Packed<'a>
         requires { index < self.count }
-        ensures is { result.now ≡ get_or (entries_of self.entry.bytes.now) index [] }
-        ensures formed { well_formed result.now ≡ true }
+        ensures { result.bytes.now ≡ get_or (entries_of self.entry.bytes.now) index [] }
     {
         let start = self.start(index);
         let end = self.ends[index] as usize;
-        &self.bytes[start..end]
+        Packed {
+            bytes: &self.bytes[start..end],
+        }
     }
 }

@@ -19,6 +19,7 @@ ghost use Rattle.policy.specs.Best.{as_choice};
 mod entries;
 
 pub use entries::Entries;
+use entry::Packed;
 use names::Tail;
 
 // The slots of the filter; `specs/Filter.antt` has the same for the proofs.
@@ -67,15 +68,18 @@ pub fn entry_length(p: &[u8]) -> usize
 }
 
 // Whether one of the first count entries has the namespace and the name of e.
-fn is_among(policy: &[u8], count: usize, e: &[u8]) -> bool
-    requires { (count ≤ length (entries_of policy.now)) × (well_formed e.now ≡ true) }
-    ensures { result ≡ contains (same_target e.now) (take count (entries_of policy.now)) }
+fn is_among(policy: &[u8], count: usize, e: Packed<'_>) -> bool
+    requires { count ≤ length (entries_of policy.now) }
+    ensures { result ≡ contains (same_target e.entry.bytes.now) (take count (entries_of policy.now)) }
 {
     let mut at = 0;
     let mut index = 0;
     while index < count {
         let end = at + slices::get16(policy, at + limits::SIZE_AT);
-        if entry::same_target(e, &policy[at..end]) {
+        let met = Packed {
+            bytes: &policy[at..end],
+        };
+        if e.same_target(met) {
             return true;
         }
         at = end;
@@ -102,27 +106,23 @@ fn stated_length(p: &[u8]) -> usize
 }
 
 // Whether f is a well-formed entry with the namespace and the name of e: that first, since most are another's, and whether it is well formed last.
-fn repeats(e: &[u8], f: &[u8]) -> bool
-    requires { (well_formed e.now ≡ true) × (entry_header ≤ length f.now) }
-    ensures { result ≡ repeats e.now f.now }
+fn repeats(e: Packed<'_>, f: &[u8]) -> bool
+    requires { entry_header ≤ length f.now }
+    ensures { result ≡ repeats e.entry.bytes.now f.now }
 {
-    if !names::same_namespace(
-        &e[limits::NAMESPACE_AT..limits::MIN_SIZE_AT],
-        &f[limits::NAMESPACE_AT..limits::MIN_SIZE_AT],
-    ) {
+    if !names::same_namespace(e.namespace(), &f[limits::NAMESPACE_AT..limits::MIN_SIZE_AT]) {
         return false;
     }
     let name = slices::part(f, slices::get16(f, limits::OFFSET_TO_NAME_AT), f.len() - 2);
-    if !names::same_name(entry::name_bytes(e), name) {
+    if !names::same_name(e.name(), name) {
         return false;
     }
     entry::well_formed(f)
 }
 
 // Whether one of the entries that the bytes begin with, whatever they are, has the namespace and the name of e.
-pub fn has_target(entries: &[u8], e: &[u8]) -> bool
-    requires { well_formed e.now ≡ true }
-    ensures { result ≡ contains (repeats e.now) (stated_of entries.now) }
+pub fn has_target(entries: &[u8], e: Packed<'_>) -> bool
+    ensures { result ≡ contains (repeats e.entry.bytes.now) (stated_of entries.now) }
 {
     let mut at = 0;
     let mut next = stated_length(entries);
@@ -138,11 +138,10 @@ pub fn has_target(entries: &[u8], e: &[u8]) -> bool
 }
 
 // The key of an entry, from which its slot in the filter and its fingerprint are taken.
-fn key(e: &[u8]) -> usize
-    requires { well_formed e.now ≡ true }
-    ensures { result ≡ key_of e.now }
+fn key(e: Packed<'_>) -> usize
+    ensures { result ≡ key_of e.entry.bytes.now }
 {
-    let h = slices::hash(slices::get32(e, limits::NAMESPACE_AT), entry::name_bytes(e));
+    let h = slices::hash(slices::get32(e.bytes, limits::NAMESPACE_AT), e.name());
     let product = h % 4294967296 * 2654435761;
     product % 4294967296 + product / 4294967296
 }
@@ -154,9 +153,8 @@ pub struct Mark {
     pub fingerprint: u8,
 }
 
-pub fn mark_of(e: &[u8]) -> Mark
-    requires { well_formed e.now ≡ true }
-    ensures { (result.slot ≡ slot_of e.now) × (result.fingerprint ≡ fingerprint_of e.now) }
+pub fn mark_of(e: Packed<'_>) -> Mark
+    ensures { (result.slot ≡ slot_of e.entry.bytes.now) × (result.fingerprint ≡ fingerprint_of e.entry.bytes.now) }
 {
     let key = key(e);
     Mark {
@@ -166,10 +164,10 @@ pub fn mark_of(e: &[u8]) -> Mark
 }
 
 // Whether one of the first count entries, which the filter has, has the namespace and the name of e; the filter then has e too.
-fn is_repeated(policy: &[u8], count: usize, e: &[u8], marks: &mut [u8; SLOTS]) -> bool
-    requires { (count ≤ length (entries_of policy.now)) × (well_formed e.now ≡ true) × Marks marks.old (take count (entries_of policy.now)) }
-    ensures answer { result ≡ contains (same_target e.now) (take count (entries_of policy.now)) }
-    ensures marked { marks.new ≡ marks_with marks.old e.now }
+fn is_repeated(policy: &[u8], count: usize, e: Packed<'_>, marks: &mut [u8; SLOTS]) -> bool
+    requires { (count ≤ length (entries_of policy.now)) × Marks marks.old (take count (entries_of policy.now)) }
+    ensures answer { result ≡ contains (same_target e.entry.bytes.now) (take count (entries_of policy.now)) }
+    ensures marked { marks.new ≡ marks_with marks.old e.entry.bytes.now }
 {
     let mark = mark_of(e);
     let slot = mark.slot;
@@ -201,7 +199,10 @@ fn scan(policy: &[u8], marks: &mut [u8; SLOTS], ends: &mut [u16; ENTRIES]) -> Op
             return None;
         }
         let end = used + next;
-        if is_repeated(policy, count, &policy[used..end], marks) {
+        let e = Packed {
+            bytes: &policy[used..end],
+        };
+        if is_repeated(policy, count, e, marks) {
             return None;
         }
         ends[count] = end as u16;
@@ -271,9 +272,9 @@ pub fn check_dump(dump: &[u8], ends: &mut [u16; ENTRIES]) -> Option<Extent>
 }
 
 // Whether an entry of the record has the namespace and the name of e: what registration answers 20 to.
-pub fn contains(policy: &[u8], count: usize, e: &[u8]) -> bool
-    requires { (count ≡ length (entries_of policy.now)) × (well_formed e.now ≡ true) }
-    ensures { result ≡ contains (same_target e.now) (entries_of policy.now) }
+pub fn contains(policy: &[u8], count: usize, e: Packed<'_>) -> bool
+    requires { count ≡ length (entries_of policy.now) }
+    ensures { result ≡ contains (same_target e.entry.bytes.now) (entries_of policy.now) }
 {
     is_among(policy, count, e)
 }
@@ -374,15 +375,14 @@ fn candidate(
 }
 
 // The rank of an entry that targets the variable, and NO_RANK where it does not.
-fn rank_for(e: &[u8], namespace: &[u8; 16], name: &[u8]) -> usize
-    requires { well_formed e.now ≡ true }
-    ensures { result ≡ cond (targets e.now (variable namespace.now name.now)) (rank e.now) no_rank }
+fn rank_for(e: Packed<'_>, namespace: &[u8; 16], name: &[u8]) -> usize
+    ensures { result ≡ cond (targets e.entry.bytes.now (variable namespace.now name.now)) (rank e.entry.bytes.now) no_rank }
 {
-    if !names::same_namespace(&e[limits::NAMESPACE_AT..limits::MIN_SIZE_AT], namespace) {
+    if !names::same_namespace(e.namespace(), namespace) {
         return limits::NO_RANK;
     }
-    let own = entry::name_bytes(e);
-    if own.len() == 0 {
+    let own = e.name();
+    if own.is_empty() {
         return limits::WHOLE_NAMESPACE_RANK;
     }
     if names::matches(own, name) {
@@ -419,7 +419,10 @@ pub fn choose(entries: Entries<'_>, namespace: &[u8; 16], name: &[u8]) -> Option
         let index = next.index;
         let at = next.at;
         let end = ends[index] as usize;
-        let rank = rank_for(&policy[at..end], namespace, name);
+        let e = Packed {
+            bytes: &policy[at..end],
+        };
+        let rank = rank_for(e, namespace, name);
         if rank == 0 {
             return Some(Chosen { index, at, rank });
         }

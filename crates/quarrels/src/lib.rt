@@ -7,12 +7,13 @@ ghost use Rattle.slices.specs.Test.{◌and◌};
 ghost use Rattle.patterns.specs.Common.{same_signs};
 ghost use Rattle.limits.specs.Limits.{max_entries};
 ghost use Rattle.patterns.specs.Literals.{literal_mask_of, literals_of};
-ghost use Rattle.entry.specs.Entry.{well_formed, name_of};
+ghost use Rattle.entry.specs.Entry.{name_of};
 ghost use Rattle.policy.specs.Policy.{entries_of};
 ghost use Rattle.policy.specs.Dump.{dump_valid};
 ghost use Rattle.quarrels.specs.Quarrel.{quarrel, quarrel_at, pair_of, quarrels_of, buffer_after};
 ghost use Rattle.quarrels.specs.Group.{groups, group_of, group_at, InGroup, Rises, Chains, Others, front, notes, noted_for, Noted, Skipped};
 
+use entry::Packed;
 use policy::{ENTRIES, Entries};
 
 // The groups of entries that may quarrel; `specs/Group.antt` has the same for the proofs.
@@ -57,25 +58,23 @@ struct Dump<'a> {
 }
 
 // The group of an entry: of two that quarrel it is the same. GROUPS where there is no '#' in its name, since such entries quarrel with none.
-fn group_of(e: &[u8]) -> usize
-    requires { well_formed e.now ≡ true }
-    ensures { result ≡ group_of e.now }
+fn group_of(e: Packed<'_>) -> usize
+    ensures { result ≡ group_of e.entry.bytes.now }
 {
-    let name = entry::name_bytes(e);
+    let name = e.name();
     if !patterns::has_sign(name) {
         return GROUPS;
     }
-    let key = slices::get32(e, limits::NAMESPACE_AT) + 4099 * name.len();
+    let key = slices::get32(e.bytes, limits::NAMESPACE_AT) + 4099 * name.len();
     key % 4294967296 * 2654435761 / 16777216 % GROUPS
 }
 
 // Whether two entries quarrel.
-fn quarrel(e: &[u8], f: &[u8]) -> bool
-    requires { (well_formed e.now ≡ true) × (well_formed f.now ≡ true) }
-    ensures { result ≡ quarrel e.now f.now }
+fn quarrel(e: Packed<'_>, f: Packed<'_>) -> bool
+    ensures { result ≡ quarrel e.entry.bytes.now f.entry.bytes.now }
 {
-    let own = entry::name_bytes(e);
-    let other = entry::name_bytes(f);
+    let own = e.name();
+    let other = f.name();
     if own.len() != other.len() {
         return false;
     }
@@ -88,10 +87,7 @@ fn quarrel(e: &[u8], f: &[u8]) -> bool
     if names::wildcards(own) != names::wildcards(other) {
         return false;
     }
-    names::same_namespace(
-        &e[limits::NAMESPACE_AT..limits::MIN_SIZE_AT],
-        &f[limits::NAMESPACE_AT..limits::MIN_SIZE_AT],
-    )
+    names::same_namespace(e.namespace(), f.namespace())
 }
 
 // A place in a chain as an index.
@@ -130,7 +126,7 @@ fn alike(entries: Entries<'_>, name: &[u8], place: usize) -> bool
         return false;
     }
     let e = entries.get(place);
-    patterns::same_signs(name, entry::name_bytes(e))
+    patterns::same_signs(name, e.name())
 }
 
 // The first four units of a name; of a shorter one all.
@@ -179,7 +175,7 @@ fn link(
         let e = entries.get(i);
         let group = group_of(e);
         if group < GROUPS {
-            let name = entry::name_bytes(e);
+            let name = e.name();
             let behind = heads[group] as u32;
             heads[group] = i as u8;
             next[i] = behind;
@@ -308,8 +304,8 @@ pub fn quarrels(dump: &[u8], name: &mut [u8; 128]) -> Result<Option<FoundQuarrel
     let Some(pair) = pair_of(Dump { entries }) else {
         return Ok(None);
     };
-    let own = entry::name_bytes(entries.get(pair.earlier));
-    let other = entry::name_bytes(entries.get(pair.later));
+    let own = entries.get(pair.earlier).name();
+    let other = entries.get(pair.later).name();
     patterns::put_least(own, other, name);
     Ok(Some(FoundQuarrel {
         pair,

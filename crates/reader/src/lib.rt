@@ -14,6 +14,7 @@ ghost use Rattle.policy.specs.Stated.{stated_of, repeats};
 ghost use Rattle.reader.specs.Reading.{decided};
 ghost use Rattle.reader.specs.Reader.{held_at, good_at, count_at, reader_bytes, held, good, put, stop, fresh, admits, accepted, judged, all_judged, taken, fed, feed_status, after_feed, verdict_in, listing_in};
 
+use entry::Packed;
 use status::Status;
 
 // Where its parts begin; `specs/Reader.antt` has the same for the rules.
@@ -86,11 +87,15 @@ fn repeats(r: &[u8], from: usize, to: usize, seen: u8, fingerprint: u8) -> bool
     requires { (from ≤ to) × (to ≤ length r.now) × (well_formed (part from to r.now) ≡ true) }
     ensures { result ≡ ((eqb seen 255 || eqb seen fingerprint) and contains (repeats (part from to r.now)) (stated_of (take from r.now))) }
 {
+    let before = &r[..from];
+    let e = Packed {
+        bytes: &r[from..to],
+    };
     if seen == 255 {
-        return policy::has_target(&r[..from], &r[from..to]);
+        return policy::has_target(before, e);
     }
     if seen == fingerprint {
-        return policy::has_target(&r[..from], &r[from..to]);
+        return policy::has_target(before, e);
     }
     false
 }
@@ -115,7 +120,9 @@ fn accept(r: &mut [u8], from: usize, to: usize) -> bool
     if limits::MAX_ENTRIES <= count {
         return false;
     }
-    let mark = policy::mark_of(&r[from..to]);
+    let mark = policy::mark_of(Packed {
+        bytes: &r[from..to],
+    });
     let slot = FILTER_AT + mark.slot;
     let fingerprint = mark.fingerprint;
     let seen = r[slot];
@@ -281,11 +288,11 @@ fn listing_in(r: &[u8], at: usize) -> Option<Listing>
     if size == 0 {
         return None;
     }
-    let e = &p[..size];
+    let e = Packed { bytes: &p[..size] };
     Some(Listing {
         size: size as u32,
-        lock: slices::byte(e, limits::LOCK_TYPE_AT) as u32,
-        rank: entry::rank(e) as u32,
+        lock: slices::byte(e.bytes, limits::LOCK_TYPE_AT) as u32,
+        rank: e.rank() as u32,
     })
 }
 

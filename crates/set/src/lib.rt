@@ -26,7 +26,7 @@ ghost use Rattle.set.specs.Known.{Knows};
 ghost use Rattle.set.specs.Decided.{decided_by};
 ghost use Rattle.set.specs.Writable.{found_in, Writable};
 
-use entry::{Entry, LockRule, Trigger};
+use entry::{Entry, LockRule, Packed, Trigger};
 use policy::Entries;
 use rules::{Change, Ground, Refusal, Report};
 use status::Status;
@@ -137,7 +137,7 @@ fn entry_ground(e: &[u8], located: Located) -> Option<Ground>
     requires { well_formed e.now ≡ true }
     ensures { result ≡ ground_of e.now (lookup located.entry.stores.nv.now located.entry.stores.vol.now) (asked located.entry.request) }
 {
-    let entry = entry::entry_of(e);
+    let entry = Packed { bytes: e }.fields();
     let n = located.length_after();
     if let Some(ground) = request_ground(entry, n, located.request) {
         return Some(ground);

@@ -13,7 +13,7 @@ ghost use Rattle.stores.specs.Pair.{lookup};
 ghost use Rattle.rules.specs.Set.{exists, holds_value};
 ghost use Rattle.rules.specs.Settled.{lock_holds_in, settled_in};
 
-use entry::{LockRule, Trigger};
+use entry::{LockRule, Packed, Trigger};
 use noted::Notes;
 use policy::Entries;
 use stores::Stores;
@@ -89,7 +89,8 @@ fn lock_holds(
     requires { well_formed e.now ≡ true }
     ensures { result ≡ lock_holds_in links (chosen (entries_of entries.entry.bytes.now)) (lookup notes.entry.stores.nv.now notes.entry.stores.vol.now) e.now (variable namespace.now name.now) }
 {
-    match entry::lock_of(e) {
+    let entry = Packed { bytes: e };
+    match entry.lock() {
         LockRule::NoLock => false,
         LockRule::LockNow => true,
         LockRule::LockOnCreate => variable_exists(notes, namespace, name),

@@ -20,29 +20,29 @@ pub loop-next-init : goal.loop-next-init
 unfolding as_choice
 loop-next-init c = (omega arith, omega arith, c.candidate-next.ensures.at.1, c.candidate-next.ensures.passed None)
 
-pub slice_bounds-rank_for-count : goal.slice_bounds-rank_for-count
-slice_bounds-rank_for-count c =
+pub slice_bounds-e-count : goal.slice_bounds-e-count
+slice_bounds-e-count c =
     let P : Bytes = c.args.entries.bytes.now in
     let at-hand : Hand (P) c.loop-next.next.index c.loop-next.next.at (get_or c.args.entries.ends.now c.loop-next.next.index 0) = hand c.args.entries.ends.now (P) c.loop-next.next.index c.loop-next.next.at c.args.entries.noted c.loop-next.invariant.2 (omega (arith, c.args.entries.counted, c.loop-next-test.true)) in
     omega (arith, (at-hand).ends)
 
-pub slice_bounds-rank_for-start : goal.slice_bounds-rank_for-start
-slice_bounds-rank_for-start c =
+pub slice_bounds-e-start : goal.slice_bounds-e-start
+slice_bounds-e-start c =
     let P : Bytes = c.args.entries.bytes.now in
     let at-hand : Hand (P) c.loop-next.next.index c.loop-next.next.at (get_or c.args.entries.ends.now c.loop-next.next.index 0) = hand c.args.entries.ends.now (P) c.loop-next.next.index c.loop-next.next.at c.args.entries.noted c.loop-next.invariant.2 (omega (arith, c.args.entries.counted, c.loop-next-test.true)) in
     omega (arith, (at-hand).ends)
 
-pub slice_bounds-rank_for-end : goal.slice_bounds-rank_for-end
-slice_bounds-rank_for-end c =
+pub slice_bounds-e-end : goal.slice_bounds-e-end
+slice_bounds-e-end c =
     let P : Bytes = c.args.entries.bytes.now in
     let at-hand : Hand (P) c.loop-next.next.index c.loop-next.next.at (get_or c.args.entries.ends.now c.loop-next.next.index 0) = hand c.args.entries.ends.now (P) c.loop-next.next.index c.loop-next.next.at c.args.entries.noted c.loop-next.invariant.2 (omega (arith, c.args.entries.counted, c.loop-next-test.true)) in
     (at-hand).inside
 
-pub rank_for-rank-requires : goal.rank_for-rank-requires
-rank_for-rank-requires c =
+pub invariant_of-e : goal.invariant_of-e
+invariant_of-e c =
     let P : Bytes = c.args.entries.bytes.now in
     let at-hand : Hand (P) c.loop-next.next.index c.loop-next.next.at (get_or c.args.entries.ends.now c.loop-next.next.index 0) = hand c.args.entries.ends.now (P) c.loop-next.next.index c.loop-next.next.at c.args.entries.noted c.loop-next.invariant.2 (omega (arith, c.args.entries.counted, c.loop-next-test.true)) in
-    (at-hand).formed
+    record { formed = (at-hand).formed }
 
 pub returns-then-rank-eq0 : goal.returns-then-rank-eq0
 returns-then-rank-eq0 c =

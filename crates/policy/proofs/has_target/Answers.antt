@@ -48,15 +48,15 @@ repeats-requires c =
     let P : Bytes = c.args.entries.now in
     let hand : States (drop c.loop-next.at (P)) c.loop-next.next = let l = c.loop-next in
     begins (λ e. true) (P) l.at l.next l.invariant.1 c.loop-next-test.true in
-    (c.requires, rw (part_of, length-take-le _ _ (hand).within) (hand).least)
+    rw (part_of, length-take-le _ _ (hand).within) (hand).least
 
 pub returns-then-repeats : goal.returns-then-repeats
 returns-then-repeats c =
     let P : Bytes = c.args.entries.now in
     let met : let l = c.loop-next in
-    contains (repeats c.args.e.now) (stated_of (P))
-    ≡ (c.repeats.result || contains (repeats c.args.e.now) (stated_of (drop (l.at + l.next) (P)))) = let l = c.loop-next in
-    let f = repeats c.args.e.now in
+    contains (repeats c.args.e.bytes.now) (stated_of (P))
+    ≡ (c.repeats.result || contains (repeats c.args.e.bytes.now) (stated_of (drop (l.at + l.next) (P)))) = let l = c.loop-next in
+    let f = repeats c.args.e.bytes.now in
     let k : c.repeats.result ≡ f (take l.next (drop l.at (P))) = c.repeats.ensures ∙ ap f (part_of l.at l.next (P)) in
     l.invariant.2 ∙ step f (P) l.at l.next l.invariant.1 c.loop-next-test.true ∙ rw k in
     sym (met ∙ rw c.if-repeats.true)
@@ -67,9 +67,9 @@ loop-next-preserved c =
     let inside : c.loop-next.at + c.loop-next.next ≤ length (P) = let l = c.loop-next in
     fits (λ e. true) (P) l.at l.next l.invariant.1 c.loop-next-test.true l.invariant.0 in
     let met : let l = c.loop-next in
-    contains (repeats c.args.e.now) (stated_of (P))
-    ≡ (c.repeats.result || contains (repeats c.args.e.now) (stated_of (drop (l.at + l.next) (P)))) = let l = c.loop-next in
-    let f = repeats c.args.e.now in
+    contains (repeats c.args.e.bytes.now) (stated_of (P))
+    ≡ (c.repeats.result || contains (repeats c.args.e.bytes.now) (stated_of (drop (l.at + l.next) (P)))) = let l = c.loop-next in
+    let f = repeats c.args.e.bytes.now in
     let k : c.repeats.result ≡ f (take l.next (drop l.at (P))) = c.repeats.ensures ∙ ap f (part_of l.at l.next (P)) in
     l.invariant.2 ∙ step f (P) l.at l.next l.invariant.1 c.loop-next-test.true ∙ rw k in
     let l = c.loop-next in (

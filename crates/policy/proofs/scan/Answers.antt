@@ -29,8 +29,8 @@ overflow_add-end c =
     fits (P) l.count l.used l.invariant.0.walk l.next l.invariant.1 c.loop-next-test.true in
     omega (arith, within)
 
-pub slice_bounds-is_repeated-end : goal.slice_bounds-is_repeated-end
-slice_bounds-is_repeated-end c =
+pub slice_bounds-e-end : goal.slice_bounds-e-end
+slice_bounds-e-end c =
     let P : Bytes = c.args.policy.now in
     let within : c.loop-next.used + c.loop-next.next ≤ length (P) = let l = c.loop-next in
     fits (P) l.count l.used l.invariant.0.walk l.next l.invariant.1 c.loop-next-test.true in
@@ -40,7 +40,13 @@ pub is_repeated-requires : goal.is_repeated-requires
 is_repeated-requires c =
     let P : Bytes = c.args.policy.now in
     let l = c.loop-next in
-    (l.invariant.0.walk.met, rw part_of (formed (P) l.count l.used l.invariant.0.walk l.next l.invariant.1 c.loop-next-test.true), l.invariant.0.filter)
+    (l.invariant.0.walk.met, l.invariant.0.filter)
+
+pub invariant_of-e : goal.invariant_of-e
+invariant_of-e c =
+    let P : Bytes = c.args.policy.now in
+    let l = c.loop-next in
+    record { formed = rw part_of (formed (P) l.count l.used l.invariant.0.walk l.next l.invariant.1 c.loop-next-test.true) }
 
 pub returns-then-is_repeated : goal.returns-then-is_repeated
 returns-then-is_repeated c =

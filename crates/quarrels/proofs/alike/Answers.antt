@@ -22,4 +22,4 @@ returns-then-entries-place c = none_there c.args.place c.args.entries.count _ c.
 
 pub returns : goal.returns
 returns c =
-    one-there c.args.name.now _ c.args.place c.args.entries.count c.if-entries-place.false c.same_signs.ensures c.name_bytes.ensures c.get-e.ensures.is
+    one-there c.args.name.now _ c.args.place c.args.entries.count c.if-entries-place.false c.same_signs.ensures c.name.ensures c.get-e.ensures

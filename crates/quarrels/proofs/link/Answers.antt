@@ -25,7 +25,7 @@ bounds-first-other c =
     let Es : List Bytes = entries_of c.args.entries.bytes.now in
     let few : length (Es) ≤ max_entries = c.args.entries.noted.few in
     let alike-there : (ltb c.place-other.result (length (Es))
-    and same_signs c.name_bytes-name.result.now (name_of (at (Es) c.place-other.result))) ≡ true = alike_yes _ _ c.args.entries.counted c.alike.ensures c.if-alike.true in
+    and same_signs c.name-name.result.now (name_of (at (Es) c.place-other.result))) ≡ true = alike_yes _ _ c.args.entries.counted c.alike.ensures c.if-alike.true in
     let other-under : c.place-other.result < max_entries = let u = alike_under (length (Es)) c.place-other.result _ (alike-there) in
     omega (arith, u, few) in
     other-under
@@ -35,10 +35,10 @@ loop-i-preserved-then-alike c =
     let Es : List Bytes = entries_of c.args.entries.bytes.now in
     let few : length (Es) ≤ max_entries = c.args.entries.noted.few in
     let begun : Linked (Es) c.loop-i.heads c.loop-i.next c.loop-i.first c.loop-i.masks c.loop-i.shown (c.loop-i.i - 1 + 1) = linked_back c.loop-i.i c.loop-i-test.true c.loop-i.invariant in
-    let group-is : c.group_of-group.result ≡ group_at (Es) (c.loop-i.i - 1) = c.group_of-group.ensures ∙ ap group_of c.get-e.ensures.is in
-    let name_is : c.name_bytes-name.result.now ≡ name_of (at (Es) (c.loop-i.i - 1)) = c.name_bytes-name.ensures ∙ ap name_of c.get-e.ensures.is in
+    let group-is : c.group_of-group.result ≡ group_at (Es) (c.loop-i.i - 1) = c.group_of-group.ensures ∙ ap group_of c.get-e.ensures in
+    let name_is : c.name-name.result.now ≡ name_of (at (Es) (c.loop-i.i - 1)) = c.name-name.ensures ∙ ap name_of c.get-e.ensures in
     let alike-there : (ltb c.place-other.result (length (Es))
-    and same_signs c.name_bytes-name.result.now (name_of (at (Es) c.place-other.result))) ≡ true = alike_yes _ _ c.args.entries.counted c.alike.ensures c.if-alike.true in
+    and same_signs c.name-name.result.now (name_of (at (Es) c.place-other.result))) ≡ true = alike_yes _ _ c.args.entries.counted c.alike.ensures c.if-alike.true in
     let l = c.loop-i in
     linked_skip (Es) (few) l.heads l.next l.first l.masks l.shown (l.i - 1) (begun) (group-is) c.if-group-lt-GROUPS.true (name_is) c.note.ensures.masked c.note.ensures.shown
     c.place-other.ensures (alike-there) refl
@@ -48,8 +48,8 @@ loop-i-preserved-else-alike c =
     let Es : List Bytes = entries_of c.args.entries.bytes.now in
     let few : length (Es) ≤ max_entries = c.args.entries.noted.few in
     let begun : Linked (Es) c.loop-i.heads c.loop-i.next c.loop-i.first c.loop-i.masks c.loop-i.shown (c.loop-i.i - 1 + 1) = linked_back c.loop-i.i c.loop-i-test.true c.loop-i.invariant in
-    let group-is : c.group_of-group.result ≡ group_at (Es) (c.loop-i.i - 1) = c.group_of-group.ensures ∙ ap group_of c.get-e.ensures.is in
-    let name_is : c.name_bytes-name.result.now ≡ name_of (at (Es) (c.loop-i.i - 1)) = c.name_bytes-name.ensures ∙ ap name_of c.get-e.ensures.is in
+    let group-is : c.group_of-group.result ≡ group_at (Es) (c.loop-i.i - 1) = c.group_of-group.ensures ∙ ap group_of c.get-e.ensures in
+    let name_is : c.name-name.result.now ≡ name_of (at (Es) (c.loop-i.i - 1)) = c.name-name.ensures ∙ ap name_of c.get-e.ensures in
     let l = c.loop-i in
     linked_next (Es) (few) l.heads l.next l.first l.masks l.shown (l.i - 1) (begun) (group-is) c.if-group-lt-GROUPS.true (name_is) c.note.ensures.masked c.note.ensures.shown
 
@@ -58,6 +58,6 @@ loop-i-preserved c =
     let Es : List Bytes = entries_of c.args.entries.bytes.now in
     let few : length (Es) ≤ max_entries = c.args.entries.noted.few in
     let begun : Linked (Es) c.loop-i.heads c.loop-i.next c.loop-i.first c.loop-i.masks c.loop-i.shown (c.loop-i.i - 1 + 1) = linked_back c.loop-i.i c.loop-i-test.true c.loop-i.invariant in
-    let group-is : c.group_of-group.result ≡ group_at (Es) (c.loop-i.i - 1) = c.group_of-group.ensures ∙ ap group_of c.get-e.ensures.is in
+    let group-is : c.group_of-group.result ≡ group_at (Es) (c.loop-i.i - 1) = c.group_of-group.ensures ∙ ap group_of c.get-e.ensures in
     let l = c.loop-i in
     linked_single (Es) (few) l.heads l.next l.first l.masks l.shown (l.i - 1) (begun) (group-is) c.if-group-lt-GROUPS.false

@@ -45,8 +45,8 @@ pub put_least-requires : goal.put_least-requires
 put_least-requires c =
     let checked : DumpChecked c.args.dump.now c.in-Some.extent.count = dump_check_valid _ _ (sym c.check_dump.ensures.answer ∙ c.in-Some.is) in
     let pair_is : pair_of (entries_of c.args.dump.now) ≡ Some (pair c.in-Some-pair_of.pair.earlier c.in-Some-pair_of.pair.later) = sym c.pair_of.ensures ∙ c.in-Some-pair_of.is in
-    let earlier-name : c.name_bytes-own.result.now ≡ name_of (at (entries_of c.args.dump.now) c.in-Some-pair_of.pair.earlier) = c.name_bytes-own.ensures ∙ ap name_of c.get.ensures.is in
-    let later-name : c.name_bytes-other.result.now ≡ name_of (at (entries_of c.args.dump.now) c.in-Some-pair_of.pair.later) = c.name_bytes-other.ensures ∙ ap name_of c.get-2.ensures.is in
+    let earlier-name : c.name-own.result.now ≡ name_of (at (entries_of c.args.dump.now) c.in-Some-pair_of.pair.earlier) = c.name-own.ensures ∙ ap name_of c.get.ensures in
+    let later-name : c.name-other.result.now ≡ name_of (at (entries_of c.args.dump.now) c.in-Some-pair_of.pair.later) = c.name-other.ensures ∙ ap name_of c.get-2.ensures in
     let f = names_fit c.args.dump.now (checked).valid _ _ (pair_is) (earlier-name) (later-name) in
     (f.0, omega (arith, f.1, c.put_least-arg-1.given.0.1))
 
@@ -54,6 +54,6 @@ pub returns : goal.returns
 returns c =
     let checked : DumpChecked c.args.dump.now c.in-Some.extent.count = dump_check_valid _ _ (sym c.check_dump.ensures.answer ∙ c.in-Some.is) in
     let pair_is : pair_of (entries_of c.args.dump.now) ≡ Some (pair c.in-Some-pair_of.pair.earlier c.in-Some-pair_of.pair.later) = sym c.pair_of.ensures ∙ c.in-Some-pair_of.is in
-    let earlier-name : c.name_bytes-own.result.now ≡ name_of (at (entries_of c.args.dump.now) c.in-Some-pair_of.pair.earlier) = c.name_bytes-own.ensures ∙ ap name_of c.get.ensures.is in
-    let later-name : c.name_bytes-other.result.now ≡ name_of (at (entries_of c.args.dump.now) c.in-Some-pair_of.pair.later) = c.name_bytes-other.ensures ∙ ap name_of c.get-2.ensures.is in
+    let earlier-name : c.name-own.result.now ≡ name_of (at (entries_of c.args.dump.now) c.in-Some-pair_of.pair.earlier) = c.name-own.ensures ∙ ap name_of c.get.ensures in
+    let later-name : c.name-other.result.now ≡ name_of (at (entries_of c.args.dump.now) c.in-Some-pair_of.pair.later) = c.name-other.ensures ∙ ap name_of c.get-2.ensures in
     let both = found c.args.dump.now (checked).valid _ _ (pair_is) (earlier-name) (later-name) c.args.name.now c.put_least.ensures in record { answer = both.0; buffer = both.1 }

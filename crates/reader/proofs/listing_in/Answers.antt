@@ -20,10 +20,10 @@ overflow_cast-result c =
     let here : Begins c.part-p.result.now c.entry_length-size.result = entry_length-begins _ _ (sym c.entry_length-size.ensures) (omega (arith, c.if-size-eq0.false)) in
     omega (arith, (here).most)
 
-pub rank-requires : goal.rank-requires
-rank-requires c =
+pub invariant_of-e : goal.invariant_of-e
+invariant_of-e c =
     let here : Begins c.part-p.result.now c.entry_length-size.result = entry_length-begins _ _ (sym c.entry_length-size.ensures) (omega (arith, c.if-size-eq0.false)) in
-    (here).formed
+    record { formed = (here).formed }
 
 pub overflow_cast-result-3 : goal.overflow_cast-result-3
 overflow_cast-result-3 c =

@@ -13,4 +13,8 @@ slice_bounds-result-end c = let e = c.args.self in (entry_at e.ends.now e.bytes.
 pub returns : goal.returns
 returns c =
     let e = c.args.self in
-    let g = entry_at e.ends.now e.bytes.now c.args.index e.counted e.noted c.requires c.start-start.ensures in record { is = g.is; formed = g.formed }
+    let g = entry_at e.ends.now e.bytes.now c.args.index e.counted e.noted c.requires c.start-start.ensures in g.is
+
+pub invariant_of-result : goal.invariant_of-result
+invariant_of-result c =
+    let e = c.args.self in record { formed = (entry_at e.ends.now e.bytes.now c.args.index e.counted e.noted c.requires c.start-start.ensures).formed }

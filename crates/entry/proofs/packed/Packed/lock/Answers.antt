@@ -3,7 +3,7 @@ use native.Mathlib.Omega.{arith}
 use borrow.Author.Tests.{eq-eqb, ne_eqb}
 use Rattle.entry.specs.Entry.{lock_of}
 use Rattle.entry.proofs.EntryLaws.{sized}
-use Rattle.entry.proofs.lock_of.Goals as goal
+use Rattle.entry.proofs.packed.Packed.lock.Goals as goal
 
 pub returns-in-0 : goal.returns-in-0
 unfolding lock_of
@@ -18,7 +18,7 @@ unfolding lock_of
 returns-in-2 c = simp (← c.byte.ensures, c.in-2.is)
 
 pub overflow_sub-result : goal.overflow_sub-result
-overflow_sub-result c = omega (arith, (sized _ c.requires).offset_least, c.le16.ensures)
+overflow_sub-result c = omega (arith, (sized _ c.args.self.formed).offset_least, c.le16.ensures)
 
 pub returns-in_default : goal.returns-in_default
 unfolding lock_of
