@@ -10,6 +10,7 @@ use Rattle.std.specs.List.{fold, list_all, prefix_len, zip, filter, sum_by}
 use Rattle.std.specs.Simd.{first_chunks}
 use Rattle.std.specs.Cmp.Lexicographic.{pointwise}
 use Rattle.std.proofs.lemmas.List.Folds.{length-prefix_len}
+use Rattle.std.proofs.lemmas.List.Sums.{sum_by-cons}
 use lib.Seq.{drop-drop}
 use Rattle.limits.specs.Limits.{max_name_bytes, namespace_bytes}
 use Rattle.lists.specs.Lists.{All, nil, more, Among}
@@ -311,15 +312,11 @@ wildcards_le (u ∷ us) = at_most (eqb u number_sign) (wildcards_le us)
     at_most true h = omega arith
     at_most false h = omega arith
 
--- counted by a filter
-pub filter_wildcards : (us : List ℕ) → length (filter (λ u. eqb u number_sign) us) ≡ wildcards us
+-- counted by a sum
+pub sum_wildcards : (us : List ℕ) → sum_by (λ u. one_if (eqb u number_sign)) us ≡ wildcards us
 unfolding wildcards
-filter_wildcards [] = refl
-filter_wildcards (u ∷ us) = by (eqb u number_sign) (filter_wildcards us)
-  where
-    by : (b : Bool) → length (filter (λ u. eqb u number_sign) us) ≡ wildcards us → length (cond b (u ∷ filter (λ u. eqb u number_sign) us) (filter (λ u. eqb u number_sign) us)) ≡ one_if b + wildcards us
-    by true e = omega (arith, e)
-    by false e = omega (arith, e)
+sum_wildcards [] = refl
+sum_wildcards (u ∷ us) = sum_by-cons (λ u. one_if (eqb u number_sign)) u us ∙ ap (λ n. one_if (eqb u number_sign) + n) (sum_wildcards us)
 
 wildcards_append : (us vs : List ℕ) → wildcards (us ++ vs) ≡ wildcards us + wildcards vs
 unfolding wildcards

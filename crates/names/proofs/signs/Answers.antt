@@ -1,15 +1,19 @@
-use Rattle.std.proofs.Common.{rules, refl, inl, ◌∙◌, eqb}
-use Rattle.std.proofs.lemmas.Iterator.Consumers.{YieldsList-from_first, YieldsList-from_filter, YieldsList-at, count_from_yields_List}
+use Rattle.std.proofs.Common.{rules, refl, ◌∙◌, eqb}
+use Rattle.std.proofs.lemmas.Iterator.{YieldsList-from_map}
+use Rattle.std.proofs.lemmas.Iterator.Consumers.{YieldsList-from_first, YieldsList-at, sum_by_from_yields_List, fits_by_from_yields_list}
 use native.Mathlib.Omega.{arith}
-use Rattle.names.specs.Name.{units}
-use Rattle.names.proofs.NameLaws.{filter_wildcards, units_length}
+use Rattle.names.specs.Name.{units, one_if}
+use Rattle.names.proofs.NameLaws.{sum_wildcards, wildcards_le, units_length}
 use Rattle.names.proofs.signs.Goals as goal
+
+pub sum-requires-clause-fits : goal.sum-requires-clause-fits
+sum-requires-clause-fits c =
+    fits_by_from_yields_list (λ u. one_if (eqb u 0x23)) _ _ _
+    (YieldsList-from_map _ (λ u. one_if (eqb u 0x23)) (YieldsList-at c.map.ensures.source (YieldsList-from_first (λ u. u) (λ s. units s.0.now) _ refl)) c.map.ensures.closure (λ x r q k. search rules))
+    (omega (arith, sum_wildcards (units c.args.s.now), wildcards_le (units c.args.s.now), units_length c.args.s.now))
 
 pub returns : goal.returns
 returns c =
-    count_from_yields_List _ _ c.count.ensures.ran
-    (YieldsList-from_filter _ (λ u. eqb u 0x23) (YieldsList-at c.filter.ensures.source (YieldsList-from_first (λ u. u) (λ s. units s.0.now) _ refl)) c.filter.ensures.closure (λ x b q k. search rules))
-    ∙ filter_wildcards _
-
-pub count-requires-clause-fits : goal.count-requires-clause-fits
-count-requires-clause-fits c = inl (rw c.filter.ensures.source (omega (arith, units_length c.args.s.now)))
+    sum_by_from_yields_List (λ u. one_if (eqb u 0x23)) _ _ _ c.sum.ensures.ran
+    (YieldsList-from_map _ (λ u. one_if (eqb u 0x23)) (YieldsList-at c.map.ensures.source (YieldsList-from_first (λ u. u) (λ s. units s.0.now) _ refl)) c.map.ensures.closure (λ x r q k. search rules))
+    ∙ sum_wildcards _
