@@ -13,7 +13,7 @@ ghost use Rattle.stores.specs.Pair.{lookup};
 ghost use Rattle.rules.specs.Set.{exists, holds_value};
 ghost use Rattle.rules.specs.Settled.{lock_holds_in, settled_in};
 
-use entry::{LockRule, Packed, Trigger};
+use entry::{LockRule, Packed};
 use noted::Notes;
 use policy::Entries;
 use stores::Stores;
@@ -33,20 +33,6 @@ fn variable_exists(notes: Notes<'_>, namespace: &[u8; 16], name: &[u8]) -> bool
     ensures { result ≡ exists (lookup notes.entry.stores.nv.now notes.entry.stores.vol.now (variable namespace.now name.now)) }
 {
     stores::is_somewhere(notes.locate(namespace, name))
-}
-
-// Whether the trigger of an entry holds the Value (RULES.md, 5).
-fn trigger_holds(e: &[u8], trigger: Trigger, notes: Notes<'_>) -> bool
-    requires { trigger.namespace ≡ trigger_namespace_at }
-    ensures { result ≡ holds_value (lookup notes.entry.stores.nv.now notes.entry.stores.vol.now (variable
-        (part trigger.namespace (trigger.namespace + 16) e.now)
-        (part trigger.name trigger.name_end e.now))) trigger.value }
-{
-    let from = trigger.namespace;
-    let namespace = slices::part(e, from, from + limits::NAMESPACE_BYTES);
-    let name = slices::part(e, trigger.name, trigger.name_end);
-    let place = notes.locate(namespace, name);
-    set::is_value(notes.stores.payload_at(place), trigger.value)
 }
 
 // Whether the variable is settled, where at most so many links are followed: an entry is chosen for it, and the lock of that entry holds.
@@ -98,7 +84,7 @@ fn lock_holds(
             if links == 0 {
                 return false;
             }
-            if !trigger_holds(e, trigger, notes) {
+            if !set::trigger_holds(e, trigger, &notes) {
                 return false;
             }
             let its_namespace = namespace_at(e, trigger.namespace);
