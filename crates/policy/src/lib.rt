@@ -1,7 +1,7 @@
 // The policy record, and the entry that is chosen for a variable.
 #![tactic(auto)]
 
-ghost use Rattle.std.specs.Prelude.{◌≡◌, [], ◌∷◌, ◌++◌, true, ◌+◌, ◌≤◌, ◌<◌, length, take};
+ghost use Rattle.std.specs.Prelude.{◌≡◌, [], ◌∷◌, ◌++◌, true, ◌+◌, ◌≤◌, ◌<◌, length, take, MatchOption};
 ghost use Rattle.limits.specs.Limits.{entry_header, max_entries, policy_bytes};
 ghost use Rattle.slices.specs.Bytes.{overwrite};
 ghost use Rattle.slices.specs.Chunks.{flat, contains};
@@ -81,21 +81,22 @@ fn is_among(policy: &[u8], count: usize, e: Packed<'_>) -> bool
     false
 }
 
-// How many bytes the entry has that the bytes begin with, as its Size says; 0 where they are not there.
-fn stated_length(p: &[u8]) -> usize
-    ensures { result ≡ stated_length p.now }
+// The entry that the bytes begin with, as long as its Size says; none where not so many bytes are there, or no header.
+fn stated_entry(p: &[u8]) -> Option<&[u8]>
+    ensures { MatchOption result (stated_length p.now ≡ 0)
+        (λ f. (f.now ≡ take (stated_length p.now) p.now) × (length f.now ≡ stated_length p.now) × (entry_header ≤ length f.now)) }
 {
     if p.len() < limits::ENTRY_HEADER {
-        return 0;
+        return None;
     }
     let n = slices::get16(p, limits::SIZE_AT);
     if n < limits::ENTRY_HEADER {
-        return 0;
+        return None;
     }
     if p.len() < n {
-        return 0;
+        return None;
     }
-    n
+    Some(&p[..n])
 }
 
 // Whether f is a well-formed entry with the namespace and the name of e: that first, since most are another's, and whether it is well formed last.
@@ -117,15 +118,12 @@ fn repeats(e: Packed<'_>, f: &[u8]) -> bool
 pub fn has_target(entries: &[u8], e: Packed<'_>) -> bool
     ensures { result ≡ contains (repeats e.entry.bytes.now) (stated_of entries.now) }
 {
-    let mut at = 0;
-    let mut next = stated_length(entries);
-    while 0 < next {
-        let end = at + next;
-        if repeats(e, &entries[at..end]) {
+    let mut rest = entries;
+    while let Some(f) = stated_entry(rest) {
+        if repeats(e, f) {
             return true;
         }
-        at = end;
-        next = stated_length(&entries[at..]);
+        rest = &rest[f.len()..];
     }
     false
 }
