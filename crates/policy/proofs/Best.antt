@@ -1,11 +1,11 @@
 -- How the choice moves on as the code walks: the best so far as three numbers (`as_choice`) says what `better` says, entry by entry, and one turn of the
--- walk is one of `pass`, `on_zero`, `on_lower` and `on_kept`. Assumes nothing.
+-- walk is one of `passed_by`, `at_zero`, `at_lower` and `at_kept`. Assumes nothing.
 use Prim.Native.Nat.{ℕ, ◌+◌, ◌≤◌, ◌<◌}
-use mathlib.Core.Path.{◌≡◌, refl, sym, ap, ◌∙◌}
+use mathlib.Core.Path.{◌≡◌, refl, sym, ap, subst, ◌∙◌}
 use mathlib.Core.List.{List, [], ◌∷◌}
 use mathlib.Core.Bool.{Bool, true, false, cond}
 use native.Mathlib.Omega.{arith}
-use lib.ListN.{length, take, drop, drop_of_length-le}
+use lib.ListN.{length, get_or, take, drop, drop_of_length-le}
 use lib.Dec.{eqb, ltb}
 use borrow.Author.Tests.{ne_eqb, lt-ltb, le-ltb, eqb-true}
 use Rattle.limits.specs.Limits.{whole_namespace_rank, no_rank}
@@ -21,8 +21,8 @@ use Rattle.policy.specs.Policy.{entry_length, entries_of}
 use Rattle.policy.proofs.PolicyLaws.{WellFormed}
 use Rattle.policy.specs.Choice.{chosen_at, beats, better, choice_from, choice_of}
 use Rattle.policy.specs.Best.{as_choice}
-use Rattle.policy.specs.Walk.{At, Passed}
-use Rattle.policy.proofs.Walk.{Hand, begins, entry_length_lem, split, behind}
+use Rattle.policy.specs.Walk.{At, EntryEnds, Passed, start_of, PassedTo}
+use Rattle.policy.proofs.Walk.{Hand, begins, entry_length_lem, split, behind, at_index, hand_at, entry_at}
 
 pub as_choice-some : (b i at : ℕ) → (b ≡ no_rank → ⊥) → chosen_at i at b ≡ as_choice b i at
 unfolding as_choice
@@ -113,7 +113,7 @@ module _ (p : Bytes) (v : Variable) (i at end : ℕ) (w : At p i at) (g : Hand p
       ∙ ap (λ (t : ℕ). choice_from c (i + 1) t (drop (i + 1) (entries_of p)) v) (sym g.ends)
 
   -- it does not target the variable: a walk may leave it out
-  pub pass : (j to : ℕ) → Passed p v j to i at → targets (part at end p) v ≡ false → Passed p v j to (i + 1) end
+  pass : (j to : ℕ) → Passed p v j to i at → targets (part at end p) v ≡ false → Passed p v j to (i + 1) end
   pass j to f q = λ best. f best ∙ on best best (stays v best i at entry (rw g.own at q))
 
   -- the best so far, as three numbers, and what the entry adds
@@ -125,19 +125,48 @@ module _ (p : Bytes) (v : Variable) (i at end : ℕ) (w : At p i at) (g : Hand p
     lowered : r < b → choice_of (entries_of p) v ≡ choice_from (as_choice r i at) (i + 1) end (drop (i + 1) (entries_of p)) v
     lowered l = inv ∙ on (as_choice b bi ba) (as_choice r i at) (lower v entry entry_formed b bi ba i at most r spoken l)
 
-    -- and then the walk goes on to index j
-    module _ {b' bi' ba' : ℕ} (j to : ℕ) (f : Passed p v (i + 1) end j to) where
-      pub on_lower : r < b → b' ≡ r → bi' ≡ i → ba' ≡ at → choice_of (entries_of p) v ≡ choice_from (as_choice b' bi' ba') j to (drop j (entries_of p)) v
-      on_lower l eb ei ea = rw (eb, ei, ea) (lowered l ∙ f (as_choice r i at))
+    kept : b ≤ r → choice_of (entries_of p) v ≡ choice_from (as_choice b bi ba) (i + 1) end (drop (i + 1) (entries_of p)) v
+    kept l = inv ∙ on (as_choice b bi ba) (as_choice b bi ba) (not_lower v entry entry_formed b bi ba i at most r spoken l)
 
-      pub on_kept : b ≤ r → b' ≡ b → bi' ≡ bi → ba' ≡ ba → choice_of (entries_of p) v ≡ choice_from (as_choice b' bi' ba') j to (drop j (entries_of p)) v
-      on_kept l eb ei ea =
-          rw (eb, ei, ea) (inv ∙ on (as_choice b bi ba) (as_choice b bi ba) (not_lower v entry entry_formed b bi ba i at most r spoken l) ∙ f (as_choice b bi ba))
-
-    pub on_zero : r ≡ 0 → 0 < b → chosen_at i at r ≡ choice_of (entries_of p) v
+    on_zero : r ≡ 0 → 0 < b → chosen_at i at r ≡ choice_of (entries_of p) v
     on_zero y l =
         let f : as_choice r i at ≡ chosen_at i at 0 = sym (as_choice-some r i at (λ x. omega arith)) ∙ ap (chosen_at i at) y in
         ap (chosen_at i at) y
         ∙ sym (lowered (omega arith)
         ∙ ap (λ (d : Option Chosen). choice_from d (i + 1) end (drop (i + 1) (entries_of p)) v) f
         ∙ choice_zero i at (i + 1) end (drop (i + 1) (entries_of p)) v)
+
+-- the same of the entry at index i of those whose ends were noted
+module _ (ends : List ℕ) (p : Bytes) {count : ℕ} (i : ℕ) (c : count ≡ length (entries_of p)) (q : EntryEnds ends p) (h : i < count) (v : Variable) where
+  met : At p i (start_of p i)
+  met = at_index p i (omega (arith, c, h))
+
+  pub passed_by : {at : ℕ} (j : ℕ) → at ≡ start_of p i → PassedTo p v j i → targets (part at (get_or ends i 0) p) v ≡ false → PassedTo p v j (i + 1)
+  passed_by j e f t =
+      let g = hand_at ends p i c q h in
+      subst (λ (n : ℕ). Passed p v j (start_of p j) (i + 1) n) (sym g.next.sum) (pass p v i (start_of p i) (get_or ends i 0) met g j (start_of p j) f (rw e at t))
+
+  -- the best so far is the entry at index bi, and the search went on at index j
+  module _ (b bi j : ℕ) (most : b ≤ no_rank) (inv : choice_of (entries_of p) v ≡ choice_from (as_choice b bi (start_of p bi)) j (start_of p j) (drop j (entries_of p)) v)
+      (f : PassedTo p v j i) {r : ℕ} {e : Bytes} (a : e ≡ get_or (entries_of p) i []) (k : r ≡ cond (targets e v) (rank e) no_rank) where
+    its_rank : r ≡ cond (targets (part (start_of p i) (get_or ends i 0) p) v) (rank (part (start_of p i) (get_or ends i 0) p)) no_rank
+    its_rank = subst (λ (x : Bytes). r ≡ cond (targets x v) (rank x) no_rank) (a ∙ sym (entry_at ends p i c q h refl).is) k
+
+    come : choice_of (entries_of p) v ≡ choice_from (as_choice b bi (start_of p bi)) i (start_of p i) (drop i (entries_of p)) v
+    come = inv ∙ f (as_choice b bi (start_of p bi))
+
+    pub at_zero : {at : ℕ} → at ≡ start_of p i → r ≡ 0 → 0 < b → chosen_at i at r ≡ choice_of (entries_of p) v
+    at_zero e y l =
+        rw e (on_zero p v i (start_of p i) (get_or ends i 0) met (hand_at ends p i c q h) b bi (start_of p bi) most come r its_rank y l)
+
+    pub at_lower : {b' bi' : ℕ} → r < b → b' ≡ r → bi' ≡ i
+        → choice_of (entries_of p) v ≡ choice_from (as_choice b' bi' (start_of p bi')) (i + 1) (start_of p (i + 1)) (drop (i + 1) (entries_of p)) v
+    at_lower l eb ei =
+        let g = hand_at ends p i c q h in
+        rw (eb, ei, g.next.sum) (lowered p v i (start_of p i) (get_or ends i 0) met g b bi (start_of p bi) most come r its_rank l)
+
+    pub at_kept : {b' bi' : ℕ} → b ≤ r → b' ≡ b → bi' ≡ bi
+        → choice_of (entries_of p) v ≡ choice_from (as_choice b' bi' (start_of p bi')) (i + 1) (start_of p (i + 1)) (drop (i + 1) (entries_of p)) v
+    at_kept l eb ei =
+        let g = hand_at ends p i c q h in
+        rw (eb, ei, g.next.sum) (kept p v i (start_of p i) (get_or ends i 0) met g b bi (start_of p bi) most come r its_rank l)

@@ -15,7 +15,7 @@ use Rattle.slices.specs.Chunks.{flat, contains}
 use Rattle.slices.proofs.ChunksLaws.{flat_append, flat_one}
 use Rattle.entry.specs.Entry.{well_formed}
 use Rattle.policy.specs.Policy.{entry_length, entries_of, sizes_sum}
-use Rattle.policy.specs.Walk.{At, EntryEnds}
+use Rattle.policy.specs.Walk.{At, EntryEnds, start_of}
 use Rattle.policy.proofs.PolicyLaws.{Begins, entry_length-begins, entries_of-stop, entries_of-step, sizes_sum-flat}
 
 pub at_start : (p : Bytes) → At p 0 0
@@ -130,7 +130,7 @@ hand ends p i at q w h =
     }
 
 -- ---- the entry at an index, where its end and that of the one before it were noted
-at_index : (p : Bytes) (i : ℕ) → i ≤ length (entries_of p) → At p i (length (flat (take i (entries_of p))))
+pub at_index : (p : Bytes) (i : ℕ) → i ≤ length (entries_of p) → At p i (length (flat (take i (entries_of p))))
 unfolding flat
 at_index p zero h = at_start p
 at_index p (suc i) h =
@@ -139,6 +139,9 @@ at_index p (suc i) h =
     let n : i + 1 ≡ suc i = omega arith in
     subst (λ (m : ℕ). At p m (length (flat (take m (entries_of p))))) n (rw a.sum a)
 
+pub hand_at : (ends : List ℕ) (p : Bytes) {count : ℕ} (i : ℕ) → count ≡ length (entries_of p) → EntryEnds ends p → i < count → Hand p i (start_of p i) (get_or ends i 0)
+hand_at ends p i c q h = hand ends p i _ q (at_index p i (omega (arith, c, h))) (omega (arith, c, h))
+
 pub record EntryAt (p : Bytes) (i start end : ℕ) : Type 0 where
   pub inside : end ≤ length p
   pub behind : start ≤ end
@@ -146,20 +149,20 @@ pub record EntryAt (p : Bytes) (i start end : ℕ) : Type 0 where
   pub formed : well_formed (part start end p) ≡ true
 
 -- the entry at an index, of count, begins where the one before it ends
-module _ (ends : List ℕ) (p : Bytes) {count : ℕ} (i : ℕ) (c : count ≡ length (entries_of p)) (q : EntryEnds ends p) (h : i < count) where
+module _ (ends : List ℕ) (p : Bytes) {count : ℕ} (i : ℕ) (c : count ≡ length (entries_of p)) (q : EntryEnds ends p) where
   pub first_start : i ≡ 0 → 0 ≡ length (flat (take i (entries_of p)))
   unfolding flat
   first_start z = rw z
 
-  pub later_start : (i ≡ 0 → ⊥) → get_or ends (i - 1) 0 ≡ length (flat (take i (entries_of p)))
-  later_start z =
+  pub later_start : i ≤ count → (i ≡ 0 → ⊥) → get_or ends (i - 1) 0 ≡ length (flat (take i (entries_of p)))
+  later_start h z =
       let n : i - 1 + 1 ≡ i = omega arith in
       q.end (i - 1) (omega (arith, c, h)) ∙ ap (λ (m : ℕ). length (flat (take m (entries_of p)))) n
 
-  pub entry_at : {start : ℕ} → start ≡ length (flat (take i (entries_of p))) → EntryAt p i start (get_or ends i 0)
-  entry_at {start = start} e =
+  pub entry_at : {start : ℕ} → i < count → start ≡ length (flat (take i (entries_of p))) → EntryAt p i start (get_or ends i 0)
+  entry_at {start = start} h e =
       let w = at_index p i (omega (arith, c, h)) in
-      let g = hand ends p i _ q w (omega (arith, c, h)) in
+      let g = hand_at ends p i c q h in
       let n : i ≡ i + 0 = omega arith in
       let k : get_or (entries_of p) i [] ≡ take g.size (drop (length (flat (take i (entries_of p)))) p) =
       ap (λ (m : ℕ). get_or (entries_of p) m []) n ∙ sym (get_or-drop i (entries_of p) 0 []) ∙ ap (λ (l : List Bytes). get_or l 0 []) (split p i _ w g.size g.here (omega (arith, g.least))) in

@@ -20,6 +20,17 @@ pub record EntryEnds (ends : List ℕ) (p : Bytes) : Type 0 where
   pub few : length (entries_of p) ≤ max_entries
   pub end : (k : ℕ) → k < length (entries_of p) → get_or ends k 0 ≡ length (flat (take (k + 1) (entries_of p)))
 
+-- the first byte of the entry at index i
+abbrev pub start_of : Bytes → ℕ → ℕ
+start_of p i = length (flat (take i (entries_of p)))
+
 -- whatever is the best so far at index i, the choice is what it becomes from index j on
 abbrev pub Passed : Bytes → Variable → ℕ → ℕ → ℕ → ℕ → Type 0
 Passed p v i at j to = (best : Option Chosen) → choice_from best i at (drop i (entries_of p)) v ≡ choice_from best j to (drop j (entries_of p)) v
+
+-- so from one entry to another, or behind the last, where no more is chosen
+abbrev pub PassedTo : Bytes → Variable → ℕ → ℕ → Type 0
+PassedTo p v i j = Passed p v i (start_of p i) j (start_of p j)
+
+abbrev pub PassedAll : Bytes → Variable → ℕ → Type 0
+PassedAll p v i = (best : Option Chosen) → choice_from best i (start_of p i) (drop i (entries_of p)) v ≡ best

@@ -18,13 +18,13 @@ pub struct Entries<'a> {
 }
 
 impl<'a> Entries<'a> {
-    ghost use Rattle.std.specs.Prelude.{[], get_or, take, ◌<◌};
-    ghost use Rattle.slices.specs.Chunks.{flat};
+    ghost use Rattle.std.specs.Prelude.{[], get_or, ◌≤◌, ◌<◌};
+    ghost use Rattle.policy.specs.Walk.{start_of};
 
-    // The first byte of the entry at index.
-    fn start(self, index: usize) -> usize
-        requires { index < self.count }
-        ensures { result ≡ length (flat (take index (entries_of self.entry.bytes.now))) }
+    // The first byte of the entry at index, which is the end of the one before it.
+    pub fn start(self, index: usize) -> usize
+        requires { index ≤ self.count }
+        ensures { result ≡ start_of self.entry.bytes.now index }
     {
         if index == 0 {
             return 0;

@@ -1,26 +1,26 @@
 // The policy record, and the entry that is chosen for a variable.
 #![tactic(auto)]
 
-ghost use Rattle.std.specs.Prelude.{◌≡◌, [], ◌∷◌, ◌++◌, true, ◌||◌, cond, ◌+◌, ◌≤◌, ◌<◌, length, get_or, take};
-ghost use Rattle.limits.specs.Limits.{entry_header, no_rank, max_entries, policy_bytes};
-ghost use Rattle.slices.specs.Bytes.{part, overwrite};
+ghost use Rattle.std.specs.Prelude.{◌≡◌, [], ◌∷◌, ◌++◌, true, ◌+◌, ◌≤◌, ◌<◌, length, take, MatchOption};
+ghost use Rattle.limits.specs.Limits.{entry_header, max_entries, policy_bytes};
+ghost use Rattle.slices.specs.Bytes.{overwrite};
 ghost use Rattle.slices.specs.Chunks.{flat, contains};
-ghost use Rattle.names.specs.Name.{units, matches, variable};
-ghost use Rattle.names.specs.Tail.{whole_units, TailOf};
-ghost use Rattle.entry.specs.Entry.{well_formed, name_is_empty, name_of, targets, rank, same_target};
+ghost use Rattle.names.specs.Name.{variable};
+ghost use Rattle.entry.specs.Entry.{well_formed, same_target};
 ghost use Rattle.policy.specs.Policy.{entry_length, entries_of, sizes_sum, pack_policy, empty_policy, valid_within, policy_valid, check_within, policy_check};
 ghost use Rattle.policy.specs.Dump.{dump_valid, dump_check};
 ghost use Rattle.policy.specs.Stated.{stated_length, stated_of, repeats};
 ghost use Rattle.policy.specs.Filter.{slots, key_of, slot_of, fingerprint_of, Marks, marks_with};
 ghost use Rattle.policy.specs.Choice.{choice_of};
-ghost use Rattle.policy.specs.Walk.{At, EntryEnds, Passed};
+ghost use Rattle.policy.specs.Walk.{EntryEnds};
 ghost use Rattle.policy.specs.Best.{as_choice};
 
 mod entries;
+mod search;
 
 pub use entries::Entries;
 use entry::Packed;
-use names::Tail;
+use search::Search;
 
 // The slots of the filter; `specs/Filter.antt` has the same for the proofs.
 pub const SLOTS: usize = 2048;
@@ -41,13 +41,6 @@ pub struct Chosen {
     pub index: usize,
     pub at: usize,
     pub rank: usize,
-}
-
-// Where a walk over the entries stands: at which one, counted from 0, and at which byte.
-#[derive(Clone, Copy)]
-struct Position {
-    index: usize,
-    at: usize,
 }
 
 // The length of the well-formed entry that the bytes begin with, or 0.
@@ -88,21 +81,22 @@ fn is_among(policy: &[u8], count: usize, e: Packed<'_>) -> bool
     false
 }
 
-// How many bytes the entry has that the bytes begin with, as its Size says; 0 where they are not there.
-fn stated_length(p: &[u8]) -> usize
-    ensures { result ≡ stated_length p.now }
+// The entry that the bytes begin with, as long as its Size says; none where not so many bytes are there, or no header.
+fn stated_entry(p: &[u8]) -> Option<&[u8]>
+    ensures { MatchOption result (stated_length p.now ≡ 0)
+        (λ f. (f.now ≡ take (stated_length p.now) p.now) × (length f.now ≡ stated_length p.now) × (entry_header ≤ length f.now)) }
 {
     if p.len() < limits::ENTRY_HEADER {
-        return 0;
+        return None;
     }
     let n = slices::get16(p, limits::SIZE_AT);
     if n < limits::ENTRY_HEADER {
-        return 0;
+        return None;
     }
     if p.len() < n {
-        return 0;
+        return None;
     }
-    n
+    Some(&p[..n])
 }
 
 // Whether f is a well-formed entry with the namespace and the name of e: that first, since most are another's, and whether it is well formed last.
@@ -124,15 +118,12 @@ fn repeats(e: Packed<'_>, f: &[u8]) -> bool
 pub fn has_target(entries: &[u8], e: Packed<'_>) -> bool
     ensures { result ≡ contains (repeats e.entry.bytes.now) (stated_of entries.now) }
 {
-    let mut at = 0;
-    let mut next = stated_length(entries);
-    while 0 < next {
-        let end = at + next;
-        if repeats(e, &entries[at..end]) {
+    let mut rest = entries;
+    while let Some(f) = stated_entry(rest) {
+        if repeats(e, f) {
             return true;
         }
-        at = end;
-        next = stated_length(&entries[at..]);
+        rest = &rest[f.len()..];
     }
     false
 }
@@ -304,93 +295,6 @@ pub fn clear(policy: &mut [u8])
     slices::fill(policy, 0, n, 0);
 }
 
-// Whether the name of the entry from byte at up to end is empty or may match, as far as its length, its last four units and its
-// first ones tell. Where not, it is neither. Most entries are told apart by the word that the last four units are.
-fn may_name(policy: &[u8], at: usize, end: usize, name: &[u8], tail: Tail) -> bool
-    requires { (end ≤ length policy.now) × (well_formed (part at end policy.now) ≡ true) × TailOf (whole_units name.now) tail.mask tail.shown }
-    ensures { (name_is_empty (part at end policy.now) || matches (units (name_of (part at end policy.now))) (units name.now)) ≡ true
-        → result ≡ true }
-{
-    let start = at + slices::get16(policy, at + limits::OFFSET_TO_NAME_AT);
-    let n = 2 * (name.len() / 2);
-    if start + n + 2 == end {
-        if slices::get64(policy, end - 10) & tail.mask != tail.shown {
-            return false;
-        }
-        return names::may_match(&policy[start..start + n], &name[..n]);
-    }
-    start == end
-}
-
-// Whether that entry may target the variable. Where not, it does not. The names come first: they tell more entries apart than
-// namespaces do.
-fn may_target(
-    policy: &[u8],
-    at: usize,
-    end: usize,
-    namespace: &[u8; 16],
-    name: &[u8],
-    tail: Tail,
-) -> bool
-    requires { (end ≤ length policy.now) × (well_formed (part at end policy.now) ≡ true) × TailOf (whole_units name.now) tail.mask tail.shown }
-    ensures { targets (part at end policy.now) (variable namespace.now name.now) ≡ true → result ≡ true }
-{
-    if !may_name(policy, at, end, name, tail) {
-        return false;
-    }
-    names::same_namespace(
-        &policy[at + limits::NAMESPACE_AT..at + limits::MIN_SIZE_AT],
-        namespace,
-    )
-}
-
-// The first entry that may target the variable, from the one at index first on, which begins at byte from; behind the last where
-// there is none.
-fn candidate(
-    policy: &[u8],
-    count: usize,
-    ends: &[u16; ENTRIES],
-    first: usize,
-    from: usize,
-    namespace: &[u8; 16],
-    name: &[u8],
-    tail: Tail,
-) -> Position
-    requires { (count ≡ length (entries_of policy.now)) × EntryEnds ends.now policy.now × At policy.now first from
-        × TailOf (whole_units name.now) tail.mask tail.shown }
-    ensures at { (first ≤ result.index) × At policy.now result.index result.at }
-    ensures passed { Passed policy.now (variable namespace.now name.now) first from result.index result.at }
-{
-    let mut index = first;
-    let mut at = from;
-    while index < count {
-        let end = ends[index] as usize;
-        if may_target(policy, at, end, namespace, name, tail) {
-            return Position { index, at };
-        }
-        at = end;
-        index += 1;
-    }
-    Position { index, at }
-}
-
-// The rank of an entry that targets the variable, and NO_RANK where it does not.
-fn rank_for(e: Packed<'_>, namespace: &[u8; 16], name: &[u8]) -> usize
-    ensures { result ≡ cond (targets e.entry.bytes.now (variable namespace.now name.now)) (rank e.entry.bytes.now) no_rank }
-{
-    if !names::same_namespace(e.namespace(), namespace) {
-        return limits::NO_RANK;
-    }
-    let own = e.name();
-    if own.is_empty() {
-        return limits::WHOLE_NAMESPACE_RANK;
-    }
-    if names::matches(own, name) {
-        return names::wildcards(own);
-    }
-    limits::NO_RANK
-}
-
 // The choice of the entry at index whose first byte is at; none where the rank is NO_RANK.
 #[tactic(auto, unfolding(crate::specs::Best::as_choice))]
 fn choice_of(rank: usize, index: usize, at: usize) -> Option<Chosen>
@@ -399,39 +303,26 @@ fn choice_of(rank: usize, index: usize, at: usize) -> Option<Chosen>
     (rank != limits::NO_RANK).then_some(Chosen { index, at, rank })
 }
 
-// The chosen entry for the variable of that namespace and name. The entries were counted, and where they end was noted, when the record
-// was found valid.
+// The chosen entry for the variable of that namespace and name.
 // The best rank so far is NO_RANK while there is none; a rank of 0 is not beaten.
 pub fn choose(entries: Entries<'_>, namespace: &[u8; 16], name: &[u8]) -> Option<Chosen>
     ensures { result ≡ choice_of (entries_of entries.entry.bytes.now) (variable namespace.now name.now) }
 {
-    let Entries {
-        bytes: policy,
-        count,
-        ends,
-    } = entries;
+    let search = Search::new(namespace, name);
     let mut best = limits::NO_RANK;
     let mut best_index = 0;
-    let mut best_at = 0;
-    let tail = names::tail_of(&name[..2 * (name.len() / 2)]);
-    let mut next = candidate(policy, count, ends, 0, 0, namespace, name, tail);
-    while next.index < count {
-        let index = next.index;
-        let at = next.at;
-        let end = ends[index] as usize;
-        let e = Packed {
-            bytes: &policy[at..end],
-        };
-        let rank = rank_for(e, namespace, name);
+    let mut first = 0;
+    while let Some(index) = search.candidate(entries, first) {
+        let rank = search.rank_for(entries.get(index));
         if rank == 0 {
+            let at = entries.start(index);
             return Some(Chosen { index, at, rank });
         }
         if rank < best {
             best = rank;
             best_index = index;
-            best_at = at;
         }
-        next = candidate(policy, count, ends, index + 1, end, namespace, name, tail);
+        first = index + 1;
     }
-    choice_of(best, best_index, best_at)
+    choice_of(best, best_index, entries.start(best_index))
 }

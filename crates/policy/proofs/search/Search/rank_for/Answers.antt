@@ -1,7 +1,7 @@
 use Rattle.slices.specs.Test.{◌and◌}
 use Rattle.entry.specs.Entry.{targets, rank}
 use Rattle.entry.proofs.EntryLaws.{name_of-none}
-use Rattle.policy.proofs.rank_for.Goals as goal
+use Rattle.policy.proofs.search.Search.rank_for.Goals as goal
 
 pub returns-then-not-same_namespace : goal.returns-then-not-same_namespace
 unfolding targets ◌and◌
