@@ -29,8 +29,8 @@ fn namespace_at(e: &[u8], at: usize) -> [u8; 16]
 }
 
 // Whether the variable exists.
-fn variable_exists(notes: Notes<'_>, namespace: &[u8; 16], name: &[u8]) -> bool
-    ensures { result ≡ exists (lookup notes.entry.stores.nv.now notes.entry.stores.vol.now (variable namespace.now name.now)) }
+fn variable_exists(notes: &Notes<'_>, namespace: &[u8; 16], name: &[u8]) -> bool
+    ensures { result ≡ exists (lookup notes.now.stores.nv.now notes.now.stores.vol.now (variable namespace.now name.now)) }
 {
     stores::is_somewhere(notes.locate(namespace, name))
 }
@@ -38,15 +38,15 @@ fn variable_exists(notes: Notes<'_>, namespace: &[u8; 16], name: &[u8]) -> bool
 // Whether the variable is settled, where at most so many links are followed: an entry is chosen for it, and the lock of that entry holds.
 #[cycle(lock_holds_settled)]
 fn settled(
-    entries: Entries<'_>,
-    notes: Notes<'_>,
+    entries: &Entries<'_>,
+    notes: &Notes<'_>,
     namespace: &[u8; 16],
     name: &[u8],
     links: usize,
 ) -> bool
-    ensures { result ≡ settled_in links (chosen (entries_of entries.entry.bytes.now)) (lookup notes.entry.stores.nv.now notes.entry.stores.vol.now) (variable namespace.now name.now) }
+    ensures { result ≡ settled_in links (chosen (entries_of entries.now.bytes.now)) (lookup notes.now.stores.nv.now notes.now.stores.vol.now) (variable namespace.now name.now) }
 {
-    let Some(chosen) = policy::choose(entries, namespace, name) else {
+    let Some(chosen) = policy::choose(*entries, namespace, name) else {
         return false;
     };
     let at = chosen.at;
@@ -66,14 +66,14 @@ fn settled(
 #[cycle(lock_holds_settled)]
 fn lock_holds(
     e: &[u8],
-    entries: Entries<'_>,
-    notes: Notes<'_>,
+    entries: &Entries<'_>,
+    notes: &Notes<'_>,
     namespace: &[u8; 16],
     name: &[u8],
     links: usize,
 ) -> bool
     requires { well_formed e.now ≡ true }
-    ensures { result ≡ lock_holds_in links (chosen (entries_of entries.entry.bytes.now)) (lookup notes.entry.stores.nv.now notes.entry.stores.vol.now) e.now (variable namespace.now name.now) }
+    ensures { result ≡ lock_holds_in links (chosen (entries_of entries.now.bytes.now)) (lookup notes.now.stores.nv.now notes.now.stores.vol.now) e.now (variable namespace.now name.now) }
 {
     let entry = Packed { bytes: e };
     match entry.lock() {
@@ -84,7 +84,7 @@ fn lock_holds(
             if links == 0 {
                 return false;
             }
-            if !set::trigger_holds(e, trigger, &notes) {
+            if !set::trigger_holds(e, trigger, notes) {
                 return false;
             }
             let its_namespace = namespace_at(e, trigger.namespace);
@@ -106,5 +106,5 @@ pub fn is_settled(
     let mut in_nv = noted::none();
     let mut in_vol = noted::none();
     let notes = Notes::new(stores, &mut in_nv, &mut in_vol);
-    settled(entries, notes, namespace, name, limits::MAX_LINKS)
+    settled(&entries, &notes, namespace, name, limits::MAX_LINKS)
 }
