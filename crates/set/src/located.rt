@@ -67,10 +67,10 @@ impl<'a> Located<'a> {
     fn decide_delete(self, exited: bool) -> Result<Change, Refusal>
         ensures { result ≡ delete_decision exited (stored self.entry) }
     {
-        if !crate::is_shown(exited, self.stores, self.place) {
+        if !crate::is_shown(exited, self.stores.nv, self.stores.vol, self.place) {
             return Err(Refusal::ByStatus(Status::NotFound));
         }
-        if crate::exit_protects(exited, self.stores, self.place) {
+        if crate::exit_protects(exited, self.stores.nv, self.stores.vol, self.place) {
             return Err(Refusal::ByStatus(Status::WriteProtected));
         }
         Ok(Change::Delete)
