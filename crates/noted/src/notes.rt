@@ -42,9 +42,9 @@ impl<'a> Notes<'a> {
     }
 
     // Where the variable's record stands, in whichever store: where the notes lead, or by a search.
-    pub fn locate(self, namespace: &[u8], name: &[u8]) -> Place
-        ensures is { record_at self.entry.stores.nv.now self.entry.stores.vol.now result ≡ lookup self.entry.stores.nv.now self.entry.stores.vol.now (variable namespace.now name.now) }
-        ensures within { Within self.entry.stores.nv.now self.entry.stores.vol.now result }
+    pub fn locate(&self, namespace: &[u8], name: &[u8]) -> Place
+        ensures is { record_at self.now.stores.nv.now self.now.stores.vol.now result ≡ lookup self.now.stores.nv.now self.now.stores.vol.now (variable namespace.now name.now) }
+        ensures within { Within self.now.stores.nv.now self.now.stores.vol.now result }
     {
         let k = crate::key(name);
         let first = crate::find(self.stores.nv, true, self.in_nv, k, namespace, name);

@@ -18,7 +18,7 @@ use Rattle.store.specs.declared.Found.{Found}
 use Rattle.std.specs.Prelude as std
 use Rattle.stores.specs.Pair.{lookup}
 use Rattle.stores.specs.declared.Place.{Place}
-use Rattle.stores.specs.Place.{Within, place_in, is_somewhere, record_at, payload_at}
+use Rattle.stores.specs.Place.{Within, place_in, is_somewhere, record_at}
 use Rattle.stores.proofs.PlaceLaws.{lookup_place, place_within_stores}
 use Rattle.rules.specs.Set.{Lookup, exists, holds_value, rule_locks, locks}
 use Rattle.set.specs.declared.located.Located.{Located}
@@ -45,16 +45,11 @@ unfolding holds_value pairwise
 holds_found none value = refl
 holds_found (some r) value = refl
 
-holds_place : (nv vol : Bytes) (v : Variable) (p : Place) (value : ℕ) → p ≡ place_in nv vol v
-    → same (payload_at nv vol p) (value ∷ []) ≡ holds_value (lookup nv vol v) value
-holds_place nv vol v p value e =
-    ap (λ o. same (payload_in o) (value ∷ [])) (ap (record_at nv vol) e ∙ sym (lookup_place nv vol v)) ∙ holds_found (lookup nv vol v) value
-
--- as the code reads the trigger: its namespace g and name n, its place p, its payload d
-pub trigger_by : {x : Bool} {p : Place} {d g n g' n' : Bytes} (nv vol : Bytes) (value : ℕ) → x ≡ same d (value ∷ []) → d ≡ payload_at nv vol p
-    → p ≡ place_in nv vol (variable g n) → g ≡ g' → n ≡ n' → x ≡ holds_value (lookup nv vol (variable g' n')) value
-trigger_by {p = p} nv vol value e₁ e₂ e₃ e₄ e₅ =
-    e₁ ∙ ap (λ l. same l (value ∷ [])) e₂ ∙ holds_place nv vol _ p value (e₃ ∙ ap₂ (λ a b. place_in nv vol (variable a b)) e₄ e₅)
+-- as the code reads the trigger: its namespace g and name n, and the payload d that it looks up
+pub trigger_by : {x : Bool} {d g n g' n' : Bytes} (found : Lookup) (value : ℕ) → x ≡ same d (value ∷ []) → d ≡ payload_in (found (variable g n)) → g ≡ g' → n ≡ n'
+    → x ≡ holds_value (found (variable g' n')) value
+trigger_by found value e₁ e₂ e₃ e₄ =
+    e₁ ∙ ap (λ l. same l (value ∷ [])) e₂ ∙ holds_found (found (variable _ _)) value ∙ ap₂ (λ a b. holds_value (found (variable a b)) value) e₃ e₄
 
 -- ---- what a rule tells
 

@@ -31,7 +31,7 @@ use policy::Entries;
 use rules::{Change, Ground, Refusal, Report};
 use status::Status;
 use store::Found;
-use stores::{Ends, Place, Stores};
+use stores::{Ends, Lookup, Place, Stores};
 use switches::Switches;
 
 mod located;
@@ -106,17 +106,16 @@ pub fn is_value(payload: &[u8], value: u8) -> bool
 }
 
 // Whether the trigger of an entry locks (RULES.md, 5): it is stored, and its payload is the one byte Value.
-fn trigger_holds(e: &[u8], trigger: Trigger, stores: Stores) -> bool
+pub fn trigger_holds<L: Lookup>(e: &[u8], trigger: Trigger, stores: &L) -> bool
     requires { trigger.namespace ≡ trigger_namespace_at }
-    ensures { result ≡ holds_value (lookup stores.entry.nv.now stores.entry.vol.now (variable
+    ensures { result ≡ holds_value (L.found stores.now (variable
         (part trigger.namespace (trigger.namespace + 16) e.now)
         (part trigger.name trigger.name_end e.now))) trigger.value }
 {
     let from = trigger.namespace;
     let namespace = slices::part(e, from, from + limits::NAMESPACE_BYTES);
     let name = slices::part(e, trigger.name, trigger.name_end);
-    let place = stores.locate(namespace, name);
-    is_value(stores.payload_at(place), trigger.value)
+    is_value(stores.payload_of(namespace, name), trigger.value)
 }
 
 // Whether the chosen entry locks the request's variable.
@@ -128,7 +127,7 @@ fn locks(e: &[u8], rule: LockRule, located: Located) -> bool
         LockRule::NoLock => false,
         LockRule::LockNow => true,
         LockRule::LockOnCreate => stores::is_somewhere(located.place),
-        LockRule::LockOnVarState(trigger) => trigger_holds(e, trigger, located.stores),
+        LockRule::LockOnVarState(trigger) => trigger_holds(e, trigger, &located.stores),
     }
 }
 

@@ -1,7 +1,6 @@
 -- What each return of the two functions says, by what the code found. Assumes nothing.
 use Prim.Native.Nat.{ℕ, zero, suc, ◌+◌, ◌-◌, ◌≤◌}
 use mathlib.Core.Path.{◌≡◌, refl, sym, ap, ap₂, ◌∙◌}
-use mathlib.Core.List.{[], ◌∷◌}
 use mathlib.Core.Bool.{Bool, true, false, cond}
 use mathlib.Core.Option.{none, some}
 use native.Mathlib.Omega.{arith}
@@ -11,21 +10,17 @@ use borrow.Author.Tests.{eqb-false, lt-leb}
 use Rattle.limits.specs.Limits.{namespace_bytes}
 use Rattle.slices.specs.Test.{◌and◌}
 use Rattle.slices.proofs.TestLaws.{and_no, and_yes}
-use Rattle.slices.specs.Bytes.{Bytes, part, same}
+use Rattle.slices.specs.Bytes.{Bytes, part}
 use Rattle.names.specs.Name.{Variable, variable}
 use Rattle.entry.specs.Entry.{lock_of, lock_policy_type, trigger_of, well_formed}
 use Rattle.entry.proofs.EntryLaws.{sized, trigger_least}
 use Rattle.entry.specs.declared.Trigger.{Trigger}
 use Rattle.entry.specs.declared.LockRule.{LockRule}
 use Rattle.entry.specs.declared.LockRule.TheVariants.{NoLock, LockNow, LockOnCreate, LockOnVarState}
-use Rattle.store.specs.Parts.{payload_in}
-use Rattle.stores.specs.Pair.{lookup}
-use Rattle.stores.specs.declared.Place.{Place}
-use Rattle.stores.specs.Place.{record_at, payload_at}
 use Rattle.rules.specs.Set.{Lookup, exists, holds_value, rule_locks}
 use Rattle.rules.specs.Settled.{Choice, rests_on, lock_holds_by, lock_holds_in, settled_in, settled_asks}
 use Rattle.rules.proofs.SettledLaws.{settled_below, lock_is}
-use Rattle.set.proofs.LockRules.{holds_found, trigger_in, rule_trigger, rule_locks_lem, trigger_locks}
+use Rattle.set.proofs.LockRules.{trigger_in, rule_trigger, rule_locks_lem, trigger_locks}
 
 -- ---- the chosen entry
 
@@ -67,13 +62,6 @@ namespace_within e t w q =
     let k = ap (λ x. x.namespace) (rule_trigger e t q) in
     let l = trigger_least e w (type_over e t q) in
     omega (arith, k, l, (sized e w).offset_most)
-
--- what the code finds where the notes lead: of the trigger as it is read, its namespace g and name n, the place p of its record, and its payload d
-pub trigger_noted : {x : Bool} {d g n g' n' : Bytes} (nv vol : Bytes) (p : Place) (value : ℕ) → x ≡ same d (value ∷ []) → d ≡ payload_at nv vol p
-    → record_at nv vol p ≡ lookup nv vol (variable g n) → g ≡ g' → n ≡ n' → x ≡ holds_value (lookup nv vol (variable g' n')) value
-trigger_noted nv vol p value e₁ e₂ e₃ e₄ e₅ =
-    e₁ ∙ ap (λ l. same l (value ∷ [])) (e₂ ∙ ap payload_in e₃) ∙ holds_found (lookup nv vol (variable _ _)) value
-    ∙ ap₂ (λ a b. holds_value (lookup nv vol (variable a b)) value) e₄ e₅
 
 -- ---- the lock, by the rule that the entry was found to have
 

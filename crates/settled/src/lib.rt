@@ -13,7 +13,7 @@ ghost use Rattle.stores.specs.Pair.{lookup};
 ghost use Rattle.rules.specs.Set.{exists, holds_value};
 ghost use Rattle.rules.specs.Settled.{lock_holds_in, settled_in};
 
-use entry::{LockRule, Trigger};
+use entry::LockRule;
 use noted::Notes;
 use policy::Entries;
 use stores::Stores;
@@ -29,38 +29,24 @@ fn namespace_at(e: &[u8], at: usize) -> [u8; 16]
 }
 
 // Whether the variable exists.
-fn variable_exists(notes: Notes<'_>, namespace: &[u8; 16], name: &[u8]) -> bool
-    ensures { result ≡ exists (lookup notes.entry.stores.nv.now notes.entry.stores.vol.now (variable namespace.now name.now)) }
+fn variable_exists(notes: &Notes<'_>, namespace: &[u8; 16], name: &[u8]) -> bool
+    ensures { result ≡ exists (lookup notes.now.stores.nv.now notes.now.stores.vol.now (variable namespace.now name.now)) }
 {
     stores::is_somewhere(notes.locate(namespace, name))
-}
-
-// Whether the trigger of an entry holds the Value (RULES.md, 5).
-fn trigger_holds(e: &[u8], trigger: Trigger, notes: Notes<'_>) -> bool
-    requires { trigger.namespace ≡ trigger_namespace_at }
-    ensures { result ≡ holds_value (lookup notes.entry.stores.nv.now notes.entry.stores.vol.now (variable
-        (part trigger.namespace (trigger.namespace + 16) e.now)
-        (part trigger.name trigger.name_end e.now))) trigger.value }
-{
-    let from = trigger.namespace;
-    let namespace = slices::part(e, from, from + limits::NAMESPACE_BYTES);
-    let name = slices::part(e, trigger.name, trigger.name_end);
-    let place = notes.locate(namespace, name);
-    set::is_value(notes.stores.payload_at(place), trigger.value)
 }
 
 // Whether the variable is settled, where at most so many links are followed: an entry is chosen for it, and the lock of that entry holds.
 #[cycle(lock_holds_settled)]
 fn settled(
-    entries: Entries<'_>,
-    notes: Notes<'_>,
+    entries: &Entries<'_>,
+    notes: &Notes<'_>,
     namespace: &[u8; 16],
     name: &[u8],
     links: usize,
 ) -> bool
-    ensures { result ≡ settled_in links (chosen (entries_of entries.entry.bytes.now)) (lookup notes.entry.stores.nv.now notes.entry.stores.vol.now) (variable namespace.now name.now) }
+    ensures { result ≡ settled_in links (chosen (entries_of entries.now.bytes.now)) (lookup notes.now.stores.nv.now notes.now.stores.vol.now) (variable namespace.now name.now) }
 {
-    let Some(chosen) = policy::choose(entries, namespace, name) else {
+    let Some(chosen) = policy::choose(*entries, namespace, name) else {
         return false;
     };
     let at = chosen.at;
@@ -80,14 +66,14 @@ fn settled(
 #[cycle(lock_holds_settled)]
 fn lock_holds(
     e: &[u8],
-    entries: Entries<'_>,
-    notes: Notes<'_>,
+    entries: &Entries<'_>,
+    notes: &Notes<'_>,
     namespace: &[u8; 16],
     name: &[u8],
     links: usize,
 ) -> bool
     requires { well_formed e.now ≡ true }
-    ensures { result ≡ lock_holds_in links (chosen (entries_of entries.entry.bytes.now)) (lookup notes.entry.stores.nv.now notes.entry.stores.vol.now) e.now (variable namespace.now name.now) }
+    ensures { result ≡ lock_holds_in links (chosen (entries_of entries.now.bytes.now)) (lookup notes.now.stores.nv.now notes.now.stores.vol.now) e.now (variable namespace.now name.now) }
 {
     match entry::lock_of(e) {
         LockRule::NoLock => false,
@@ -97,7 +83,7 @@ fn lock_holds(
             if links == 0 {
                 return false;
             }
-            if !trigger_holds(e, trigger, notes) {
+            if !set::trigger_holds(e, trigger, notes) {
                 return false;
             }
             let its_namespace = namespace_at(e, trigger.namespace);
@@ -119,5 +105,5 @@ pub fn is_settled(
     let mut in_nv = noted::none();
     let mut in_vol = noted::none();
     let notes = Notes::new(stores, &mut in_nv, &mut in_vol);
-    settled(entries, notes, namespace, name, limits::MAX_LINKS)
+    settled(&entries, &notes, namespace, name, limits::MAX_LINKS)
 }

@@ -21,37 +21,37 @@ below_one n e = omega arith
 
 pub lock_holds-returns-then-links-eq0 : goal.lock_holds-returns-then-links-eq0
 lock_holds-returns-then-links-eq0 t c =
-    lock_end c.args.links (chosen (entries_of c.args.entries.bytes.now)) (lookup c.args.notes.stores.nv.now c.args.notes.stores.vol.now) c.args.e.now (variable c.args.namespace.now c.args.name.now) c.lock_of.ensures _ c.in-LockOnVarState.is c.if-links-eq0.true
+    lock_end c.args.links (chosen (entries_of c.args.entries.now.bytes.now)) (lookup c.args.notes.now.stores.nv.now c.args.notes.now.stores.vol.now) c.args.e.now (variable c.args.namespace.now c.args.name.now) c.lock_of.ensures _ c.in-LockOnVarState.is c.if-links-eq0.true
 
 pub lock_holds-trigger_holds-requires : goal.lock_holds-trigger_holds-requires
 lock_holds-trigger_holds-requires t c = trigger_place _ _ (sym c.in-LockOnVarState.is ∙ c.lock_of.ensures)
 
 pub lock_holds-returns-then-not-trigger_holds : goal.lock_holds-returns-then-not-trigger_holds
 lock_holds-returns-then-not-trigger_holds t c =
-    lock_differs c.args.links (chosen (entries_of c.args.entries.bytes.now)) (lookup c.args.notes.stores.nv.now c.args.notes.stores.vol.now) c.args.e.now (variable c.args.namespace.now c.args.name.now) c.lock_of.ensures _ c.in-LockOnVarState.is c.trigger_holds.ensures c.if-not-trigger_holds.true
+    lock_differs c.args.links (chosen (entries_of c.args.entries.now.bytes.now)) (lookup c.args.notes.now.stores.nv.now c.args.notes.now.stores.vol.now) c.args.e.now (variable c.args.namespace.now c.args.name.now) c.lock_of.ensures _ c.in-LockOnVarState.is c.trigger_holds.ensures c.if-not-trigger_holds.true
 
 pub lock_holds-namespace_at-its_namespace-requires : goal.lock_holds-namespace_at-its_namespace-requires
 lock_holds-namespace_at-its_namespace-requires t c = namespace_within _ _ c.requires (sym c.in-LockOnVarState.is ∙ c.lock_of.ensures)
 
 pub lock_holds-returns-in-NoLock : goal.lock_holds-returns-in-NoLock
 lock_holds-returns-in-NoLock t c =
-    lock_none c.args.links (chosen (entries_of c.args.entries.bytes.now)) (lookup c.args.notes.stores.nv.now c.args.notes.stores.vol.now) c.args.e.now (variable c.args.namespace.now c.args.name.now) c.lock_of.ensures c.in-NoLock.is
+    lock_none c.args.links (chosen (entries_of c.args.entries.now.bytes.now)) (lookup c.args.notes.now.stores.nv.now c.args.notes.now.stores.vol.now) c.args.e.now (variable c.args.namespace.now c.args.name.now) c.lock_of.ensures c.in-NoLock.is
 
 pub lock_holds-returns-in-LockNow : goal.lock_holds-returns-in-LockNow
 lock_holds-returns-in-LockNow t c =
-    lock_now c.args.links (chosen (entries_of c.args.entries.bytes.now)) (lookup c.args.notes.stores.nv.now c.args.notes.stores.vol.now) c.args.e.now (variable c.args.namespace.now c.args.name.now) c.lock_of.ensures c.in-LockNow.is
+    lock_now c.args.links (chosen (entries_of c.args.entries.now.bytes.now)) (lookup c.args.notes.now.stores.nv.now c.args.notes.now.stores.vol.now) c.args.e.now (variable c.args.namespace.now c.args.name.now) c.lock_of.ensures c.in-LockNow.is
 
 pub lock_holds-returns-in-LockOnCreate : goal.lock_holds-returns-in-LockOnCreate
 lock_holds-returns-in-LockOnCreate t c =
-    lock_created c.args.links (chosen (entries_of c.args.entries.bytes.now)) (lookup c.args.notes.stores.nv.now c.args.notes.stores.vol.now) c.args.e.now (variable c.args.namespace.now c.args.name.now) c.lock_of.ensures c.in-LockOnCreate.is c.variable_exists.ensures
+    lock_created c.args.links (chosen (entries_of c.args.entries.now.bytes.now)) (lookup c.args.notes.now.stores.nv.now c.args.notes.now.stores.vol.now) c.args.e.now (variable c.args.namespace.now c.args.name.now) c.lock_of.ensures c.in-LockOnCreate.is c.variable_exists.ensures
 
 pub lock_holds-returns-else-not-trigger_holds : goal.lock_holds-returns-else-not-trigger_holds
 lock_holds-returns-else-not-trigger_holds t c =
-    lock_link c.args.links (chosen (entries_of c.args.entries.bytes.now)) (lookup c.args.notes.stores.nv.now c.args.notes.stores.vol.now) c.args.e.now (variable c.args.namespace.now c.args.name.now) c.lock_of.ensures _ c.in-LockOnVarState.is c.trigger_holds.ensures c.if-not-trigger_holds.false c.if-links-eq0.false c.namespace_at-its_namespace.ensures c.part-its_name.ensures c.settled.ensures
+    lock_link c.args.links (chosen (entries_of c.args.entries.now.bytes.now)) (lookup c.args.notes.now.stores.nv.now c.args.notes.now.stores.vol.now) c.args.e.now (variable c.args.namespace.now c.args.name.now) c.lock_of.ensures _ c.in-LockOnVarState.is c.trigger_holds.ensures c.if-not-trigger_holds.false c.if-links-eq0.false c.namespace_at-its_namespace.ensures c.part-its_name.ensures c.settled.ensures
 
 pub settled-returns-in_default : goal.settled-returns-in_default
 settled-returns-in_default t c =
-    settled_none c.args.links (chosen (entries_of c.args.entries.bytes.now)) (lookup c.args.notes.stores.nv.now c.args.notes.stores.vol.now) (variable c.args.namespace.now c.args.name.now) (choice_none _ _ (sym c.choose.ensures ∙ c.in_default.is))
+    settled_none c.args.links (chosen (entries_of c.args.entries.now.bytes.now)) (lookup c.args.notes.now.stores.nv.now c.args.notes.now.stores.vol.now) (variable c.args.namespace.now c.args.name.now) (choice_none _ _ (sym c.choose.ensures ∙ c.in_default.is))
 
 pub settled-overflow_add-at : goal.settled-overflow_add-at
 settled-overflow_add-at t c =
@@ -81,4 +81,4 @@ settled-lock_holds-requires t c =
 pub settled-returns : goal.settled-returns
 settled-returns t c =
     let chosen_is = sym c.choose.ensures ∙ c.in-Some.is in
-    settled_some c.args.links (chosen (entries_of c.args.entries.bytes.now)) (lookup c.args.notes.stores.nv.now c.args.notes.stores.vol.now) (variable c.args.namespace.now c.args.name.now) _ (entry_chosen _ _ _ chosen_is _ c.get16.ensures.is) c.lock_holds.ensures
+    settled_some c.args.links (chosen (entries_of c.args.entries.now.bytes.now)) (lookup c.args.notes.now.stores.nv.now c.args.notes.now.stores.vol.now) (variable c.args.namespace.now c.args.name.now) _ (entry_chosen _ _ _ chosen_is _ c.get16.ensures.is) c.lock_holds.ensures
