@@ -283,7 +283,7 @@ pub fn read(nv: &[u8], vol: &[u8], switches: Switches, namespace: [u8; 16], name
         return refused_reading(Status::InvalidParameter);
     }
     let place = stores.locate(&namespace, name);
-    if !set::is_shown(switches.exited, stores, place) {
+    if !set::is_shown(switches.exited, stores.nv, stores.vol, place) {
         return refused_reading(Status::NotFound);
     }
     reading_at(stores, place)

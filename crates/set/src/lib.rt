@@ -230,9 +230,10 @@ fn report(entries: Entries, enabled: bool, located: Located) -> Report
 // ---- Steps 5 to 9.
 
 // Whether a read tells the record at a place and a deletion takes it: after exit, not without RT.
-pub fn is_shown(exited: bool, stores: Stores, place: Place) -> bool
-    requires { Within stores.nv.now stores.vol.now place }
-    ensures { result ≡ exists (shown exited (record_at stores.entry.nv.now stores.entry.vol.now place)) }
+// It takes the two stores and no `Stores`, here and in `exit_protects`: that type would ask more of its callers, sound stores, and docs/ARCHITECTURE.md names it.
+pub fn is_shown(exited: bool, nv: &[u8], vol: &[u8], place: Place) -> bool
+    requires { Within nv.now vol.now place }
+    ensures { result ≡ exists (shown exited (record_at nv.now vol.now place)) }
 {
     if !stores::is_somewhere(place) {
         return false;
@@ -240,13 +241,13 @@ pub fn is_shown(exited: bool, stores: Stores, place: Place) -> bool
     if !exited {
         return true;
     }
-    store::has_rt(stores.attributes_at(place))
+    store::has_rt(stores::attributes_at(nv, vol, place))
 }
 
 // Whether no deletion takes the record at a place: after exit, a record of the volatile store.
-fn exit_protects(exited: bool, stores: Stores, place: Place) -> bool
-    requires { Within stores.nv.now stores.vol.now place }
-    ensures { result ≡ exit_protects exited (record_at stores.entry.nv.now stores.entry.vol.now place) }
+fn exit_protects(exited: bool, nv: &[u8], vol: &[u8], place: Place) -> bool
+    requires { Within nv.now vol.now place }
+    ensures { result ≡ exit_protects exited (record_at nv.now vol.now place) }
 {
     if !exited {
         return false;
@@ -254,7 +255,7 @@ fn exit_protects(exited: bool, stores: Stores, place: Place) -> bool
     if !stores::is_somewhere(place) {
         return false;
     }
-    !store::has_nv(stores.attributes_at(place))
+    !store::has_nv(stores::attributes_at(nv, vol, place))
 }
 
 // All steps, over sound stores and a valid policy record.

@@ -1,4 +1,5 @@
 // A request over two sound stores, and steps 5 to 9: what is decided of it by what is stored of its variable.
+// `exited`, and `enabled` of the report, are handed on alone: each step asks one switch, and `Switches` would be no plainer (`is_shown(switches, ..)` reads one of four).
 ghost use Rattle.std.specs.Prelude.{◌≡◌};
 ghost use Rattle.names.specs.Name.{variable};
 ghost use Rattle.stores.specs.Place.{place_in};
@@ -67,10 +68,10 @@ impl<'a> Located<'a> {
     fn decide_delete(self, exited: bool) -> Result<Change, Refusal>
         ensures { result ≡ delete_decision exited (stored self.entry) }
     {
-        if !crate::is_shown(exited, self.stores, self.place) {
+        if !crate::is_shown(exited, self.stores.nv, self.stores.vol, self.place) {
             return Err(Refusal::ByStatus(Status::NotFound));
         }
-        if crate::exit_protects(exited, self.stores, self.place) {
+        if crate::exit_protects(exited, self.stores.nv, self.stores.vol, self.place) {
             return Err(Refusal::ByStatus(Status::WriteProtected));
         }
         Ok(Change::Delete)

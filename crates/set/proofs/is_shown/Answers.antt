@@ -6,14 +6,14 @@ use Rattle.set.proofs.is_shown.Goals as goal
 pub returns-then-not-is_somewhere : goal.returns-then-not-is_somewhere
 returns-then-not-is_somewhere c =
     let a = c.args in
-    shown_absent _ a.stores.nv.now a.stores.vol.now a.place c.is_somewhere.ensures (ap not c.if-not-is_somewhere.true)
+    shown_absent _ a.nv.now a.vol.now a.place c.is_somewhere.ensures (ap not c.if-not-is_somewhere.true)
 
 pub returns-then-not-exited : goal.returns-then-not-exited
 returns-then-not-exited c =
     let a = c.args in
-    shown_before _ a.stores.nv.now a.stores.vol.now a.place c.is_somewhere.ensures (ap not c.if-not-is_somewhere.false) (ap not c.if-not-exited.true)
+    shown_before _ a.nv.now a.vol.now a.place c.is_somewhere.ensures (ap not c.if-not-is_somewhere.false) (ap not c.if-not-exited.true)
 
 pub returns : goal.returns
 returns c =
     let a = c.args in
-    shown_after _ a.stores.nv.now a.stores.vol.now a.place c.is_somewhere.ensures (ap not c.if-not-is_somewhere.false) (ap not c.if-not-exited.false) c.attributes_at.ensures c.has_rt.ensures
+    shown_after _ a.nv.now a.vol.now a.place c.is_somewhere.ensures (ap not c.if-not-is_somewhere.false) (ap not c.if-not-exited.false) c.attributes_at.ensures c.has_rt.ensures
