@@ -74,7 +74,7 @@ module _ (b : Bool) (s : Bytes) where
 
   -- ---- a walk
 
-  -- where each record of a list stands, one begins
+  -- at a record that stands in the store
   module _ (at m : ℕ) (h : Here b at m s) where
     steps : records_of b (drop at s) ≡ take m (drop at s) ∷ records_of b (drop (at + m) s)
     steps = chunks_step (record_length b) (record_length-within b) m (drop at s) h.is h.some ∙ rw drop-drop
@@ -87,6 +87,7 @@ module _ (b : Bool) (s : Bytes) where
       stands_next : (x : Bytes) → Among x (records_of b (drop (at + m) s)) → Among x (records_of b s)
       stands_next x k = sub x (subst⁻¹ (Among x) steps (inr k))
 
+  -- where each record of a list stands, a record of the store begins
   abbrev Each : ℕ → List Bytes → Type 0
   Each at rs = All (λ (x : ℕ × Bytes). Begins b s x.0) (placed at rs)
 

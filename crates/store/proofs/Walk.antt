@@ -1,27 +1,25 @@
--- A walk over what is known to be records, and the search along it. Assumes nothing.
+-- A walk over what is known to be records. Assumes nothing.
 use Prim.Native.Nat.{ℕ, zero, suc, ◌+◌, ◌-◌, ◌≤◌, ◌<◌}
 use mathlib.Core.Path.{◌≡◌, refl, sym, ap, ◌∙◌}
 use mathlib.Core.List.{[], ◌∷◌, ◌++◌}
-use mathlib.Core.Bool.{Bool, true, false, cond}
+use mathlib.Core.Bool.{Bool, true, false}
 use native.Mathlib.Omega.{arith}
 use native.Mathlib.Nat.{le_refl}
 use lib.ListN.{length, take, drop, length-take, length-drop}
-use lib.Seq.{length-take-le, take-take, drop-drop}
+use lib.Seq.{take-take}
 use Rattle.limits.specs.Limits.{max_payload}
 use Rattle.slices.proofs.TestLaws.{and_left, forced_off}
 use Rattle.slices.specs.Bytes.{Bytes, le16, le32, part}
 use Rattle.slices.proofs.NumberLaws.{le32_take, le32_drop}
 use Rattle.slices.proofs.PartLaws.{part_rest, length_part}
-use Rattle.slices.proofs.ChunksLaws.{chunks_stop, chunks_step, used_stop, used_step, used_again, at_within}
+use Rattle.slices.proofs.ChunksLaws.{used_stop, used_step, used_again, at_within}
 use Rattle.names.specs.Name.{Variable, is_terminated}
 use Rattle.names.proofs.NameLaws.{is_name-length, is_terminated-name, is_terminated-zeros}
 use Rattle.store.specs.Record.{name_size, data_size, record_size, body_ok, record_length, name_of, is_of}
 use Rattle.store.proofs.RecordLaws.{record_length-within, begins, begins_fits, header_sizes}
 use Rattle.store.proofs.VariableLaws.{is_of-name}
 use Rattle.store.specs.Parts.{HeaderFits}
-use Rattle.store.specs.Store.{records_of, end_of, place_from}
-use Rattle.store.specs.declared.Found.{Found}
-use Rattle.std.specs.Prelude.{Option, Some, None}
+use Rattle.store.specs.Store.{end_of}
 
 -- the record of m bytes at an index before the end
 pub record Here (non_volatile : Bool) (at m : ℕ) (s : Bytes) : Type 0 where
@@ -69,25 +67,6 @@ module _ (non_volatile : Bool) where
       go zero e = e
       go (suc m) e = absurd (let z = used_step (record_length non_volatile) (record_length-within non_volatile) (suc m) (drop at s) e (omega arith) in omega arith)
 
-  -- ---- the search
-  pub place_stop : (p : Bytes → Bool) (at : ℕ) (l : Bytes) → record_length non_volatile l ≡ 0 → place_from p at (records_of non_volatile l) ≡ None
-  unfolding place_from
-  place_stop p at l e = rw (chunks_stop (record_length non_volatile) l e)
-
-  place_step : (n : ℕ) (p : Bytes → Bool) (at : ℕ) (l : Bytes) → record_length non_volatile l ≡ n → 0 < n
-      → place_from p at (records_of non_volatile l) ≡ cond (p (take n l)) (Some (record { at = at; len = n })) (place_from p (at + n) (records_of non_volatile (drop n l)))
-  unfolding place_from
-  place_step n p at l e h =
-      let k : n ≤ length l = rw e at (record_length-within non_volatile l) in
-      rw (chunks_step (record_length non_volatile) (record_length-within non_volatile) n l e h, length-take-le n l k)
-
-  module _ {f : Option Found} (at n : ℕ) (p : Bytes → Bool) (s : Bytes) (w : Here non_volatile at n s) (q : f ≡ place_from p at (records_of non_volatile (drop at s))) where
-    pub place_here : p (take n (drop at s)) ≡ true → Some (record { at = at; len = n }) ≡ f
-    place_here t = sym (q ∙ place_step n p at (drop at s) w.is w.some ∙ rw t)
-
-    pub place_again : p (take n (drop at s)) ≡ false → f ≡ place_from p (at + n) (records_of non_volatile (drop (at + n) s))
-    place_again t = q ∙ place_step n p at (drop at s) w.is w.some ∙ rw (t, drop-drop)
-
 -- ---- the first four bytes of a name tell it from most others
 -- a zero unit behind them reads as what is past the end
 four_closed : (u : Bytes) → 2 ≤ length u → le32 (u ++ (0 ∷ 0 ∷ [])) 0 ≡ le32 u 0
@@ -114,12 +93,6 @@ four_name r f b =
 
 pub other_first : (v : Variable) (r : Bytes) → HeaderFits r → body_ok r ≡ true → (le32 r 32 ≡ le32 v.name 0 → ⊥) → is_of v r ≡ false
 other_first v r f b h = forced_off (is_of v r) (λ t. absurd (h (four_name r f b ∙ ap (λ (u : Bytes). le32 u 0) (is_of-name v r t))))
-
-pub other_here : (non_volatile : Bool) (at m : ℕ) (s : Bytes) (v : Variable) → Here non_volatile at m s → (le32 (drop at s) 32 ≡ le32 v.name 0 → ⊥)
-    → is_of v (take m (drop at s)) ≡ false
-other_here non_volatile at m s v w h =
-    let k : 36 ≤ m = omega (arith, w.fits.low, w.fits.fits, length-take m (drop at s)) in
-    other_first v (take m (drop at s)) w.fits w.body (λ e. h (sym (le32_take m (drop at s) 32 (omega arith)) ∙ e))
 
 -- ---- as the code has it
 pub resized : {z m : ℕ} (non_volatile : Bool) (at : ℕ) (s : Bytes) → z ≡ m → Here non_volatile at m s → Here non_volatile at z s

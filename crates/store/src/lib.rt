@@ -141,8 +141,7 @@ fn is_of(r: &[u8], namespace: &[u8], name: &[u8]) -> bool
 // The same of a record of a store, with the first four bytes of the name, which rule most records out: a name of one unit has its closing zero unit there.
 #[inline(always)]
 fn stands_for(record: &Record<'_>, first: usize, namespace: &[u8], name: &[u8]) -> bool
-    requires { first ≡ le32 name.now 0 }
-    ensures { result ≡ is_of (variable namespace.now name.now) record.now.bytes.now }
+    ensures { first ≡ le32 name.now 0 → result ≡ is_of (variable namespace.now name.now) record.now.bytes.now }
 {
     slices::get32(record.bytes, limits::RECORD_HEADER) == first
         && is_of(record.bytes, namespace, name)
