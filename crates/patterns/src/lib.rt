@@ -1,8 +1,7 @@
 // Pairs of patterns, the names of entries: whether some name matches both, and the least that does; '#' in them and in a whole dump.
 #![tactic(auto)]
 
-ghost use Rattle.std.specs.Prelude.{◌≡◌, ◌||◌, ◌+◌, ◌/◌, ◌%◌, ◌≤◌, ◌<◌, length, drop};
-ghost use Rattle.slices.specs.Test.{◌and◌};
+ghost use Rattle.std.specs.Prelude.{◌≡◌, ◌≤◌, length};
 ghost use Rattle.slices.specs.Bytes.{overwrite};
 ghost use Rattle.patterns.specs.Signs.{has_sign};
 ghost use Rattle.patterns.specs.Common.{least_name, overlap, least_of, units_overlap, sign_alike, same_signs};
