@@ -66,8 +66,7 @@ fn is_among(policy: &[u8], count: usize, e: Packed<'_>) -> bool
     ensures { result ≡ contains (same_target e.entry.bytes.now) (take count (entries_of policy.now)) }
 {
     let mut at = 0;
-    let mut index = 0;
-    while index < count {
+    for _ in 0..count {
         let end = at + slices::get16(policy, at + limits::SIZE_AT);
         let met = Packed {
             bytes: &policy[at..end],
@@ -76,7 +75,6 @@ fn is_among(policy: &[u8], count: usize, e: Packed<'_>) -> bool
             return true;
         }
         at = end;
-        index += 1;
     }
     false
 }
