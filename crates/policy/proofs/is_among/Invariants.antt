@@ -11,4 +11,3 @@ abbrev pub invariant-loop : goal.invariant-loop
 invariant-loop l =
     (l.counter ≤ l.count) × At l.policy l.counter l.at
     × (contains (same_target l.e.bytes.now) (take l.count (entries_of l.policy)) ≡ contains (same_target l.e.bytes.now) (take (l.count - l.counter) (drop l.counter (entries_of l.policy))))
-
