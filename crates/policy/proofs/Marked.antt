@@ -12,12 +12,13 @@ use Rattle.limits.specs.Limits.{namespace_at, max_entries, policy_bytes}
 use Rattle.slices.specs.Test.{◌and◌}
 use Rattle.slices.proofs.TestLaws.{and_no, and_yes, forced_off}
 use Rattle.slices.specs.Bytes.{Bytes, le32, part, all_are}
-use Rattle.slices.proofs.PartLaws.{part_of}
+use native.Mathlib.Nat.{le_refl}
+use Rattle.slices.proofs.PartLaws.{part_of, part_rest}
 use Rattle.slices.specs.Hash.{hash_from}
 use Rattle.slices.specs.Chunks.{flat, contains, distinct}
 use Rattle.slices.proofs.ItemsLaws.{or_off, or_right_off, contains_append, contains_one, distinct_apart, distinct_left, distinct_append}
 use Rattle.entry.specs.Entry.{name_of, well_formed, same_target}
-use Rattle.entry.proofs.EntryLaws.{namespace_start, same_target-sym, same_target-alike}
+use Rattle.entry.proofs.EntryLaws.{sized, namespace_start, same_target-sym, same_target-alike}
 use Rattle.policy.specs.declared.Extent.{Extent}
 use Rattle.std.specs.Prelude.{Option, None}
 use Rattle.std.specs.Bool.{then_some}
@@ -162,6 +163,29 @@ module _ (p : Bytes) (t : Bytes) (i at n : ℕ) (w : Checked p t i at) (e : entr
     noted_end m =
         let c = count_met p i at w.walk (e ∙ z) in
         record { few = omega (arith, c, w.few); end = λ k h. m.noted k (omega (arith, c)) }
+
+-- the entry e begins what is left from byte at on
+pub record Next (p : Bytes) (at : ℕ) (e : Bytes) : Type 0 where
+  pub here : entry_length (drop at p) ≡ length e
+  pub some : 0 < length e
+  pub own : e ≡ part at (at + length e) p
+
+module _ (p : Bytes) (at : ℕ) where
+  rest : part at (length p) p ≡ drop at p
+  rest = part_rest at (length p) p (le_refl (length p))
+
+  pub next : (e : Bytes) → well_formed e ≡ true
+      → (e ≡ take (entry_length (part at (length p) p)) (part at (length p) p)) × (length e ≡ entry_length (part at (length p) p)) → Next p at e
+  next e w f =
+      let h : entry_length (drop at p) ≡ length e = sym (f.1 ∙ ap entry_length rest) in
+      record {
+        here = h;
+        some = omega (arith, (sized e w).least);
+        own = f.0 ∙ ap (λ (q : Bytes). take (entry_length q) q) rest ∙ ap (λ (n : ℕ). take n (drop at p)) h ∙ sym (part_of at (length e) p);
+      }
+
+  pub none_next : entry_length (part at (length p) p) ≡ 0 → entry_length (drop at p) ≡ 0
+  none_next z = sym (ap entry_length rest) ∙ z
 
 -- of what is not valid nothing was promised
 pub invalid_promise : {A : Type 0} (bytes : ℕ) (p : Bytes) → None ≡ check_within bytes p → valid_within well_formed max_entries bytes p ≡ true → A

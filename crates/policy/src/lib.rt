@@ -43,21 +43,29 @@ pub struct Chosen {
     pub rank: usize,
 }
 
-// The length of the well-formed entry that the bytes begin with, or 0.
-pub fn entry_length(p: &[u8]) -> usize
-    ensures { result ≡ entry_length p.now }
+// The well-formed entry that the bytes begin with.
+pub fn first_entry(p: &[u8]) -> Option<Packed<'_>>
+    ensures { MatchOption result (entry_length p.now ≡ 0)
+        (λ e. (e.bytes.now ≡ take (entry_length p.now) p.now) × (length e.bytes.now ≡ entry_length p.now)) }
 {
     if p.len() < limits::ENTRY_HEADER {
-        return 0;
+        return None;
     }
     let n = slices::get16(p, limits::SIZE_AT);
     if p.len() < n {
-        return 0;
+        return None;
     }
-    if entry::well_formed(&p[..n]) {
-        return n;
+    Packed::new(&p[..n])
+}
+
+// Its length, or 0.
+pub fn entry_length(p: &[u8]) -> usize
+    ensures { result ≡ entry_length p.now }
+{
+    match first_entry(p) {
+        Some(e) => e.bytes.len(),
+        None => 0,
     }
-    0
 }
 
 // Whether one of the first count entries has the namespace and the name of e.
@@ -66,8 +74,7 @@ fn is_among(policy: &[u8], count: usize, e: Packed<'_>) -> bool
     ensures { result ≡ contains (same_target e.entry.bytes.now) (take count (entries_of policy.now)) }
 {
     let mut at = 0;
-    let mut index = 0;
-    while index < count {
+    for _ in 0..count {
         let end = at + slices::get16(policy, at + limits::SIZE_AT);
         let met = Packed {
             bytes: &policy[at..end],
@@ -76,7 +83,6 @@ fn is_among(policy: &[u8], count: usize, e: Packed<'_>) -> bool
             return true;
         }
         at = end;
-        index += 1;
     }
     false
 }
@@ -184,22 +190,17 @@ fn scan(policy: &[u8], marks: &mut [u8; SLOTS], ends: &mut [u16; ENTRIES]) -> Op
 {
     let mut count = 0;
     let mut used = 0;
-    let mut next = entry_length(policy);
-    while 0 < next {
+    while let Some(e) = first_entry(&policy[used..]) {
         if count == limits::MAX_ENTRIES {
             return None;
         }
-        let end = used + next;
-        let e = Packed {
-            bytes: &policy[used..end],
-        };
         if is_repeated(policy, count, e, marks) {
             return None;
         }
+        let end = used + e.bytes.len();
         ends[count] = end as u16;
         count += 1;
         used = end;
-        next = entry_length(&policy[used..]);
     }
     slices::all_are(&policy[used..], 0).then_some(Extent { count, used })
 }

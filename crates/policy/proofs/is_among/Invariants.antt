@@ -7,10 +7,7 @@ use Rattle.policy.specs.Policy.{entries_of}
 use Rattle.policy.specs.Walk.{At}
 use Rattle.policy.proofs.is_among.Given as goal
 
-abbrev pub invariant-loop-index : goal.invariant-loop-index
-invariant-loop-index l =
-    (l.index ≤ l.count) × At l.policy l.index l.at
-    × (contains (same_target l.e.bytes.now) (take l.count (entries_of l.policy)) ≡ contains (same_target l.e.bytes.now) (take (l.count - l.index) (drop l.index (entries_of l.policy))))
-
-abbrev pub decreases-loop-index : goal.decreases-loop-index
-decreases-loop-index l = l.count - l.index
+abbrev pub invariant-loop : goal.invariant-loop
+invariant-loop l =
+    (l.counter ≤ l.count) × At l.policy l.counter l.at
+    × (contains (same_target l.e.bytes.now) (take l.count (entries_of l.policy)) ≡ contains (same_target l.e.bytes.now) (take (l.count - l.counter) (drop l.counter (entries_of l.policy))))
