@@ -1,7 +1,7 @@
 -- Laws of names, which proofs cite instead of the definitions' text. Assumes nothing.
 use Rattle.std.specs.Prelude.{ℕ, zero, suc, ◌+◌, ◌-◌, ◌*◌, ◌/◌, ◌%◌, ◌≤◌, ◌<◌, ◌≡◌, refl, List, [], ◌∷◌, ◌++◌, Bool, true, false, not, ◌||◌, ◌&&◌, cond, ◌↔◌, ◌⊎◌, length, get_or, take, drop, eqb, leb}
 use Rattle.std.proofs.Common.{sym, ap, ap₂, ◌∙◌, inl, inr, zero-add, suc-mul, zero-mul, drop_of_length-le, length-append, length-drop, length-take, take-append-drop, get_or-append-add, eq-eqb, ne_eqb, le-leb, leb-true, eqb-true}
-use Rattle.std.proofs.lemmas.Bool.{false≢true, eqb-false}
+use Rattle.std.proofs.lemmas.Bool.{false≢true, eqb-false, not-true}
 use native.Mathlib.Omega.{arith}
 use Rattle.std.proofs.Math.Seq.{get_or-append_seam, take-append_seam}
 use Rattle.std.specs.Int.Bits.{bit_and, and_zero_l}
@@ -59,6 +59,25 @@ module _ (s : Bytes) (i : ℕ) (h : i + 2 ≤ length s) where
       let e : i + 1 + 1 ≡ i + 2 = omega arith in
       rw (drop_step s i (omega arith), drop_step s (i + 1) (omega arith), e)
 
+  module _ (test : ℕ → Bool) where
+    each_step : each test (units (drop i s)) ≡ (test (le16 s i) and each test (units (drop (i + 2) s)))
+    unfolding each
+    each_step = rw units_step
+
+    pub each_hit : test (le16 s i) ≡ false → each test (units (drop i s)) ≡ false
+    each_hit e = each_step ∙ rw e (and_off (each test (units (drop (i + 2) s))))
+
+    pub each_miss : test (le16 s i) ≡ true → each test (units (drop i s)) ≡ each test (units (drop (i + 2) s))
+    unfolding ◌and◌
+    each_miss e = each_step ∙ rw e
+
+-- the same where the loop goes on after a unit that does not pass
+pub each_more : (test : ℕ → Bool) {a b : Bool} (ok : Bool) (s : Bytes) (i j : ℕ) → i + j + 2 ≤ length s → a ≡ (ok and each test (units (drop (i + j) s)))
+    → b ≡ test (le16 s (i + j)) → a ≡ ((ok && b) and each test (units (drop (i + (j + 2)) s)))
+each_more test ok s i j h e v =
+    let n : i + (j + 2) ≡ i + j + 2 = omega arith in
+    e ∙ rw (v, n, and_eager, each_step s (i + j) h test) (sym (and_assoc ok (test (le16 s (i + j))) (each test (units (drop (i + j + 2) s)))))
+
 -- no whole unit is left
 units_end : (s : Bytes) (i : ℕ) → length s < i + 2 → units (drop i s) ≡ []
 unfolding units
@@ -68,6 +87,10 @@ units_end s i h = go (drop i s) (omega (arith, length-drop i s))
     go [] k = refl
     go (a ∷ []) k = refl
     go (a ∷ b ∷ t) k = absurd (omega arith)
+
+pub each_end : (test : ℕ → Bool) (s : Bytes) (i : ℕ) → length s < i + 2 → each test (units (drop i s)) ≡ true
+unfolding each
+each_end test s i h = rw (units_end s i h)
 
 -- of less than two bytes there is no unit, and of more the first two are the first one
 pub units_none : (s : Bytes) → length s < 2 → units s ≡ []
@@ -83,6 +106,12 @@ module _ (s : Bytes) (i : ℕ) (h : i + 2 ≤ length s) where
   pub wildcards_step : wildcards (units (drop i s)) ≡ one_if (eqb (le16 s i) number_sign) + wildcards (units (drop (i + 2) s))
   unfolding wildcards
   wildcards_step = rw (units_step s i h)
+
+  pub wildcards_hit : le16 s i ≡ number_sign → wildcards (units (drop i s)) ≡ 1 + wildcards (units (drop (i + 2) s))
+  wildcards_hit e = wildcards_step ∙ rw (eq-eqb (le16 s i) number_sign e)
+
+  pub wildcards_miss : (le16 s i ≡ number_sign → ⊥) → wildcards (units (drop i s)) ≡ wildcards (units (drop (i + 2) s))
+  wildcards_miss e = wildcards_step ∙ rw (ne_eqb (le16 s i) number_sign e) (omega arith)
 
 pub wildcards_end : (s : Bytes) (i : ℕ) → length s < i + 2 → wildcards (units (drop i s)) ≡ 0
 unfolding wildcards
@@ -378,6 +407,18 @@ blocks_wildcards k s = counted_blocks k s 0 ∙ zero-add (wildcards (units s))
 pub blocks_within : (k : ℕ) (s : Bytes) → signs_of_blocks k s + wildcards (units (drop (k * 16) s)) ≤ length s
 blocks_within k s = omega (arith, blocks_wildcards k s, wildcards_le (units s), units_length s)
 
+-- one turn of a loop that goes on to its end, over units that are no '#'
+pub wildcards_clear : {n u : ℕ} (s : Bytes) (i j : ℕ) → i + j + 2 ≤ length s → u ≡ le16 s (i + j) → (ok : Bool) → (ok ≡ true → n ≡ wildcards (units (drop (i + j) s)))
+    → (ok && not (eqb u number_sign)) ≡ true → n ≡ wildcards (units (drop (i + (j + 2)) s))
+wildcards_clear {n} {u} s i j h v true f t =
+    let k : i + (j + 2) ≡ i + j + 2 = omega arith in
+    f refl ∙ rw k (wildcards_miss s (i + j) h (λ e. eqb-false u number_sign (not-true (eqb u number_sign) t) (v ∙ e)))
+wildcards_clear s i j h v false f t = absurd (false≢true t)
+
+-- the number of '#' from byte i on, after so many at the start, is at most that of the units
+pub wildcards_within : (s : Bytes) (h i r rest : ℕ) → wildcards (units s) ≡ h + wildcards (units (drop i s)) → wildcards (units (drop i s)) ≡ r + rest → h + r ≤ length s
+wildcards_within s h i r rest e f = omega (arith, wildcards_le (units s), units_length s)
+
 -- each unit is neither zero nor '#' exactly if none is zero and the number of '#' is 0
 pub plain_units : (us : List ℕ) → (no_zero us and eqb (wildcards us) 0) ≡ each plain_unit us
 unfolding each wildcards ◌and◌
@@ -512,6 +553,22 @@ module _ (mask : ℕ) (none : bit_and number_sign mask ≡ 0) where
   unfolding each
   clear_block [] e = refl
   clear_block (u ∷ us) e = and_intro _ _ (clear_plain u (and_left _ _ e)) (clear_block us (and_right _ _ e))
+
+  -- one turn of a loop over such units
+  pub plain_clear : {a : Bool} {u : ℕ} (s : Bytes) (i j : ℕ) → i + j + 2 ≤ length s → u ≡ le16 s (i + j) → (ok : Bool)
+      → (ok ≡ true → a ≡ each plain_unit (units (drop (i + j) s))) → (ok && not (eqb (bit_and u mask) 0)) ≡ true → a ≡ each plain_unit (units (drop (i + (j + 2)) s))
+  plain_clear s i j h v true f t =
+      let n : i + (j + 2) ≡ i + j + 2 = omega arith in
+      f refl ∙ rw n (each_miss s (i + j) h plain_unit (clear_plain (le16 s (i + j)) (rw v at t)))
+  plain_clear s i j h v false f t = absurd (false≢true t)
+
+-- the code asks for a unit that is zero or '#'
+pub plain_unless : {u : ℕ} (v : ℕ) {t : Bool} → u ≡ v → (eqb u 0 || eqb u number_sign) ≡ t → plain_unit v ≡ not t
+plain_unless {u} v h e = rw (← h) (go (eqb u 0) (eqb u number_sign) e)
+  where
+    go : (a b : Bool) {t : Bool} → (a || b) ≡ t → (not a && not b) ≡ not t
+    go true b k = ap not k
+    go false b k = ap not k
 
 -- ---- which units are hex digits
 
@@ -713,6 +770,24 @@ module _ (p v : Bytes) (i j : ℕ) (h : i + j + 2 ≤ length p) (g : i + j + 2 �
   pub pairs_more : (f : ℕ → ℕ → Bool) {x r : Bool} (ok : Bool) → x ≡ (ok and pairs_from f p v (i + j)) → r ≡ f a b → x ≡ ((ok && r) and pairs_from f p v (i + (j + 2)))
   pairs_more f ok e q =
       e ∙ rw (q, behind, and_eager, pairs_step f p v (i + j) h g ea eb) (sym (and_assoc ok (f a b) (pairs_from f p v (i + j + 2))))
+
+  -- a unit that is the same in both, and no '#'
+  pub matches_plain : {x : Bool} (ok : Bool) → (ok ≡ true → x ≡ matches_from p v (i + j)) → (ok && (eqb a b && not (eqb a number_sign))) ≡ true
+      → x ≡ matches_from p v (i + (j + 2))
+  matches_plain true f e = f refl ∙ pairs_hit unit_matches p v (i + j) h g ea eb (plain (eqb a b) (eqb a number_sign) refl refl e) ∙ rw behind
+    where
+      plain : (s t : Bool) → eqb a b ≡ s → eqb a number_sign ≡ t → (s && not t) ≡ true → unit_matches a b ≡ true
+      plain true false y z k = plain_unit_lem a b z ∙ y
+      plain true true y z k = absurd (false≢true k)
+      plain false t y z k = absurd (false≢true k)
+  matches_plain false f e = absurd (false≢true e)
+
+  -- what holds as long as all before match
+  pub matches_near : {x r : Bool} (ok : Bool) → (x ≡ true → (ok ≡ true) × (matches_from p v (i + j) ≡ true)) → (unit_matches a b ≡ true → r ≡ true)
+      → x ≡ true → ((ok && r) ≡ true) × (matches_from p v (i + (j + 2)) ≡ true)
+  matches_near {x} {r} ok f q t =
+      let m : (unit_matches a b and matches_from p v (i + j + 2)) ≡ true = sym (pairs_step unit_matches p v (i + j) h g ea eb) ∙ (f t).1 in
+      (and_eager ok r ∙ and_intro ok r (f t).0 (q (and_left _ _ m)), rw behind (and_right _ _ m))
 
 pub units_later : (k : ℕ) (s : Bytes) → units (drop (2 * k) s) ≡ drop k (units s)
 unfolding units

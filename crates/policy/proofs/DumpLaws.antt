@@ -94,6 +94,10 @@ module _ (d : Bytes) where
   unfolding dump_check
   dump_refused_lem e = (rw e, λ v. absurd (false≢true (sym e ∙ v)))
 
+  pub dump_granted_lem : {A : Type 0} {x : Extent} → CheckedWithin (length d) d x.count x.used → dump_valid d ≡ true → A → (Some x ≡ dump_check d) × (dump_valid d ≡ true → A)
+  unfolding dump_check
+  dump_granted_lem k e a = (rw e (ap₂ (λ (n m : ℕ). Some (record { count = n; used = m })) k.counted k.summed), λ v. a)
+
   module _ {x : Extent} (l : length d ≤ policy_bytes) (k : CheckedWithin (length d) d x.count x.used) where
     told : (t : Bool) → leb (length d) x.used ≡ t → t ≡ dump_valid d
     told true q = sym (dump_good l k.valid (omega (arith, k.summed, leb-true (length d) x.used q)))

@@ -2,7 +2,7 @@
 use Prim.Native.Nat.{ℕ, zero, suc, ◌+◌, ◌-◌, ◌≤◌, ◌<◌}
 use Rattle.std.specs.Prelude.{◌≡◌, Bool, true, false, ◌&&◌, length, get_or, take, drop, replicate}
 use Rattle.std.proofs.Math.Path.{refl, sym, ap}
-use Rattle.std.proofs.Common.{ap₂, ◌∙◌, arith, add-one, drop-drop, eq-eqb, ne_eqb, eqb-true}
+use Rattle.std.proofs.Common.{ap₂, ◌∙◌, arith, add-one, length-take, drop-drop, eq-eqb, ne_eqb, eqb-true}
 use mathlib.Core.List.{[], ◌∷◌}
 use Rattle.std.proofs.lemmas.Bool.{false≢true, eqb-false}
 use Rattle.std.proofs.Math.ListN.{drop_of_length-le}
@@ -12,6 +12,7 @@ use Rattle.std.specs.List.{list_all, fold}
 use Rattle.slices.specs.Test.{◌and◌}
 use Rattle.slices.proofs.TestLaws.{and_left, and_right, and_intro, and_no, and_yes, and_assoc, and_eager, forced_off}
 use Rattle.slices.specs.Bytes.{Bytes, pairwise, same, all_are}
+use Rattle.slices.proofs.PartLaws.{length_middle, get_d-middle}
 
 module _ (f : ℕ → ℕ → Bool) where
   pub pairwise_lengths : (ps us : Bytes) → (length ps ≡ length us → ⊥) → pairwise f ps us ≡ false
@@ -110,6 +111,21 @@ same_sym [] (b ∷ m) = refl
 same_sym (a ∷ l) [] = refl
 same_sym (a ∷ l) (b ∷ m) = ap₂ ◌and◌ (eqb_sym a b) (same_sym l m)
 
+-- a loop that compares eagerly the eight bytes from i on: one turn, and its end
+module _ {x : Bool} (ok : Bool) (l m : Bytes) (i j : ℕ) (e : x ≡ (ok and same (drop j (take 8 (drop i l))) (drop j (take 8 (drop i m))))) where
+  pub same_more : i + 8 ≤ length l → i + 8 ≤ length m → j < 8
+      → x ≡ ((ok && eqb (get_or l (i + j) 0) (get_or m (i + j) 0)) and same (drop (j + 1) (take 8 (drop i l))) (drop (j + 1) (take 8 (drop i m))))
+  same_more h k n =
+      let a : j < length (take 8 (drop i l)) = rw (length_middle l i 8 h) n in
+      let b : j < length (take 8 (drop i m)) = rw (length_middle m i 8 k) n in
+      e ∙ rw (and_eager, pairwise_step eqb (take 8 (drop i l)) (take 8 (drop i m)) j a b, get_d-middle l i 8 j n, get_d-middle m i 8 j n)
+      (sym (and_assoc ok (eqb (get_or l (i + j) 0) (get_or m (i + j) 0)) (same (drop (j + 1) (take 8 (drop i l))) (drop (j + 1) (take 8 (drop i m))))))
+
+  pub same_done : 8 ≤ j → ok ≡ x
+  same_done n =
+      let short : (s : Bytes) → length (take 8 (drop i s)) ≤ j = λ s. rw length-take (omega arith) in
+      sym (e ∙ rw (pairwise_end eqb (take 8 (drop i l)) (take 8 (drop i m)) j (short l) (short m)) (and_yes ok))
+
 -- ---- every byte is v
 pub all_are-step : (v : ℕ) (l : Bytes) (i : ℕ) → i < length l → all_are v (drop i l) ≡ (eqb (get_or l i 0) v and all_are v (drop (i + 1) l))
 unfolding all_are
@@ -130,6 +146,11 @@ pub all_are-fold : (ok : Bool) (v : ℕ) (l : Bytes) → fold (λ (ok : Bool) (b
 unfolding all_are
 all_are-fold ok v [] = sym (and_yes ok)
 all_are-fold ok v (b ∷ l) = all_are-fold (ok && eqb b v) v l ∙ rw and_eager (and_assoc ok (eqb b v) (all_are v l))
+
+-- one turn of a loop that compares eagerly
+pub all_are-more : {x : Bool} (ok : Bool) (v : ℕ) (l : Bytes) (i : ℕ) → i < length l → x ≡ (ok and all_are v (drop i l))
+    → x ≡ ((ok && eqb (get_or l i 0) v) and all_are v (drop (i + 1) l))
+all_are-more ok v l i h e = e ∙ rw (and_eager, all_are-step v l i h) (sym (and_assoc ok (eqb (get_or l i 0) v) (all_are v (drop (i + 1) l))))
 
 pub all_are-is : (v : ℕ) (l : Bytes) → all_are v l ≡ true → l ≡ replicate (length l) v
 unfolding all_are
