@@ -1,5 +1,4 @@
 use mathlib.Core.Path.{sym, ◌∙◌}
-use native.Mathlib.Omega.{arith}
 use Rattle.patterns.specs.Literals.{literal_mask_of, literals_of}
 use Rattle.policy.specs.Policy.{entries_of}
 use Rattle.quarrels.specs.Group.{group_at}

@@ -1,7 +1,4 @@
-use Prim.Native.Nat.{ℕ, ◌<◌}
 use mathlib.Core.Path.{sym, ◌∙◌}
-use native.Mathlib.Omega.{arith}
-use lib.ListN.{get_or}
 use Rattle.quarrels.proofs.Places.{fronts_differ, tails_differ}
 use Rattle.quarrels.proofs.quarrel_at.Goals as goal
 

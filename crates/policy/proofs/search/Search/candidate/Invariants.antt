@@ -1,4 +1,3 @@
-use Prim.Native.Nat.{◌≤◌}
 use mathlib.Core.Path.{◌≡◌}
 use Rattle.names.specs.Name.{variable}
 use Rattle.policy.specs.Walk.{start_of, PassedTo}
