@@ -30,15 +30,17 @@ def lines(pattern):
 
 
 def functions():
-    """Name, parameters and body of each function."""
+    """Name, parameters, head and body of each function and method."""
     for crate, text in sources():
-        for m in re.finditer(r'^(?:pub )?(?:extern "C" )?fn (\w+)', text, re.M):
-            begin = text.find("\n{\n", m.start())
+        for m in re.finditer(r'^( *)(?:pub )?(?:extern "C" )?fn (\w+)', text, re.M):
+            brace = "\n" + m.group(1) + "{\n"
+            begin = text.find(brace, m.start())
             if begin < 0:
                 continue
             head = text[m.start() : begin]
             parameters = head[: head.find(")\n") if ")\n" in head else head.find(") ->")]
-            yield crate, m.group(1), re.findall(r"(\w+): ", parameters), head, text[begin : text.find("\n}\n", begin)]
+            end = text.find("\n" + m.group(1) + "}\n", begin)
+            yield crate, m.group(2), re.findall(r"(\w+): ", parameters), head, text[begin:end]
 
 
 def twins():

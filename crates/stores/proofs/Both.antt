@@ -101,6 +101,13 @@ module _ (nv vol : Bytes) where
     unfolding sound
     both_are = rw (free_is true nv h p e, free_is false vol k q.is f, q.free, and_yes y) (sym (and_eager x y))
 
+    pub check_sound : (x && y) ≡ true → Some (record { nv = i; vol = j }) ≡ pair_check nv vol
+    unfolding pair_check
+    check_sound z = rw (both_are ∙ z, p, q.is)
+
+    pub check_unsound : (x && y) ≡ false → None ≡ pair_check nv vol
+    check_unsound z = unsound (both_are ∙ z)
+
     pub check_is : then_some (x && y) (record { nv = i; vol = j }) ≡ pair_check nv vol
     unfolding pair_check
     check_is = rw (both_are, p, q.is) (go (x && y))
