@@ -10,7 +10,8 @@ use borrow.Author.Tests.{ne_eqb, leb-true, leb-false, lt-ltb, le-ltb}
 use Rattle.limits.specs.Limits.{policy_bytes, lock_type_at}
 use Rattle.slices.proofs.TestLaws.{and_eager}
 use Rattle.slices.specs.Bytes.{Bytes, part}
-use Rattle.entry.specs.Entry.{rank}
+use Rattle.entry.specs.Entry.{well_formed, rank}
+use Rattle.entry.proofs.EntryLaws.{sized}
 use Rattle.policy.specs.Policy.{entry_length}
 use Rattle.policy.proofs.PolicyLaws.{entry_length-within}
 use Rattle.reader.specs.declared.Verdict.{Verdict}
@@ -30,17 +31,20 @@ pub verdict_is : {h g n : ℕ} (r : Bytes) → h ≡ held r → g ≡ good r →
 unfolding verdict_in
 verdict_is {h} {g} r a b c = rw (and_eager (leb h policy_bytes) (eqb g h), above h policy_bytes, a, b, c)
 
--- the entry that begins p, which is the good bytes from `at` on; n is its length
-module _ {p : Bytes} {g n : ℕ} (r : Bytes) (at : ℕ) (a : p ≡ part at g r) (b : g ≡ good r) (e : n ≡ entry_length p) where
+-- the entry that begins p, which is the good bytes from `at` on
+module _ {p : Bytes} {g : ℕ} (r : Bytes) (at : ℕ) (a : p ≡ part at g r) (b : g ≡ good r) where
   bytes_is : part at (good r) r ≡ p
   bytes_is = sym (a ∙ ap (λ (k : ℕ). part at k r) b)
 
-  pub nothing_there : n ≡ 0 → None ≡ listing_in r at
+  pub nothing_there : entry_length p ≡ 0 → None ≡ listing_in r at
   unfolding listing_in listing
-  nothing_there z = rw (bytes_is, ← e, z)
+  nothing_there z = rw (bytes_is, z)
 
-  pub listed_there : {l k : ℕ} → (n ≡ 0 → ⊥) → l ≡ get_or (take n p) lock_type_at 0 → k ≡ rank (take n p) → Some (record { size = n; lock = l; rank = k }) ≡ listing_in r at
+  -- it is e, l is its lock type and k its rank
+  pub listed_there : {e : Bytes} {l k : ℕ} → e ≡ take (entry_length p) p → well_formed e ≡ true → l ≡ get_or e lock_type_at 0 → k ≡ rank e
+      → Some (record { size = length e; lock = l; rank = k }) ≡ listing_in r at
   unfolding listing_in listing
-  listed_there z u v =
-      let m : length (take n p) ≡ n = length-take-le n p (omega (arith, e, entry_length-within p)) in
-      rw (bytes_is, ← e, ne_eqb n 0 z, m, u, v)
+  listed_there {e} q f u v =
+      let m : length e ≡ entry_length p = ap length q ∙ length-take-le (entry_length p) p (entry_length-within p) in
+      let some : entry_length p ≡ 0 → ⊥ = λ z. omega (arith, (sized e f).least, m, z) in
+      rw (bytes_is, ne_eqb (entry_length p) 0 some, ← q, u, v)

@@ -31,7 +31,7 @@ pub const READER_BYTES: usize = COUNT_AT + 2;
 // The most bytes of an entry.
 const MAX_ENTRY_BYTES: usize = limits::TRIGGER_NAME_AT + 2 * limits::MAX_NAME_SIZE;
 
-// The number of bytes held where no more are taken.
+// The number of bytes held where no more are taken. It stands for a state, and no enum does, since the caller lends the bytes, whatever they are (the C interface).
 const STOPPED: usize = 65535;
 
 // What a reader says of the bytes that arrived: whether they are good entries and nothing else; whether the reading has ended, so that no further bytes change
@@ -53,8 +53,7 @@ pub struct Listing {
 }
 
 // A bad entry was met: no more is taken.
-fn stop(r: &mut [u8])
-    requires { length r.old ≡ reader_bytes }
+fn stop(r: &mut [u8; READER_BYTES])
     ensures { r.new ≡ stop r.old }
 {
     slices::put16(r, HELD_AT, STOPPED);
@@ -62,8 +61,8 @@ fn stop(r: &mut [u8])
 
 // Whether it is decided what begins at byte from, by the bytes up to byte to: a header is there, and as many bytes as its Size says, or its Size is more than an
 // entry has.
-fn is_decided(r: &[u8], from: usize, to: usize) -> bool
-    requires { (length r.now ≡ reader_bytes) × (from < 65536) × (to ≤ policy_bytes) }
+fn is_decided(r: &[u8; READER_BYTES], from: usize, to: usize) -> bool
+    requires { (from < 65536) × (to ≤ policy_bytes) }
     ensures { result ≡ decided (part from to r.now) }
 {
     if to < from + limits::ENTRY_HEADER {
@@ -73,7 +72,8 @@ fn is_decided(r: &[u8], from: usize, to: usize) -> bool
     (size <= to - from) | (MAX_ENTRY_BYTES < size)
 }
 
-// What a slot of the filter holds after an entry with that fingerprint.
+// What a slot of the filter holds after an entry with that fingerprint: 0 where none was met, 255 where several were. They are numbers since the slots are among
+// the bytes that the caller lends (the C interface).
 fn joined(seen: u8, fingerprint: u8) -> u8
     ensures { result ≡ joined seen fingerprint }
 {
@@ -83,8 +83,8 @@ fn joined(seen: u8, fingerprint: u8) -> u8
 // Whether the entry from byte from up to byte to repeats one of those before it, where the filter has `seen` in its slot. Most often the filter tells that it
 // does not. The search is called in two places, since the compiler puts a function that is called in one into the loop over the entries, which then takes 18
 // instructions more for each.
-fn repeats(r: &[u8], from: usize, to: usize, seen: u8, fingerprint: u8) -> bool
-    requires { (from ≤ to) × (to ≤ length r.now) × (well_formed (part from to r.now) ≡ true) }
+fn repeats(r: &[u8; READER_BYTES], from: usize, to: usize, seen: u8, fingerprint: u8) -> bool
+    requires { (from ≤ to) × (to ≤ policy_bytes) × (well_formed (part from to r.now) ≡ true) }
     ensures { result ≡ ((eqb seen 255 || eqb seen fingerprint) and contains (repeats (part from to r.now)) (stated_of (take from r.now))) }
 {
     let before = &r[..from];
@@ -101,8 +101,8 @@ fn repeats(r: &[u8], from: usize, to: usize, seen: u8, fingerprint: u8) -> bool
 }
 
 // Writes that there are count good entries now, the last of which ends at byte to and is marked in a slot of the filter.
-fn note(r: &mut [u8], slot: usize, mark: u8, to: usize, count: usize)
-    requires { (length r.old ≡ reader_bytes) × (slot < reader_bytes) }
+fn note(r: &mut [u8; READER_BYTES], slot: usize, mark: u8, to: usize, count: usize)
+    requires { slot < reader_bytes }
     ensures { r.new ≡ put (put (set r.old slot mark) good_at to) count_at count }
 {
     r[slot] = mark;
@@ -111,8 +111,8 @@ fn note(r: &mut [u8], slot: usize, mark: u8, to: usize, count: usize)
 }
 
 // Takes the entry from byte from up to byte to among the good ones, if it is not one too many and repeats none of them.
-fn accept(r: &mut [u8], from: usize, to: usize) -> bool
-    requires { (length r.old ≡ reader_bytes) × (from ≡ good r.old) × (from ≤ to) × (to ≤ policy_bytes) × (well_formed (part from to r.old) ≡ true) }
+fn accept(r: &mut [u8; READER_BYTES], from: usize, to: usize) -> bool
+    requires { (from ≡ good r.old) × (from ≤ to) × (to ≤ policy_bytes) × (well_formed (part from to r.old) ≡ true) }
     ensures answer { result ≡ admits r.old (part from to r.old) }
     ensures after { r.new ≡ cond result (accepted r.old (part from to r.old)) r.old }
 {
@@ -134,27 +134,25 @@ fn accept(r: &mut [u8], from: usize, to: usize) -> bool
 }
 
 // Takes the entries that stand from byte from up to byte to among the good ones, up to the first that is not good, and tells where they end.
-fn take_good(r: &mut [u8], from: usize, to: usize) -> usize
-    requires { (length r.old ≡ reader_bytes) × (from ≡ good r.old) × (from ≤ to) × (to ≤ policy_bytes) }
+fn take_good(r: &mut [u8; READER_BYTES], from: usize, to: usize) -> usize
+    requires { (from ≡ good r.old) × (from ≤ to) × (to ≤ policy_bytes) }
     ensures after { r.new ≡ judged r.old (entries_of (part from to r.old)) }
     ensures end { (result ≡ good r.new) × (result ≤ to) × (held r.new ≡ held r.old) }
 {
     let mut at = from;
-    let mut next = policy::entry_length(&r[at..to]);
-    while 0 < next {
-        let end = at + next;
+    while let Some(e) = policy::first_entry(&r[at..to]) {
+        let end = at + e.bytes.len();
         if !accept(r, at, end) {
             return at;
         }
         at = end;
-        next = policy::entry_length(&r[at..to]);
     }
     at
 }
 
 // Judges the entries behind the good ones. Where it is decided what is left, that is a bad one, and no more is taken.
-fn judge(r: &mut [u8])
-    requires { (length r.old ≡ reader_bytes) × (good r.old ≤ held r.old) × (held r.old ≤ policy_bytes) }
+fn judge(r: &mut [u8; READER_BYTES])
+    requires { (good r.old ≤ held r.old) × (held r.old ≤ policy_bytes) }
     ensures { r.new ≡ all_judged r.old }
 {
     let to = slices::get16(r, HELD_AT);
@@ -166,8 +164,8 @@ fn judge(r: &mut [u8])
 }
 
 // Writes that the bytes up to byte to have arrived, and tells whether it is now decided what stands behind the good entries.
-fn hold(r: &mut [u8], to: usize) -> bool
-    requires { (length r.old ≡ reader_bytes) × (to ≤ policy_bytes) }
+fn hold(r: &mut [u8; READER_BYTES], to: usize) -> bool
+    requires { to ≤ policy_bytes }
     ensures after { r.new ≡ put r.old held_at to }
     ensures answer { result ≡ decided (part (good r.old) to r.old) }
 {
@@ -177,8 +175,8 @@ fn hold(r: &mut [u8], to: usize) -> bool
 }
 
 // Takes bytes, for which there is room behind the `from` that are held.
-fn take_bytes(r: &mut [u8], from: usize, bytes: &[u8])
-    requires { (length r.old ≡ reader_bytes) × (from ≡ held r.old) × (from + length bytes.now ≤ policy_bytes) }
+fn take_bytes(r: &mut [u8; READER_BYTES], from: usize, bytes: &[u8])
+    requires { (from ≡ held r.old) × (from + length bytes.now ≤ policy_bytes) }
     ensures { r.new ≡ taken r.old bytes.now }
 {
     slices::copy_in(r, from, bytes);
@@ -188,8 +186,7 @@ fn take_bytes(r: &mut [u8], from: usize, bytes: &[u8])
 }
 
 // Takes the bytes of a piece, as far as there is room.
-fn take_piece(r: &mut [u8], piece: &[u8])
-    requires { length r.old ≡ reader_bytes }
+fn take_piece(r: &mut [u8; READER_BYTES], piece: &[u8])
     ensures { r.new ≡ fed r.old piece.now }
 {
     let from = slices::get16(r, HELD_AT);
@@ -206,24 +203,23 @@ fn take_piece(r: &mut [u8], piece: &[u8])
 }
 
 // Writes a byte at index at.
-fn put_byte(r: &mut [u8], at: usize, byte: u8)
-    requires { at < length r.old }
+fn put_byte(r: &mut [u8; READER_BYTES], at: usize, byte: u8)
+    requires { at < reader_bytes }
     ensures { r.new ≡ overwrite r.old at (byte ∷ []) }
 {
     r[at] = byte;
 }
 
 // Whether there is room for a byte.
-fn has_room(r: &[u8]) -> bool
-    requires { length r.now ≡ reader_bytes }
+fn has_room(r: &[u8; READER_BYTES]) -> bool
     ensures { result ≡ ltb (held r.now) policy_bytes }
 {
     slices::get16(r, HELD_AT) < limits::POLICY_BYTES
 }
 
 // Takes a piece of one byte, for which there is room, in few instructions.
-fn take_byte(r: &mut [u8], byte: u8)
-    requires { (length r.old ≡ reader_bytes) × (held r.old < policy_bytes) }
+fn take_byte(r: &mut [u8; READER_BYTES], byte: u8)
+    requires { held r.old < policy_bytes }
     ensures { r.new ≡ fed r.old (byte ∷ []) }
 {
     let from = slices::get16(r, HELD_AT);
@@ -233,26 +229,25 @@ fn take_byte(r: &mut [u8], byte: u8)
     }
 }
 
-// The four calls on the reader's bytes as a slice.
-fn clear(r: &mut [u8])
-    requires { length r.old ≡ reader_bytes }
-    ensures { r.new ≡ fresh r.old }
+// A reader to which nothing was fed. The bytes that arrived before stay where they are.
+pub fn start(reader: &mut [u8; READER_BYTES])
+    ensures { reader.new ≡ fresh reader.old }
 {
-    slices::fill(r, FILTER_AT, READER_BYTES - FILTER_AT, 0);
+    slices::fill(reader, FILTER_AT, READER_BYTES - FILTER_AT, 0);
 }
 
-// A byte by itself has a way of its own. That take_piece is called in two places keeps the compiler from putting it here, where that way would save its registers.
-fn feed_slice(r: &mut [u8], piece: &[u8]) -> Status
-    requires { length r.old ≡ reader_bytes }
+// Feeds a piece: 0, or 2 if it has no byte or more than MAX_PIECE; refused, the reader is as it was. A byte by itself has a way of its own. That take_piece is
+// called in two places keeps the compiler from putting it here, where that way would save its registers.
+pub fn feed(reader: &mut [u8; READER_BYTES], piece: &[u8]) -> Status
     ensures answer { result ≡ feed_status piece.now }
-    ensures after { r.new ≡ after_feed r.old piece.now }
+    ensures after { reader.new ≡ after_feed reader.old piece.now }
 {
     if piece.len() == 1 {
-        if has_room(r) {
-            take_byte(r, piece[0]);
+        if has_room(reader) {
+            take_byte(reader, piece[0]);
             return Status::Success;
         }
-        take_piece(r, piece);
+        take_piece(reader, piece);
         return Status::Success;
     }
     if piece.len() == 0 {
@@ -261,66 +256,33 @@ fn feed_slice(r: &mut [u8], piece: &[u8]) -> Status
     if limits::MAX_PIECE < piece.len() {
         return Status::InvalidParameter;
     }
-    take_piece(r, piece);
+    take_piece(reader, piece);
     Status::Success
-}
-
-fn verdict_in(r: &[u8]) -> Verdict
-    requires { length r.now ≡ reader_bytes }
-    ensures { result ≡ verdict_in r.now }
-{
-    let held = slices::get16(r, HELD_AT);
-    let good = slices::get16(r, GOOD_AT);
-    Verdict {
-        whole: (held <= limits::POLICY_BYTES) & (good == held),
-        ended: limits::POLICY_BYTES < held,
-        entries: slices::get16(r, COUNT_AT) as u32,
-        bytes: good as u32,
-    }
-}
-
-fn listing_in(r: &[u8], at: usize) -> Option<Listing>
-    requires { length r.now ≡ reader_bytes }
-    ensures { result ≡ listing_in r.now at }
-{
-    let p = slices::part(r, at, slices::get16(r, GOOD_AT));
-    let size = policy::entry_length(p);
-    if size == 0 {
-        return None;
-    }
-    let e = Packed { bytes: &p[..size] };
-    Some(Listing {
-        size: size as u32,
-        lock: slices::byte(e.bytes, limits::LOCK_TYPE_AT) as u32,
-        rank: e.rank() as u32,
-    })
-}
-
-// A reader to which nothing was fed. The bytes that arrived before stay where they are.
-pub fn start(reader: &mut [u8; READER_BYTES])
-    ensures { reader.new ≡ fresh reader.old }
-{
-    clear(reader)
-}
-
-// Feeds a piece: 0, or 2 if it has no byte or more than MAX_PIECE; refused, the reader is as it was.
-pub fn feed(reader: &mut [u8; READER_BYTES], piece: &[u8]) -> Status
-    ensures answer { result ≡ feed_status piece.now }
-    ensures after { reader.new ≡ after_feed reader.old piece.now }
-{
-    feed_slice(reader, piece)
 }
 
 // What the reader says of the bytes that arrived.
 pub fn verdict_of(reader: &[u8; READER_BYTES]) -> Verdict
     ensures { result ≡ verdict_in reader.now }
 {
-    verdict_in(reader)
+    let held = slices::get16(reader, HELD_AT);
+    let good = slices::get16(reader, GOOD_AT);
+    Verdict {
+        whole: (held <= limits::POLICY_BYTES) & (good == held),
+        ended: limits::POLICY_BYTES < held,
+        entries: slices::get16(reader, COUNT_AT) as u32,
+        bytes: good as u32,
+    }
 }
 
 // What it tells of the entry that begins at that byte of the dump, within the good ones; or that none does.
 pub fn listing_at(reader: &[u8; READER_BYTES], at: usize) -> Option<Listing>
     ensures { result ≡ listing_in reader.now at }
 {
-    listing_in(reader, at)
+    let p = slices::part(reader, at, slices::get16(reader, GOOD_AT));
+    let e = policy::first_entry(p)?;
+    Some(Listing {
+        size: e.bytes.len() as u32,
+        lock: slices::byte(e.bytes, limits::LOCK_TYPE_AT) as u32,
+        rank: e.rank() as u32,
+    })
 }

@@ -25,7 +25,7 @@ returns-then-repeats c =
     let slot_is : filter_at + c.mark_of-mark.result.slot ≡ filter_at + slot_of (Own) = ap (λ (n : ℕ). filter_at + n) c.mark_of-mark.ensures.0 in
     let slot_seen : get_or (R) (filter_at + c.mark_of-mark.result.slot) 0 ≡ seen (R) (Own) = ap (λ (n : ℕ). get_or (R) n 0) (slot_is) in
     let printed : c.mark_of-mark.result.fingerprint ≡ fingerprint_of (Own) = c.mark_of-mark.ensures.1 in
-    let own-start : c.args.from ≡ good (R) = c.requires.1 in
+    let own-start : c.args.from ≡ good (R) = c.requires.0 in
     record { answer = repeated (R) (Own) (counted) (few) (slot_seen) (printed) (own-start) c.repeats.ensures c.if-repeats.true; after = refl }
 
 pub returns : goal.returns
@@ -38,7 +38,7 @@ returns c =
     let slot_is : filter_at + c.mark_of-mark.result.slot ≡ filter_at + slot_of (Own) = ap (λ (c : ℕ). filter_at + c) c.mark_of-mark.ensures.0 in
     let slot_seen : get_or (R) (filter_at + c.mark_of-mark.result.slot) 0 ≡ seen (R) (Own) = ap (λ (c : ℕ). get_or (R) c 0) (slot_is) in
     let printed : c.mark_of-mark.result.fingerprint ≡ fingerprint_of (Own) = c.mark_of-mark.ensures.1 in
-    let own-start : c.args.from ≡ good (R) = c.requires.1 in
-    let ends : c.args.to ≡ c.args.from + length (Own) = let k = length_part c.args.from c.args.to c.args.r.now (omega (arith, c.requires.0, c.requires.3)) in
-    omega (arith, c.requires.2) in
+    let own-start : c.args.from ≡ good (R) = c.requires.0 in
+    let ends : c.args.to ≡ c.args.from + length (Own) = let k = length_part c.args.from c.args.to c.args.r.now (omega (arith, c.requires.2)) in
+    omega (arith, c.requires.1) in
     record { answer = admitted (R) (Own) (counted) (few) (slot_seen) (printed) (own-start) c.repeats.ensures c.if-repeats.false; after = with_it (R) (Own) (counted) (few) (slot_seen) (printed) (own-start) c.repeats.ensures c.note.ensures (slot_is) c.joined.ensures (ends) refl }

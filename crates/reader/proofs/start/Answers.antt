@@ -1,5 +1,5 @@
 use Rattle.reader.specs.Reader.{fresh}
-use Rattle.reader.proofs.clear.Goals as goal
+use Rattle.reader.proofs.start.Goals as goal
 
 pub returns : goal.returns
 unfolding fresh

@@ -1,5 +1,0 @@
-use Rattle.reader.proofs.Said.{verdict_is}
-use Rattle.reader.proofs.verdict_in.Goals as goal
-
-pub returns : goal.returns
-returns c = verdict_is c.args.r.now c.get16-held.ensures.is c.get16-good.ensures.is c.get16.ensures.is
