@@ -226,9 +226,9 @@ fn agree(noted: &Notes, i: usize, j: usize) -> bool
 }
 
 // Whether the entries at two places of one group quarrel. Their names are looked at where the first and the last units agree.
-fn quarrel_at(grouped: Grouped<'_>, earlier: usize, later: usize) -> bool
-    requires { InGroup (entries_of grouped.dump.entries.bytes.now) earlier later }
-    ensures { result ≡ quarrel_at (entries_of grouped.entry.dump.entries.bytes.now) earlier later }
+fn quarrel_at(grouped: &Grouped<'_>, earlier: usize, later: usize) -> bool
+    requires { InGroup (entries_of grouped.now.dump.entries.bytes.now) earlier later }
+    ensures { result ≡ quarrel_at (entries_of grouped.now.dump.entries.bytes.now) earlier later }
 {
     if !agree(grouped.notes, earlier, later) {
         return false;
@@ -243,9 +243,9 @@ fn quarrel_at(grouped: Grouped<'_>, earlier: usize, later: usize) -> bool
 
 // The first place of a chain, from one on, where the first units agree with those of an entry, `own`, in all that both spell out. At the end of the chain no bit
 // counts. (A `while`: the loop follows links, and no range or slice has its places.)
-fn candidate(grouped: Grouped<'_>, from: usize, own: Tail) -> usize
+fn candidate(grouped: &Grouped<'_>, from: usize, own: Tail) -> usize
     requires { from ≤ max_entries }
-    ensures { Skipped grouped.entry.links.now.next grouped.entry.notes.now.masks grouped.entry.notes.now.shown own.shown own.mask from result }
+    ensures { Skipped grouped.now.links.now.next grouped.now.notes.now.masks grouped.now.notes.now.shown own.shown own.mask from result }
 {
     let links = grouped.links;
     let noted = grouped.notes;
@@ -258,8 +258,8 @@ fn candidate(grouped: Grouped<'_>, from: usize, own: Tail) -> usize
 
 // The first two entries that quarrel: of each entry those behind it in its group are looked at, from the first on that has '#' at other places, and behind
 // that one those whose first units agree with its own. (`candidate` is called once only: with two calls the compiler laid one of the loops out with a jump more.)
-fn first_pair(grouped: Grouped<'_>) -> Option<Pair>
-    ensures { result ≡ pair_of (entries_of grouped.entry.dump.entries.bytes.now) }
+fn first_pair(grouped: &Grouped<'_>) -> Option<Pair>
+    ensures { result ≡ pair_of (entries_of grouped.now.dump.entries.bytes.now) }
 {
     let links = grouped.links;
     let noted = grouped.notes;
@@ -294,7 +294,7 @@ fn pair_of(dump: Dump<'_>) -> Option<Pair>
     let mut links = no_links();
     let mut notes = no_notes();
     link(dump.entries, &mut links, &mut notes);
-    first_pair(Grouped {
+    first_pair(&Grouped {
         dump,
         links: &links,
         notes: &notes,

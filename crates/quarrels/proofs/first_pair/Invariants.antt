@@ -7,7 +7,7 @@ abbrev pub invariant-loop-j : goal.invariant-loop-j
 invariant-loop-j l = Walks (entries_of l.grouped.dump.entries.bytes.now) l.i l.j
 
 abbrev pub decreases-loop-j : goal.decreases-loop-j
-decreases-loop-j l = l.grouped.dump.entries.count - l.j
+decreases-loop-j l = l.count - l.j
 
 abbrev pub invariant-loop-i : goal.invariant-loop-i
 invariant-loop-i l = Clear (entries_of l.grouped.dump.entries.bytes.now) l.i 0
