@@ -29,11 +29,11 @@ go_on : {next masks shown : List ℕ} {own mask from r t : ℕ} → r ≡ t → 
 go_on e l s = rw e (s, l)
 
 pub loop-j-init : goal.loop-j-init
-loop-j-init c = (stay, c.requires.2)
+loop-j-init c = (stay, c.requires)
 
 pub loop-j-preserved : goal.loop-j-preserved
 loop-j-preserved c =
     let inner : c.loop-j.j < max_entries = let l = c.loop-j in
-    under c.args.masks.now c.args.shown.now c.args.own c.args.mask l.j c.requires.1 l.invariant.1 c.loop-j-test.true in
-    let rising : (c.loop-j.j < get_or c.args.next.now c.loop-j.j 0) × (get_or c.args.next.now c.loop-j.j 0 ≤ max_entries) = c.requires.0 c.loop-j.j (inner) in
+    under c.args.grouped.now.notes.now.masks c.args.grouped.now.notes.now.shown c.args.own.shown c.args.own.mask l.j c.args.grouped.now.masked.end l.invariant.1 c.loop-j-test.true in
+    let rising : (c.loop-j.j < get_or c.args.grouped.now.links.now.next c.loop-j.j 0) × (get_or c.args.grouped.now.links.now.next c.loop-j.j 0 ≤ max_entries) = c.args.grouped.now.chained.rises c.loop-j.j (inner) in
     go_on c.place-j.ensures (rising).1 (on c.loop-j.invariant.0 (inner) c.loop-j-test.true)

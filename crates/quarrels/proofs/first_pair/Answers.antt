@@ -11,32 +11,32 @@ use Rattle.quarrels.proofs.first_pair.Goals as goal
 
 pub loop-j-init : goal.loop-j-init
 loop-j-init c =
-    let D : Bytes = c.args.dump.entries.bytes.now in
-    walk_start (D) c.args.dump.valid c.args.dump.fit c.args.first.now c.loop-i.i c.requires.3 c.place-j.ensures (omega (arith, c.loop-i-test.true, c.args.dump.entries.counted)) c.loop-i.invariant
+    let D : Bytes = c.args.grouped.now.dump.entries.bytes.now in
+    walk_start (D) c.args.grouped.now.dump.valid c.args.grouped.now.dump.fit c.args.grouped.now.links.now.first c.loop-i.i c.args.grouped.now.others c.place-j.ensures (omega (arith, c.loop-i-test.true, c.args.grouped.now.dump.entries.counted)) c.loop-i.invariant
 
 pub loop-j-smaller : goal.loop-j-smaller
 loop-j-smaller c =
-    let D : Bytes = c.args.dump.entries.bytes.now in
-    let inner : c.loop-j.j < length (entries_of (D)) = omega (arith, c.loop-j-test.true, c.args.dump.entries.counted) in
-    let inner-under : c.loop-j.j < max_entries = omega (arith, inner, c.args.dump.entries.noted.few) in
-    let rising : (c.loop-j.j < get_or c.args.next.now c.loop-j.j 0) × (get_or c.args.next.now c.loop-j.j 0 ≤ max_entries) = c.requires.2.rises c.loop-j.j (inner-under) in
-    omega (arith, c.loop-j-test.true, (rising).0, c.place.ensures, skipped_later c.requires.2.rises c.candidate-j.ensures)
+    let D : Bytes = c.args.grouped.now.dump.entries.bytes.now in
+    let inner : c.loop-j.j < length (entries_of (D)) = omega (arith, c.loop-j-test.true, c.args.grouped.now.dump.entries.counted) in
+    let inner-under : c.loop-j.j < max_entries = omega (arith, inner, c.args.grouped.now.dump.entries.noted.few) in
+    let rising : (c.loop-j.j < get_or c.args.grouped.now.links.now.next c.loop-j.j 0) × (get_or c.args.grouped.now.links.now.next c.loop-j.j 0 ≤ max_entries) = c.args.grouped.now.chained.rises c.loop-j.j (inner-under) in
+    omega (arith, c.loop-j-test.true, (rising).0, c.place.ensures, skipped_later c.args.grouped.now.chained.rises c.candidate-j.ensures)
 
 pub loop-j-preserved : goal.loop-j-preserved
 loop-j-preserved c =
-    let D : Bytes = c.args.dump.entries.bytes.now in
-    let inner : c.loop-j.j < length (entries_of (D)) = omega (arith, c.loop-j-test.true, c.args.dump.entries.counted) in
-    walk_skip (D) c.args.dump.valid c.args.dump.fit c.args.next.now c.requires.2 c.loop-i.i c.args.masks.now c.args.shown.now c.requires.0 c.requires.1 c.candidate-j.ensures
-    (walk_step (D) c.args.dump.valid c.args.dump.fit c.args.next.now c.requires.2 c.loop-i.i c.loop-j.j (inner) c.loop-j.invariant c.place.ensures
+    let D : Bytes = c.args.grouped.now.dump.entries.bytes.now in
+    let inner : c.loop-j.j < length (entries_of (D)) = omega (arith, c.loop-j-test.true, c.args.grouped.now.dump.entries.counted) in
+    walk_skip (D) c.args.grouped.now.dump.valid c.args.grouped.now.dump.fit c.args.grouped.now.links.now.next c.args.grouped.now.chained c.loop-i.i c.args.grouped.now.notes.now.masks c.args.grouped.now.notes.now.shown c.args.grouped.now.masked c.args.grouped.now.shows c.candidate-j.ensures
+    (walk_step (D) c.args.grouped.now.dump.valid c.args.grouped.now.dump.fit c.args.grouped.now.links.now.next c.args.grouped.now.chained c.loop-i.i c.loop-j.j (inner) c.loop-j.invariant c.place.ensures
     (sym c.quarrel_at.ensures ∙ c.if-quarrel_at.false))
 
 pub returns : goal.returns
 returns c =
-    let D : Bytes = c.args.dump.entries.bytes.now in
-    found_none (D) c.args.dump.valid c.args.dump.fit c.loop-i.i (omega (arith, c.loop-i-test.false, c.args.dump.entries.counted)) c.loop-i.invariant
+    let D : Bytes = c.args.grouped.now.dump.entries.bytes.now in
+    found_none (D) c.args.grouped.now.dump.valid c.args.grouped.now.dump.fit c.loop-i.i (omega (arith, c.loop-i-test.false, c.args.grouped.now.dump.entries.counted)) c.loop-i.invariant
 
 pub returns-then-quarrel_at : goal.returns-then-quarrel_at
 returns-then-quarrel_at c =
-    let D : Bytes = c.args.dump.entries.bytes.now in
-    let inner : c.loop-j.j < length (entries_of (D)) = omega (arith, c.loop-j-test.true, c.args.dump.entries.counted) in
-    found_here (D) c.args.dump.valid c.args.dump.fit c.loop-i.i c.loop-j.j (inner) c.loop-j.invariant (sym c.quarrel_at.ensures ∙ c.if-quarrel_at.true)
+    let D : Bytes = c.args.grouped.now.dump.entries.bytes.now in
+    let inner : c.loop-j.j < length (entries_of (D)) = omega (arith, c.loop-j-test.true, c.args.grouped.now.dump.entries.counted) in
+    found_here (D) c.args.grouped.now.dump.valid c.args.grouped.now.dump.fit c.loop-i.i c.loop-j.j (inner) c.loop-j.invariant (sym c.quarrel_at.ensures ∙ c.if-quarrel_at.true)

@@ -26,4 +26,4 @@ overflow_add-key c =
 
 pub returns : goal.returns
 returns c =
-    a_group c.args.e.bytes.now c.name-name.ensures (sym c.has_sign.ensures ∙ c.if-not-has_sign.false) c.get32.ensures.is
+    (a_group c.args.e.bytes.now c.name-name.ensures (sym c.has_sign.ensures ∙ c.if-not-has_sign.false) c.get32.ensures.is, omega arith)

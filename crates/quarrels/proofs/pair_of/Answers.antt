@@ -14,8 +14,8 @@ returns-then-not-has_sign c =
 pub link-requires : goal.link-requires
 link-requires c =
     let es = entries_of c.args.dump.entries.bytes.now in (
-      no_chains (group_at es) _ c.no_links-next.ensures c.args.dump.entries.noted.few,
-      no_others es c.args.dump.entries.noted.few c.no_links-first.ensures,
-      no_notes es c.args.dump.entries.noted.few literal_mask_of c.no_notes-masks.ensures,
-      no_notes es c.args.dump.entries.noted.few literals_of c.no_notes-shown.ensures,
+      no_chains (group_at es) _ c.no_links-links.ensures.0 c.args.dump.entries.noted.few,
+      no_others es c.args.dump.entries.noted.few c.no_links-links.ensures.1,
+      no_notes es c.args.dump.entries.noted.few literal_mask_of c.no_notes-notes.ensures.0,
+      no_notes es c.args.dump.entries.noted.few literals_of c.no_notes-notes.ensures.1,
     )
