@@ -36,6 +36,7 @@ pub struct Reading {
 }
 
 // A dump's status, and beside 0 the length written, beside 5 the length needed.
+// No Result: what may not change, the clause of `dump` is an equation with `step`, whose answer has a length beside 5 as beside 0.
 #[derive(Clone, Copy)]
 pub struct DumpAnswer {
     pub status: Status,
@@ -43,6 +44,7 @@ pub struct DumpAnswer {
 }
 
 // A query's status and the enabled switch.
+// No Result: no query is refused. What may not change, the clause of `query` is an equation with `step`, whose answer has a status also where it is always 0.
 #[derive(Clone, Copy)]
 pub struct QueryAnswer {
     pub status: Status,
@@ -50,6 +52,7 @@ pub struct QueryAnswer {
 }
 
 // A set's status, and what step 4 said (RULES.md, 10.10).
+// No Result: what may not change, the clause of `set` is an equation with `step`, whose answer has the report beside a refusal of step 4, and only there a ground.
 #[derive(Clone, Copy)]
 pub struct SetAnswer {
     pub status: Status,
@@ -121,6 +124,7 @@ pub fn power_on(
 
 // Restarts the engine over the same stores, which it leaves as they are. VOLUME_CORRUPTED, with switches as a refused power-on
 // hands back, where the stores are unsound or the policy record has another length.
+// It asks for the check's yes or no alone and reads nothing of the stores behind it: `let Some(_) = Stores::new(nv, vol)` is no plainer.
 pub fn restart(nv: &[u8], vol: &[u8], policy: &mut [u8], disabling_allowed: bool) -> SwitchAnswer
     ensures { (w : Switches) → step (state_of nv.now vol.now policy.old w) (restart disabling_allowed)
         ≡ (
@@ -142,6 +146,7 @@ pub fn restart(nv: &[u8], vol: &[u8], policy: &mut [u8], disabling_allowed: bool
 // VOLUME_CORRUPTED where the record is not valid; UNSUPPORTED after exit; WRITE_PROTECTED where the engine is locked; INVALID_PARAMETER
 // for a malformed entry; ALREADY_STARTED where an entry of the same namespace and name is registered; OUT_OF_RESOURCES where there are
 // as many entries as the limit, or the sum of Sizes would be over it.
+// No Result<(), Status>: what may not change, its clause is an equation with `step`, whose answer is a status and no more, granted or refused (`only_status`).
 pub fn register(policy: &mut [u8], switches: Switches, entry: &[u8]) -> Status
     ensures { (nv vol : Bytes) → step (state_of nv vol policy.old switches) (register entry.now)
         ≡ (only_status result, state_of nv vol policy.new switches) }
@@ -290,6 +295,7 @@ pub fn read(nv: &[u8], vol: &[u8], switches: Switches, namespace: [u8; 16], name
 }
 
 // The second call of the read pair (RULES.md, 10.8): the payload as a subslice of its store, and of length 0 where the read is refused.
+// It reads again and cuts the store: what may not change, `ref_ptr_value` says where the subslice begins, and `Stores::payload_at` promises its bytes alone.
 pub fn payload<'a>(
     nv: &'a [u8],
     vol: &'a [u8],

@@ -19,6 +19,7 @@ const KEYS: usize = 1024;
 pub const NOTES: usize = 2048;
 
 // Notes of no record.
+// A note is 0 for none, and no Option: what may not change, the clauses here and of `Notes::new` say zeros; and a table of Option<u16> has twice the bytes (fixed memory).
 pub fn none() -> [u16; NOTES]
     ensures { result ≡ replicate notes 0 }
 {
@@ -61,6 +62,7 @@ fn put(table: &mut [u16; NOTES], k: usize, note: u16)
 }
 
 // Notes where the records of a store begin.
+// A store and its table come as they are, here to be written and in `find` to be read: two functions, and a type that holds both for both uses is no plainer.
 pub fn note(s: &[u8], nonvolatile: bool, end: usize, table: &mut [u16; NOTES])
     requires { (end ≡ end_of nonvolatile s.now) × (length s.now ≤ max_store) × (length table.old ≡ notes) × Noted nonvolatile s.now table.old }
     ensures { (length table.new ≡ notes) × Noted nonvolatile s.now table.new }
@@ -75,6 +77,7 @@ pub fn note(s: &[u8], nonvolatile: bool, end: usize, table: &mut [u16; NOTES])
 }
 
 // The record that a note leads to, if it is the variable's.
+// What is asked of the note follows from `Noted` of the table that `Notes` holds; a type for one note, made at `find`'s two calls alone, is no plainer.
 fn try_note(s: &[u8], nonvolatile: bool, note: u16, namespace: &[u8], name: &[u8]) -> Option<Found>
     requires { NoteOf nonvolatile s.now note }
     ensures { Tried nonvolatile s.now (variable namespace.now name.now) result }
@@ -90,6 +93,7 @@ fn try_note(s: &[u8], nonvolatile: bool, note: u16, namespace: &[u8], name: &[u8
 }
 
 // The variable's record in a store, if the notes lead to it.
+// `Notes` holds what is asked of both tables; a type for one store and its table, made at `locate`'s two calls alone, is no plainer.
 fn find(
     s: &[u8],
     nonvolatile: bool,

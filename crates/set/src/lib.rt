@@ -262,10 +262,9 @@ fn exit_protects(exited: bool, nv: &[u8], vol: &[u8], place: Place) -> bool
 pub fn decide(entries: Entries, switches: Switches, located: Located) -> Decided
     ensures { result ≡ decided_by (entries_of entries.entry.bytes.now) switches located.entry.stores.nv.now located.entry.stores.vol.now (asked located.entry.request) }
 {
-    let by_request = located.request.check(switches.exited);
-    if by_request != Status::Success {
+    if let Err(status) = located.request.check(switches.exited) {
         return Decided {
-            decision: Err(Refusal::ByStatus(by_request)),
+            decision: Err(Refusal::ByStatus(status)),
             report: no_report(),
         };
     }

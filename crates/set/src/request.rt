@@ -15,6 +15,9 @@ pub struct Request<'a> {
 }
 
 impl<'a> Request<'a> {
+    ghost use Rattle.std.specs.Prelude.{false, MatchResult};
+    ghost use Rattle.status.specs.Status.{is_success};
+    ghost use Rattle.status.specs.declared.Status.TheVariants.{Success};
     ghost use Rattle.rules.specs.Set.{is_deletion, needs_bs, needs_runtime, request_status, is_empty_append};
     ghost use Rattle.set.specs.Asked.{asked};
 
@@ -73,24 +76,25 @@ impl<'a> Request<'a> {
 
     // INVALID_PARAMETER for a name or a payload that a set does not take; UNSUPPORTED for an attribute bit outside 0x47;
     // INVALID_PARAMETER for RT or append without BS; INVALID_PARAMETER, after exit, for a set that is no deletion without one of NV, BS and RT.
-    pub fn check(self, exited: bool) -> Status
-        ensures { result ≡ request_status exited (asked self.entry) }
+    pub fn check(self, exited: bool) -> Result<(), Status>
+        ensures { MatchResult result (λ _. request_status exited (asked self.entry) ≡ Success)
+            (λ s. (s ≡ request_status exited (asked self.entry)) × (is_success s ≡ false)) }
     {
         if !names::is_name(self.name) {
-            return Status::InvalidParameter;
+            return Err(Status::InvalidParameter);
         }
         if limits::MAX_PAYLOAD < self.payload.len() {
-            return Status::InvalidParameter;
+            return Err(Status::InvalidParameter);
         }
         if self.attributes & limits::KNOWN_ATTRIBUTES != self.attributes {
-            return Status::Unsupported;
+            return Err(Status::Unsupported);
         }
         if self.needs_bs() {
-            return Status::InvalidParameter;
+            return Err(Status::InvalidParameter);
         }
         if self.needs_runtime(exited) {
-            return Status::InvalidParameter;
+            return Err(Status::InvalidParameter);
         }
-        Status::Success
+        Ok(())
     }
 }

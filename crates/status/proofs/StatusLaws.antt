@@ -1,6 +1,5 @@
 -- Laws of the statuses. Assumes nothing.
-use Rattle.std.specs.Prelude.{◌≡◌, refl, Bool, true, false, not, eqb}
-use Rattle.std.proofs.Common.{sym, ap, ◌∙◌}
+use Rattle.std.specs.Prelude.{◌≡◌, refl, true, eqb}
 use Rattle.std.proofs.lemmas.Bool.{false≢true}
 use denote.Enum.Bare.{sameb}
 use Rattle.status.specs.contracts.Status.{the_type}
@@ -43,11 +42,3 @@ equals_success OutOfResources = refl
 equals_success VolumeCorrupted = refl
 equals_success NotFound = refl
 equals_success AlreadyStarted = refl
-
--- and its !=
-pub differs_success : (n : Status) {b : Bool} → b ≡ not (sameb the_type n Success) → is_success n ≡ not b
-differs_success n {b} e = go (sameb the_type n Success) (equals_success n) e
-  where
-    go : (x : Bool) → x ≡ is_success n → b ≡ not x → is_success n ≡ not b
-    go true q h = sym q ∙ ap not (sym h)
-    go false q h = sym q ∙ ap not (sym h)

@@ -175,6 +175,7 @@ pub fn attributes(r: &[u8]) -> u32
 }
 
 // The attributes of the record that was found; 0 where there is none.
+// A number and no Option: what may not change, the definition `attributes_in none = 0`, which `step` answers by.
 pub fn attributes_found(s: &[u8], found: Option<Found>) -> u32
     requires { Held s.now found }
     ensures { result ≡ attributes_in (record_in s.now found) }
@@ -183,6 +184,7 @@ pub fn attributes_found(s: &[u8], found: Option<Found>) -> u32
 }
 
 // Where the payload of the record that was found stands, behind the header and the name; 0 and 0 where there is none.
+// A range and no Option: what may not change, the definition `bounds_in` of None, by which `payload` is empty where there is none.
 pub fn payload_bounds(s: &[u8], found: Option<Found>) -> Range<usize>
     requires { Held s.now found }
     ensures { result ≡ bounds_in s.now found }

@@ -17,6 +17,7 @@ pub struct Switches {
 }
 
 // What a call on the switches answers: its status, and the switches as it leaves or hands them back.
+// No Result: what may not change, the calls' clauses name the switches beside a refusal too (`hand_back` of a refused start; `lock_answer` and its like).
 #[derive(Clone, Copy)]
 pub struct SwitchAnswer {
     pub status: Status,
@@ -111,6 +112,7 @@ pub struct BytesAnswer {
 }
 
 // Whether a byte gives leave to disable: 1 does, and no other.
+// No From: a conversion would hold of every byte, and those of the other switches are read differently; that is no plainer.
 pub fn gives_leave(byte: u8) -> bool
     ensures { result ≡ gives_leave byte }
 {
