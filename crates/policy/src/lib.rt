@@ -58,16 +58,6 @@ pub fn first_entry(p: &[u8]) -> Option<Packed<'_>>
     Packed::new(&p[..n])
 }
 
-// Its length, or 0.
-pub fn entry_length(p: &[u8]) -> usize
-    ensures { result ≡ entry_length p.now }
-{
-    match first_entry(p) {
-        Some(e) => e.bytes.len(),
-        None => 0,
-    }
-}
-
 // Whether one of the first count entries has the namespace and the name of e.
 fn is_among(policy: &[u8], count: usize, e: Packed<'_>) -> bool
     requires { count ≤ length (entries_of policy.now) }

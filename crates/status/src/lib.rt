@@ -4,6 +4,8 @@
 ghost use Rattle.std.specs.Prelude.{◌≡◌};
 ghost use Rattle.status.specs.Status.{status_number};
 
+// Not a Result's error alone: the rules' `step` answers a status also where a call is done, each call's clause is an equation with it, and C is handed its
+// number, 0 among them.
 #[derive(Clone, Copy, PartialEq, Eq, Debug)]
 pub enum Status {
     Success,

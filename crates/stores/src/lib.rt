@@ -161,6 +161,7 @@ pub fn check_alone(nv: &[u8]) -> bool
 }
 
 // Which store holds a variable's record, and where it stands there; of an absent variable the volatile store.
+// The store by a bool: every definition of a record and of a store takes `nonvolatile` as one, and an enum beside it is no plainer.
 #[derive(Clone, Copy)]
 pub struct Place {
     pub nonvolatile: bool,

@@ -33,6 +33,8 @@ use switches::{
     locked_bytes,
 };
 
+// The structs that C is handed, up to `ReaderEntry`, are flat, with the status in front and zeros beside a refusal: the C interface.
+
 // What a power-on or restart answers. Each byte of the switches is 0 or 1.
 #[repr(C)]
 #[derive(Clone, Copy)]

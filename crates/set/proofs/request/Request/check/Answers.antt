@@ -29,9 +29,11 @@ returns-then-needs_bs c =
 pub returns-then-needs_runtime : goal.returns-then-needs_runtime
 unfolding unsupported_bit
 returns-then-needs_runtime c =
-    let named : is_name c.args.self.name.now ≡ true = sym c.is_name.ensures ∙ c.if-not-is_name.false in
-    (lacks_runtime _ _ _ _ _ c.args.self.sixteen (named) c.if-self-gt-MAX_PAYLOAD.false (ap not (eq-eqb _ _ c.if-self.false)) (sym c.needs_bs.ensures ∙ c.if-needs_bs.false)
-    (sym c.needs_runtime.ensures ∙ c.if-needs_runtime.true), refl)
+    let named : is_name c.args.self.name.now ≡ true = sym c.is_name.ensures ∙ c.if-not-is_name.false in (
+      lacks_runtime _ _ _ _ _ c.args.self.sixteen (named) c.if-self-gt-MAX_PAYLOAD.false (ap not (eq-eqb _ _ c.if-self.false)) (sym c.needs_bs.ensures ∙ c.if-needs_bs.false)
+          (sym c.needs_runtime.ensures ∙ c.if-needs_runtime.true),
+      refl,
+    )
 
 pub returns : goal.returns
 unfolding unsupported_bit
