@@ -6,14 +6,14 @@
 // what the last line says.
 #![tactic(auto)]
 
-ghost use Rattle.std.specs.Prelude.{◌≡◌, ◌++◌, ◌<◌, ◌≤◌, List, length, IfOk, IfErr, OnOk, IfSome, Some, []};
+ghost use Rattle.std.specs.Prelude.{◌≡◌, ◌++◌, ◌+◌, ◌<◌, ◌≤◌, List, length, IfOk, IfErr, OnOk, IfSome, []};
 ghost use Rattle.std.specs.Io.KnownBytes.{Appends, Consumes};
 ghost use Rattle.limits.specs.Limits.{max_piece};
 ghost use Rattle.slices.specs.Bytes.{Bytes};
 ghost use Rattle.reader.specs.declared.Listing.{Listing};
 ghost use Rattle.reader.specs.Pieces.{HandsOut};
 ghost use Rattle.reader.specs.HasRead.{HasRead};
-ghost use Rattle.list_dump.specs.Lines.{marks, entry_line, closing_line};
+ghost use Rattle.list_dump.specs.Lines.{ascii, decimal, marks, entry_line, closing_line};
 ghost use Rattle.list_dump.specs.Runs.{listing_lines, entry_lines, dump_lines, Took, IsDone, AfterTurn, OnInput};
 
 use arrayvec::ArrayString;
@@ -28,48 +28,67 @@ const LINE: usize = 128;
 // The most bytes that are read at once.
 const PIECE: usize = 4096;
 
-// The marks of an entry, by its rank: the number of '#' in its name, or `all` where it is for a whole namespace.
-#[derive(Drop)]
-struct Marks(u32);
-
-impl fmt::Display for Marks {
-    ghost output = { λ m. Some (marks m.0) };
-
-    fn fmt<W: fmt::Write>(&self, f: &mut fmt::Formatter<W>) -> fmt::Result {
-        if self.0 as usize == limits::WHOLE_NAMESPACE_RANK {
-            return f.write_str("all");
-        }
-        write!(f, "{}", self.0)
-    }
+// Puts a number behind the text of a line, in decimal digits.
+fn put_number(line: &mut ArrayString<LINE>, value: u64)
+    requires { length line.old.bytes + 20 ≤ 128 }
+    ensures put { line.new.bytes ≡ line.old.bytes ++ decimal value }
+    ensures bound { length line.new.bytes ≤ length line.old.bytes + 20 }
+{
+    let mut digits = itoa::Buffer::new();
+    line.push_str(digits.format(value));
 }
 
-// The line of an entry: its place in the dump, and what is listed of it.
-#[derive(Drop)]
-struct EntryLine(u64, Listing);
+// A word and a number behind it, likewise.
+fn put_field(line: &mut ArrayString<LINE>, word: &str, value: u64)
+    requires { length line.old.bytes + length word.now + 20 ≤ 128 }
+    ensures put { line.new.bytes ≡ line.old.bytes ++ (word.now ++ decimal value) }
+    ensures bound { length line.new.bytes ≤ length line.old.bytes + length word.now + 20 }
+{
+    line.push_str(word);
+    put_number(line, value);
+}
 
-impl fmt::Display for EntryLine {
-    ghost output = { λ e. Some (entry_line e.0 e.1) };
-
-    fn fmt<W: fmt::Write>(&self, f: &mut fmt::Formatter<W>) -> fmt::Result {
-        let EntryLine(index, Listing { size, lock, rank }) = *self;
-        writeln!(f, "{index} size {size} lock {lock} marks {}", Marks(rank))
+// The marks of an entry, by its rank: the number of '#' in its name, or `all` where it is for a whole namespace.
+fn put_marks(line: &mut ArrayString<LINE>, rank: u32)
+    requires { length line.old.bytes + 27 ≤ 128 }
+    ensures put { line.new.bytes ≡ line.old.bytes ++ (ascii " marks " ++ marks rank) }
+    ensures bound { length line.new.bytes ≤ length line.old.bytes + 27 }
+{
+    if rank as usize == limits::WHOLE_NAMESPACE_RANK {
+        line.push_str(" marks all");
+        return;
     }
+    put_field(line, " marks ", rank as u64);
+}
+
+// The line of an entry: its place in the dump, and what is listed of it. (No `Display`, here and below: what its `fmt` promises holds of a success alone, and
+// this is the text of every line, which fits.)
+fn entry_text(index: u64, listing: Listing) -> ArrayString<LINE>
+    ensures { result.bytes ≡ entry_line index listing }
+{
+    let mut line = ArrayString::new();
+    put_number(&mut line, index);
+    put_field(&mut line, " size ", listing.size as u64);
+    put_field(&mut line, " lock ", listing.lock as u64);
+    put_marks(&mut line, listing.rank);
+    line.push_str("\n");
+    line
 }
 
 // The last line: how many entries there are and how many bytes they take, or where the first bad one begins.
-#[derive(Drop)]
-struct ClosingLine(Verdict);
-
-impl fmt::Display for ClosingLine {
-    ghost output = { λ c. Some (closing_line c.0) };
-
-    fn fmt<W: fmt::Write>(&self, f: &mut fmt::Formatter<W>) -> fmt::Result {
-        let Verdict { entries, bytes, .. } = self.0;
-        if !self.0.whole {
-            return writeln!(f, "bad at {bytes}");
-        }
-        writeln!(f, "entries {entries} bytes {bytes}")
+fn closing_text(v: Verdict) -> ArrayString<LINE>
+    ensures { result.bytes ≡ closing_line v }
+{
+    let mut line = ArrayString::new();
+    if !v.whole {
+        put_field(&mut line, "bad at ", v.bytes as u64);
+        line.push_str("\n");
+        return line;
     }
+    put_field(&mut line, "entries ", v.entries as u64);
+    put_field(&mut line, " bytes ", v.bytes as u64);
+    line.push_str("\n");
+    line
 }
 
 // What failed, with the system's reason.
@@ -98,29 +117,20 @@ impl fmt::Display for Failure {
     }
 }
 
-// Writes a line at once. Each line here fits in the buffer (`entry_fits`, `closing_fits`); one that did not would be written part by part.
-fn write_line<W: Write, L: fmt::Display>(output: &mut W, line: &L) -> io::Result<()>
-    ensures { OnOk result (IfSome (L.output line.now) (Appends (W.contents output.old) (W.contents output.new))) }
-{
-    let mut text = ArrayString::<LINE>::new();
-    match write!(text, "{line}") {
-        Ok(()) => output.write_all(text.as_str().as_bytes()),
-        Err(_) => write!(output, "{line}"),
-    }
-}
-
 // Writes the line of an entry.
 fn write_entry<W: Write>(output: &mut W, index: u64, listing: Listing) -> io::Result<()>
     ensures { OnOk result (Appends (W.contents output.old) (W.contents output.new) (entry_line index listing)) }
 {
-    write_line(output, &EntryLine(index, listing))
+    let line = entry_text(index, listing);
+    output.write_all(line.as_str().as_bytes())
 }
 
 // Writes the last line.
 fn write_closing<W: Write>(output: &mut W, v: Verdict) -> io::Result<()>
     ensures { OnOk result (Appends (W.contents output.old) (W.contents output.new) (closing_line v)) }
 {
-    write_line(output, &ClosingLine(v))
+    let line = closing_text(v);
+    output.write_all(line.as_str().as_bytes())
 }
 
 // Writes the lines of the good entries from byte from of the dump on, of which the first is entry index.
