@@ -264,7 +264,8 @@ fn first_pair(grouped: &Grouped<'_>) -> Option<Pair>
     let links = grouped.links;
     let noted = grouped.notes;
     let count = grouped.dump.entries.count;
-    for i in 0..count {
+    let mut found = None;
+    'pairs: for i in 0..count {
         let own = Tail {
             mask: noted.masks[i],
             shown: noted.shown[i],
@@ -273,15 +274,16 @@ fn first_pair(grouped: &Grouped<'_>) -> Option<Pair>
         // A `while`: the loop follows links, and no range or slice has its places.
         while j < count {
             if quarrel_at(grouped, i, j) {
-                return Some(Pair {
+                found = Some(Pair {
                     earlier: i,
                     later: j,
                 });
+                break 'pairs;
             }
             j = candidate(grouped, place(links.next[j]), own);
         }
     }
-    None
+    found
 }
 
 // Links and notes the entries of a dump that was found valid, and looks for the first two that quarrel. Without a '#' in it there is nothing to look for.

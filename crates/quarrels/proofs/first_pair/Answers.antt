@@ -11,8 +11,10 @@ use Rattle.quarrels.proofs.first_pair.Goals as goal
 
 pub loop-j-init : goal.loop-j-init
 loop-j-init c =
-    let D : Bytes = c.args.grouped.now.dump.entries.bytes.now in
-    walk_start (D) c.args.grouped.now.dump.valid c.args.grouped.now.dump.fit c.args.grouped.now.links.now.first c.loop-i.i c.args.grouped.now.others c.place-j.ensures (omega (arith, c.loop-i-test.true, c.args.grouped.now.dump.entries.counted)) c.loop-i.invariant
+    let D : Bytes = c.args.grouped.now.dump.entries.bytes.now in (
+      c.pairs.invariant.0,
+      walk_start (D) c.args.grouped.now.dump.valid c.args.grouped.now.dump.fit c.args.grouped.now.links.now.first c.pairs.i c.args.grouped.now.others c.place-j.ensures (omega (arith, c.pairs-test.true, c.args.grouped.now.dump.entries.counted)) c.pairs.invariant.1,
+    )
 
 pub loop-j-smaller : goal.loop-j-smaller
 loop-j-smaller c =
@@ -25,18 +27,20 @@ loop-j-smaller c =
 pub loop-j-preserved : goal.loop-j-preserved
 loop-j-preserved c =
     let D : Bytes = c.args.grouped.now.dump.entries.bytes.now in
-    let inner : c.loop-j.j < length (entries_of (D)) = omega (arith, c.loop-j-test.true, c.args.grouped.now.dump.entries.counted) in
-    walk_skip (D) c.args.grouped.now.dump.valid c.args.grouped.now.dump.fit c.args.grouped.now.links.now.next c.args.grouped.now.chained c.loop-i.i c.args.grouped.now.notes.now.masks c.args.grouped.now.notes.now.shown c.args.grouped.now.masked c.args.grouped.now.shows c.candidate-j.ensures
-    (walk_step (D) c.args.grouped.now.dump.valid c.args.grouped.now.dump.fit c.args.grouped.now.links.now.next c.args.grouped.now.chained c.loop-i.i c.loop-j.j (inner) c.loop-j.invariant c.place.ensures
-    (sym c.quarrel_at.ensures ∙ c.if-quarrel_at.false))
+    let inner : c.loop-j.j < length (entries_of (D)) = omega (arith, c.loop-j-test.true, c.args.grouped.now.dump.entries.counted) in (
+      c.loop-j.invariant.0,
+      walk_skip (D) c.args.grouped.now.dump.valid c.args.grouped.now.dump.fit c.args.grouped.now.links.now.next c.args.grouped.now.chained c.pairs.i c.args.grouped.now.notes.now.masks c.args.grouped.now.notes.now.shown c.args.grouped.now.masked c.args.grouped.now.shows c.candidate-j.ensures
+          (walk_step (D) c.args.grouped.now.dump.valid c.args.grouped.now.dump.fit c.args.grouped.now.links.now.next c.args.grouped.now.chained c.pairs.i c.loop-j.j (inner) c.loop-j.invariant.1 c.place.ensures
+          (sym c.quarrel_at.ensures ∙ c.if-quarrel_at.false)),
+    )
 
-pub returns : goal.returns
-returns c =
+pub returns-after-pairs : goal.returns-after-pairs
+returns-after-pairs c =
     let D : Bytes = c.args.grouped.now.dump.entries.bytes.now in
-    found_none (D) c.args.grouped.now.dump.valid c.args.grouped.now.dump.fit c.loop-i.i (omega (arith, c.loop-i-test.false, c.args.grouped.now.dump.entries.counted)) c.loop-i.invariant
+    c.pairs.invariant.0 ∙ found_none (D) c.args.grouped.now.dump.valid c.args.grouped.now.dump.fit c.pairs.i (omega (arith, c.pairs-test.false, c.args.grouped.now.dump.entries.counted)) c.pairs.invariant.1
 
 pub returns-then-quarrel_at : goal.returns-then-quarrel_at
 returns-then-quarrel_at c =
     let D : Bytes = c.args.grouped.now.dump.entries.bytes.now in
     let inner : c.loop-j.j < length (entries_of (D)) = omega (arith, c.loop-j-test.true, c.args.grouped.now.dump.entries.counted) in
-    found_here (D) c.args.grouped.now.dump.valid c.args.grouped.now.dump.fit c.loop-i.i c.loop-j.j (inner) c.loop-j.invariant (sym c.quarrel_at.ensures ∙ c.if-quarrel_at.true)
+    found_here (D) c.args.grouped.now.dump.valid c.args.grouped.now.dump.fit c.pairs.i c.loop-j.j (inner) c.loop-j.invariant.1 (sym c.quarrel_at.ensures ∙ c.if-quarrel_at.true)
