@@ -1,13 +1,13 @@
 -- Laws of '#' in bytes: by parts, and as the code looks for it. Assumes nothing.
 use Rattle.std.specs.Prelude.{ℕ, zero, suc, ◌+◌, ◌-◌, ◌*◌, ◌/◌, ◌%◌, ◌≤◌, ◌<◌, ◌≡◌, refl, List, [], ◌∷◌, ◌++◌, Bool, true, false, not, ◌||◌, ◌⊎◌, length, take, drop, eqb}
-use Rattle.std.proofs.Common.{sym, ap, ◌∙◌, true≢false, inl, inr, arith, zero-add, drop-drop, eq-eqb, ne_eqb, eqb-true}
+use Rattle.std.proofs.Common.{sym, ap, ◌∙◌, true≢false, inl, inr, arith, zero-add, drop-drop, take-append-drop, length-drop, length-take-le, eq-eqb, ne_eqb, eqb-true}
 use Rattle.std.proofs.lemmas.Bool.{false≢true}
 use Rattle.std.proofs.Math.Bool.{or-true}
 use Rattle.slices.specs.Test.{◌and◌}
 use Rattle.slices.specs.Bytes.{Bytes, le16, part}
 use Rattle.slices.proofs.TestLaws.{or_cases}
 use Rattle.names.specs.Name.{units, each, wildcards, number_sign, one_if}
-use Rattle.names.proofs.NameLaws.{wildcards_step, wildcards_end, units_later}
+use Rattle.names.proofs.NameLaws.{wildcards_step, wildcards_end, units_later, units_whole}
 use Rattle.patterns.specs.Signs.{has_sign, EitherSign}
 
 -- ---- units and '#' of parts
@@ -155,3 +155,39 @@ either_last s i last from false e p q h l o w = sym (e ∙ go o (w.1 refl).0)
     go : ((from ≡ i) ⊎ ((from ≡ last) × (last ≤ i))) → has_sign (drop from s) ≡ has_sign (drop (from + 16) s) → has_sign (drop i s) ≡ false
     go (inl f) c = (rw f at c) ∙ sign_off s last (i + 16) l q (omega arith) off
     go (inr f) c = sign_off s last i f.1 q p off
+
+-- ---- as blocks of whole units tell it
+
+-- the whole units have the '#' of all
+pub sign_whole : (k : ℕ) (s : Bytes) → k ≡ length (units s) → has_sign (take (2 * k) s) ≡ has_sign s
+sign_whole k s e = ap (λ (us : List ℕ). not (eqb (wildcards us) 0)) (units_whole k s e)
+
+-- a part of whole units, and what is behind it
+pub sign_cut : (n : ℕ) (s : Bytes) → n ≤ length s → n % 2 ≡ 0 → has_sign s ≡ (has_sign (take n s) || has_sign (drop n s))
+sign_cut n s h e =
+    ap has_sign (sym (take-append-drop n s)) ∙ ap (λ (us : List ℕ). not (eqb (wildcards us) 0)) (units_append (take n s) (drop n s) (rw (length-take-le n s h) e))
+    ∙ ap (λ (m : ℕ). not (eqb m 0)) (wildcards_append (units (take n s)) (units (drop n s))) ∙ go (wildcards (units (take n s))) (wildcards (units (drop n s)))
+  where
+    go : (a b : ℕ) → not (eqb (a + b) 0) ≡ (not (eqb a 0) || not (eqb b 0))
+    go zero b = rw zero-add
+    go (suc a) b = ap not (ne_eqb (suc a + b) 0 (λ k. omega arith)) ∙ sym (ap (λ c. not c || not (eqb b 0)) (ne_eqb (suc a) 0 (λ k. omega arith)))
+
+-- what is behind byte l decides, where no '#' is but behind byte i and that is no earlier
+pub last_decides : (s : Bytes) (i l : ℕ) → has_sign s ≡ has_sign (drop i s) → l ≤ i → l % 2 ≡ 0 → i % 2 ≡ 0 → has_sign (drop l s) ≡ has_sign s
+last_decides s i l e h q p = go (has_sign (drop l s)) refl
+  where
+    go : (t : Bool) → has_sign (drop l s) ≡ t → t ≡ has_sign s
+    go true k = sym (sign_on s l q k)
+    go false k = sym (e ∙ sign_off s l i h q p k)
+
+-- with the eight units from byte i on it may begin eight later
+pub both_decide : (s : Bytes) (i l : ℕ) → has_sign s ≡ has_sign (drop i s) → i + 16 ≤ length s → l ≤ i + 16 → l % 2 ≡ 0 → i % 2 ≡ 0
+    → (has_sign (take 16 (drop i s)) || has_sign (drop l s)) ≡ has_sign s
+both_decide s i l e m h q p = go (has_sign (drop l s)) refl
+  where
+    cut : has_sign (drop i s) ≡ (has_sign (take 16 (drop i s)) || has_sign (drop (i + 16) s))
+    cut = sign_cut 16 (drop i s) (omega (arith, length-drop i s)) refl ∙ ap (λ (t : Bytes). has_sign (take 16 (drop i s)) || has_sign t) (drop-drop 16 i s)
+
+    go : (t : Bool) → has_sign (drop l s) ≡ t → (has_sign (take 16 (drop i s)) || t) ≡ has_sign s
+    go true k = or-true (has_sign (take 16 (drop i s))) ∙ sym (sign_on s l q k)
+    go false k = sym (e ∙ cut ∙ ap (λ b. has_sign (take 16 (drop i s)) || b) (sign_off s l (i + 16) h q (omega arith) k))

@@ -1,7 +1,7 @@
 // Pairs of patterns, the names of entries: whether some name matches both, and the least that does; '#' in them and in a whole dump.
 #![tactic(auto)]
 
-ghost use Rattle.std.specs.Prelude.{◌≡◌, ◌≤◌, length};
+ghost use Rattle.std.specs.Prelude.{◌≡◌, ℕ, ◌+◌, ◌-◌, ◌%◌, ◌≤◌, ◌<◌, length, drop};
 ghost use Rattle.slices.specs.Bytes.{overwrite};
 ghost use Rattle.patterns.specs.Signs.{has_sign};
 ghost use Rattle.patterns.specs.Common.{least_name, overlap, least_of, units_overlap, sign_alike, same_signs};
@@ -9,16 +9,49 @@ ghost use Rattle.patterns.specs.Literals.{literal_mask, literal_mask_of, literal
 
 use names::{Tail, Units};
 
-// Whether a unit is '#', of a name or of a whole dump: looked at by sixteens, then by eights, and then one by one.
+// Whether one of the eight units of a block is '#'.
+fn eight_signs(block: &[u8; 16]) -> bool
+    ensures { result ≡ has_sign block.now }
+{
+    !names::block_passes(block, |u| u != 0x23)
+}
+
+// The same unit by unit: for a few units.
+fn few_signs(s: &[u8]) -> bool
+    ensures { result ≡ has_sign s.now }
+{
+    !Units(s).all(|u| u != 0x23)
+}
+
+// The same of whole units, where none is '#' but in the rest, fewer than sixteen: its first eight, where it has so many, and the last eight of all, which may
+// have been seen.
+fn last_signs(s: &[u8], rest: &[u8], last: &[u8; 16]) -> bool
+    requires { (i : ℕ) × (rest.now ≡ drop i s.now) × (i % 2 ≡ 0) × (length s.now % 2 ≡ 0) × (length s.now < i + 32) × (has_sign s.now ≡ has_sign (drop i s.now))
+        × (16 ≤ length s.now) × (last.now ≡ drop (length s.now - 16) s.now) }
+    ensures { result ≡ has_sign s.now }
+{
+    match rest.first_chunk::<16>() {
+        Some(first) => eight_signs(first) | eight_signs(last),
+        None => eight_signs(last),
+    }
+}
+
+// Whether a unit is '#', of a name or of a whole dump: looked at by sixteens, and behind these by the eights of `last_signs`.
 pub fn has_sign(s: &[u8]) -> bool
     ensures { result ≡ has_sign s.now }
 {
-    let (blocks, rest) = s.as_chunks::<32>();
-    let none = blocks
+    let whole = &s[..2 * names::unit_count(s)];
+    let Some(last) = whole.last_chunk::<16>() else {
+        return few_signs(whole);
+    };
+    let (blocks, rest) = whole.as_chunks::<32>();
+    if !blocks
         .iter()
         .all(|block| names::block_passes(block, |u| u != 0x23))
-        && names::each_unit(rest, |u| u != 0x23);
-    !none
+    {
+        return true;
+    }
+    last_signs(whole, rest, last)
 }
 
 // Whether some unit matches two units of patterns: they are equal, or one matches the other.
