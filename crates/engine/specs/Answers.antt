@@ -46,8 +46,8 @@ reading_at nv vol p =
       status = Success;
       attributes = attributes_at nv vol p;
       nonvolatile = p.nonvolatile;
-      from = (bounds_at nv vol p).start;
-      to = (bounds_at nv vol p).end;
+      from = (bounds_at nv vol p).from;
+      to = (bounds_at nv vol p).to;
     }
 
 -- what a read tells, before exit or after it: 10, 2, 14, or the record where the variable stands

@@ -19,7 +19,7 @@ use Rattle.store.specs.Parts.{HeaderFits, is_found, record_in, payload_in, bound
 use Rattle.store.specs.Store.{records_of, end_of, place_from, place_of}
 use Rattle.store.proofs.StoreLaws.{records_ok, length_records, end_of-within}
 use Rattle.store.specs.declared.Found.{Found}
-use Rattle.std.specs.declared.ops.Range.{Range}
+use Rattle.store.specs.declared.Bounds.{Bounds}
 
 -- where the first that the test takes stands: those before it, itself, and those behind
 pub record Split (p : Bytes → Bool) (rs : List Bytes) (from at len : ℕ) : Type 0 where
@@ -176,11 +176,11 @@ part_part at len from n s h =
 fields_within : (s : Bytes) (f : Found) → Held s (Some f) → 32 + name_size (part f.at (f.at + f.len) s) + data_size (part f.at (f.at + f.len) s) ≤ f.len
 fields_within s f w = omega (arith, w.1.fits, length_part f.at (f.at + f.len) s w.0)
 
-ordered : (s : Bytes) (o : Option Found) → Held s o → ((bounds_in s o).start ≤ (bounds_in s o).end) × ((bounds_in s o).end ≤ length s)
+ordered : (s : Bytes) (o : Option Found) → Held s o → ((bounds_in s o).from ≤ (bounds_in s o).to) × ((bounds_in s o).to ≤ length s)
 ordered s (Some f) w = (omega arith, omega (arith, w.0, fields_within s f w))
 ordered s None w = (omega arith, omega arith)
 
-taken : (s : Bytes) (o : Option Found) → Held s o → part (bounds_in s o).start (bounds_in s o).end s ≡ payload_in (record_in s o)
+taken : (s : Bytes) (o : Option Found) → Held s o → part (bounds_in s o).from (bounds_in s o).to s ≡ payload_in (record_in s o)
 unfolding payload_of
 taken s (Some f) w =
     let n : ℕ = name_size (part f.at (f.at + f.len) s) in
@@ -189,6 +189,6 @@ taken s (Some f) w =
     ap (λ (x : ℕ). part x (x + d) s) k ∙ sym (part_part f.at f.len (32 + n) d s (fields_within s f w))
 taken s None w = refl
 
-pub bounds_payload : {b : Range ℕ} (s : Bytes) (o : Option Found) → b ≡ bounds_in s o → Held s o
-    → (b.start ≤ b.end) × (b.end ≤ length s) × (part b.start b.end s ≡ payload_in (record_in s o))
+pub bounds_payload : {b : Bounds} (s : Bytes) (o : Option Found) → b ≡ bounds_in s o → Held s o
+    → (b.from ≤ b.to) × (b.to ≤ length s) × (part b.from b.to s ≡ payload_in (record_in s o))
 bounds_payload s o e w = rw e ((ordered s o w).0, (ordered s o w).1, taken s o w)

@@ -112,5 +112,5 @@ module _ {x : Bool} {n : Bytes} (g u r : Bytes) (p : n ≡ name_of r) (e : x ≡
 
 -- ---- where the payload stands
 pub bounds_are : {n d : ℕ} {o : Option Found} (s : Bytes) (f : Found) → o ≡ Some f → n ≡ name_size (part f.at (f.at + f.len) s) → d ≡ data_size (part f.at (f.at + f.len) s)
-    → record { start = f.at + 32 + n; end = f.at + 32 + n + d } ≡ bounds_in s o
+    → record { from = f.at + 32 + n; to = f.at + 32 + n + d } ≡ bounds_in s o
 bounds_are s f e p q = rw (e, p, q)

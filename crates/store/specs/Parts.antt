@@ -10,7 +10,7 @@ use Rattle.names.specs.Name.{Variable, named}
 use Rattle.store.specs.Record.{attributes_of, name_size, data_size, payload_of, is_of, attributes_ok}
 use Rattle.store.specs.Store.{records_of}
 use Rattle.store.specs.declared.Found.{Found}
-use Rattle.std.specs.declared.ops.Range.{Range}
+use Rattle.store.specs.declared.Bounds.{Bounds}
 pub use Rattle.names.specs.Name.{variable}
 
 -- the fields that the header tells lie within the bytes
@@ -44,12 +44,12 @@ record_in s (Some f) = some (part f.at (f.at + f.len) s)
 record_in s None = none
 
 -- where its payload stands in the store, behind the header and the name; 0 and 0 where there is none
-abbrev pub bounds_in : Bytes → Option Found → Range ℕ
+abbrev pub bounds_in : Bytes → Option Found → Bounds
 bounds_in s (Some f) = record {
-  start = f.at + record_header + name_size (part f.at (f.at + f.len) s);
-  end = f.at + record_header + name_size (part f.at (f.at + f.len) s) + data_size (part f.at (f.at + f.len) s);
+  from = f.at + record_header + name_size (part f.at (f.at + f.len) s);
+  to = f.at + record_header + name_size (part f.at (f.at + f.len) s) + data_size (part f.at (f.at + f.len) s);
 }
-bounds_in s None = record { start = 0; end = 0 }
+bounds_in s None = record { from = 0; to = 0 }
 
 -- what was found lies within the store, and so do the fields that its header tells
 abbrev pub Held : Bytes → Option Found → Type 0

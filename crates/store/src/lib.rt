@@ -12,13 +12,19 @@ ghost use Rattle.store.specs.Parts.{variable, HeaderFits, Storable, record_in, a
 mod records;
 
 pub use records::{Record, Records};
-use std::ops::Range;
 
 // Where a record was found: it begins at `at` and is `len` bytes long.
 #[derive(Clone, Copy)]
 pub struct Found {
     pub at: usize,
     pub len: usize,
+}
+
+// A part of a store: from the byte `from` up to, and without, the byte `to`. A struct and no range, since a range is not copied.
+#[derive(Clone, Copy)]
+pub struct Bounds {
+    pub from: usize,
+    pub to: usize,
 }
 
 // Whether an attribute word has the bit of this weight, a power of two.
@@ -184,17 +190,20 @@ pub fn attributes_found(s: &[u8], found: Option<Found>) -> u32
 }
 
 // Where the payload of the record that was found stands, behind the header and the name; 0 and 0 where there is none.
-// A range and no Option: what may not change, the definition `bounds_in` of None, by which `payload` is empty where there is none.
-pub fn payload_bounds(s: &[u8], found: Option<Found>) -> Range<usize>
+// Bounds and no Option: what may not change, the definition `bounds_in` of None, by which `payload` is empty where there is none.
+pub fn payload_bounds(s: &[u8], found: Option<Found>) -> Bounds
     requires { Held s.now found }
     ensures { result ≡ bounds_in s.now found }
 {
     let Some(r) = found else {
-        return 0..0;
+        return Bounds { from: 0, to: 0 };
     };
     let record = &s[r.at..r.at + r.len];
     let from = r.at + limits::RECORD_HEADER + slices::get32(record, 8);
-    from..from + slices::get32(record, 12)
+    Bounds {
+        from,
+        to: from + slices::get32(record, 12),
+    }
 }
 
 // The payload of the record that was found, as a part of the store; an empty part where there is none.
@@ -202,7 +211,8 @@ pub fn payload(s: &[u8], found: Option<Found>) -> &[u8]
     requires { Held s.now found }
     ensures { result.now ≡ payload_in (record_in s.now found) }
 {
-    &s[payload_bounds(s, found)]
+    let bounds = payload_bounds(s, found);
+    &s[bounds.from..bounds.to]
 }
 
 // The same of the variable's record, where it was found.

@@ -16,7 +16,7 @@ use Rattle.store.specs.Store.{place_of, records_of}
 use Rattle.store.proofs.PlaceLaws.{find_place, place_held, split_at, contains_place, absent_place, bounds_payload}
 use Rattle.store.specs.Parts.{is_found, record_in, Held}
 use Rattle.store.specs.declared.Found.{Found}
-use Rattle.std.specs.declared.ops.Range.{Range}
+use Rattle.store.specs.declared.Bounds.{Bounds}
 use Rattle.stores.specs.Pair.{sound, lookup}
 use Rattle.stores.proofs.PairLaws.{lookup_either, lookup_nv, looked, looked_nv, none_nv, none_vol}
 use Rattle.stores.specs.declared.Place.{Place}
@@ -118,6 +118,6 @@ module _ (nv vol : Bytes) (p : Place) where
   at_vol e = rw e
 
   -- where its payload stands
-  pub payload_bounds : {b : Range ℕ} → b ≡ bounds_at nv vol p → Within nv vol p
-      → (b.start ≤ b.end) × (b.end ≤ length (store_at nv vol p)) × (part b.start b.end (store_at nv vol p) ≡ payload_at nv vol p)
+  pub payload_bounds : {b : Bounds} → b ≡ bounds_at nv vol p → Within nv vol p
+      → (b.from ≤ b.to) × (b.to ≤ length (store_at nv vol p)) × (part b.from b.to (store_at nv vol p) ≡ payload_at nv vol p)
   payload_bounds e w = bounds_payload (store_at nv vol p) p.found e w

@@ -5,7 +5,7 @@ use Rattle.std.proofs.Math.Option as maybe
 use Rattle.slices.specs.Bytes.{Bytes}
 use Rattle.names.specs.Name.{Variable}
 use Rattle.store.specs.declared.Found.{Found}
-use Rattle.std.specs.declared.ops.Range.{Range}
+use Rattle.store.specs.declared.Bounds.{Bounds}
 use Rattle.store.specs.Store.{place_of}
 use Rattle.store.specs.Parts.{is_found, record_in, attributes_in, payload_in, bounds_in, Held}
 use Rattle.stores.specs.declared.Place.{Place}
@@ -36,7 +36,7 @@ attributes_at nv vol p = attributes_in (record_at nv vol p)
 abbrev pub payload_at : Bytes → Bytes → Place → Bytes
 payload_at nv vol p = payload_in (record_at nv vol p)
 
-abbrev pub bounds_at : Bytes → Bytes → Place → Range ℕ
+abbrev pub bounds_at : Bytes → Bytes → Place → Bounds
 bounds_at nv vol p = bounds_in (store_at nv vol p) p.found
 
 -- the store of a place holds what was found there: it lies within, and so do the fields that its header tells

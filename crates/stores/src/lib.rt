@@ -18,8 +18,7 @@ mod walked;
 
 pub use lookup::Lookup;
 pub use sound::Stores;
-use std::ops::Range;
-use store::Found;
+use store::{Bounds, Found};
 use walked::Walked;
 
 // The slots of the filter; `specs/Filter.antt` has the same for the proofs.
@@ -207,7 +206,7 @@ pub fn attributes_at(nv: &[u8], vol: &[u8], place: Place) -> u32
 }
 
 // Where the payload of the record at a place stands in the store that holds it; 0 and 0 where there is none.
-pub fn payload_bounds(nv: &[u8], vol: &[u8], place: Place) -> Range<usize>
+pub fn payload_bounds(nv: &[u8], vol: &[u8], place: Place) -> Bounds
     requires { Within nv.now vol.now place }
     ensures { result ≡ bounds_at nv.now vol.now place }
 {

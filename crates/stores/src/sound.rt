@@ -3,7 +3,7 @@ ghost use Rattle.std.specs.Prelude.{◌≡◌, true, false, MatchOption};
 ghost use Rattle.stores.specs.Pair.{sound, ends_of};
 
 use crate::{Ends, Place};
-use std::ops::Range;
+use store::Bounds;
 
 // A sound pair of stores.
 #[derive(Clone, Copy)]
@@ -46,7 +46,7 @@ impl<'a> Stores<'a> {
     }
 
     // Where the payload of the record at a place stands in the store that holds it; 0 and 0 where there is none.
-    pub fn payload_bounds(self, place: Place) -> Range<usize>
+    pub fn payload_bounds(self, place: Place) -> Bounds
         requires { Within self.nv.now self.vol.now place }
         ensures { result ≡ bounds_at self.entry.nv.now self.entry.vol.now place }
     {
