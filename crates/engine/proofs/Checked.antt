@@ -1,6 +1,6 @@
 -- The statuses of register and dump, by what the code found. Assumes nothing.
 use Prim.Native.Nat.{suc, ◌+◌, ◌≤◌, ◌<◌}
-use mathlib.Core.Path.{◌≡◌, ap, subst, ◌∙◌}
+use mathlib.Core.Path.{◌≡◌, refl, ap, ◌∙◌}
 use mathlib.Core.List.{List}
 use mathlib.Core.Bool.{Bool, true, false, cond}
 use native.Mathlib.Omega.{arith}
@@ -11,9 +11,9 @@ use Rattle.slices.specs.Test.{◌and◌}
 use Rattle.slices.proofs.TestLaws.{and_no}
 use Rattle.slices.specs.Bytes.{Bytes}
 use Rattle.slices.specs.Chunks.{flat, contains}
-use Rattle.entry.specs.Entry.{well_formed, same_target}
-use Rattle.entry.specs.declared.packed.Packed.{Packed}
-use Rattle.std.specs.Prelude.{Option, Some, None, MatchOption}
+use Rattle.entry.specs.Entry.{well_formed, entry_of, parse, same_target}
+use Rattle.entry.specs.declared.Entry.{Entry}
+use Rattle.std.specs.Prelude.{Option, Some, None}
 use Rattle.policy.specs.Policy.{policy_valid}
 use Rattle.status.specs.declared.Status.{Status}
 use Rattle.status.specs.declared.Status.TheVariants.{Success, InvalidParameter, Unsupported, BufferTooSmall, WriteProtected, OutOfResources, VolumeCorrupted, AlreadyStarted}
@@ -21,12 +21,22 @@ use Rattle.switches.specs.declared.Switches.{Switches}
 use Rattle.switches.specs.Switches.{unless_exited}
 use Rattle.rules.specs.Engine.{register_status, dump_status}
 
--- what is made of the bytes of an entry tells of them
-pub new_bytes : (e : Bytes) {o : Option Packed} {x : Packed} → MatchOption o (well_formed e ≡ false) (λ y. y.bytes.now ≡ e) → o ≡ Some x → x.bytes.now ≡ e
-new_bytes e m q = subst (λ o. MatchOption o (well_formed e ≡ false) (λ y. y.bytes.now ≡ e)) q m
+-- what reading an entry tells
+pub parse_formed : (e : Bytes) (x : Entry) → parse e ≡ Some x → well_formed e ≡ true
+unfolding parse
+parse_formed e x h = go (well_formed e) refl h
+  where
+    go : (b : Bool) → well_formed e ≡ b → cond b (Some (entry_of e)) None ≡ Some x → well_formed e ≡ true
+    go true k l = k
+    go false k l = let z : ◌≡◌ {A = Option Entry} None (Some x) = l in absurd (let y : ◌≡◌ {A = Option Entry} None (Some x) = z in cc)
 
-pub new_malformed : (e : Bytes) {o : Option Packed} → MatchOption o (well_formed e ≡ false) (λ y. y.bytes.now ≡ e) → o ≡ None → well_formed e ≡ false
-new_malformed e m q = subst (λ o. MatchOption o (well_formed e ≡ false) (λ y. y.bytes.now ≡ e)) q m
+pub parse_malformed : (e : Bytes) → parse e ≡ None → well_formed e ≡ false
+unfolding parse
+parse_malformed e h = go (well_formed e) refl h
+  where
+    go : (b : Bool) → well_formed e ≡ b → cond b (Some (entry_of e)) None ≡ None → well_formed e ≡ false
+    go true k l = absurd (let y : ◌≡◌ {A = Option Entry} (Some (entry_of e)) None = l in cc)
+    go false k l = k
 
 -- a call that is lent the record, by the check
 pub lent_invalid : (p : Bytes) (n : Status) → policy_valid p ≡ false → cond (policy_valid p) n VolumeCorrupted ≡ VolumeCorrupted

@@ -160,9 +160,10 @@ pub fn register(policy: &mut [u8], switches: Switches, entry: &[u8]) -> Status
     if switches.locked {
         return Status::WriteProtected;
     }
-    let Some(entry) = Packed::new(entry) else {
+    let Some(_) = entry::parse(entry) else {
         return Status::InvalidParameter;
     };
+    let entry = Packed { bytes: entry };
     if policy::contains(policy, extent.count, entry) {
         return Status::AlreadyStarted;
     }
@@ -269,8 +270,8 @@ fn reading_at<'a>(stores: Stores<'a>, place: Place) -> Reading
         status: Status::Success,
         attributes: stores.attributes_at(place),
         nonvolatile: place.nonvolatile,
-        from: bounds.start,
-        to: bounds.end,
+        from: bounds.from,
+        to: bounds.to,
     }
 }
 
