@@ -308,7 +308,9 @@ fn delete(nv: &mut [u8], vol: &mut [u8], known: Known, request: Request)
     }
 }
 
-// Stores the request's payload in one store, joined to what is stored there by an append.
+// Stores the request's payload in one store, joined to what is stored there by an append. (Kept out of the functions above, where its room for the joined payload
+// would lie on the stack below the check of the stores.)
+#[inline(never)]
 fn put(s: &mut [u8], nonvolatile: bool, end: usize, found: Option<Found>, request: Request)
     requires { (end ≡ end_of nonvolatile s.old) × (found ≡ place_of nonvolatile s.old (asked request).variable)
         × Writable nonvolatile s.old (asked request) }
