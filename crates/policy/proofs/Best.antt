@@ -113,7 +113,7 @@ module _ (p : Bytes) (v : Variable) (i at end : ℕ) (w : At p i at) (g : Hand p
       ∙ ap (λ (t : ℕ). choice_from c (i + 1) t (drop (i + 1) (entries_of p)) v) (sym g.ends)
 
   -- it does not target the variable: a walk may leave it out
-  pass : (j to : ℕ) → Passed p v j to i at → targets (part at end p) v ≡ false → Passed p v j to (i + 1) end
+  pub pass : (j to : ℕ) → Passed p v j to i at → targets (part at end p) v ≡ false → Passed p v j to (i + 1) end
   pass j to f q = λ best. f best ∙ on best best (stays v best i at entry (rw g.own at q))
 
   -- the best so far, as three numbers, and what the entry adds
@@ -128,7 +128,7 @@ module _ (p : Bytes) (v : Variable) (i at end : ℕ) (w : At p i at) (g : Hand p
     kept : b ≤ r → choice_of (entries_of p) v ≡ choice_from (as_choice b bi ba) (i + 1) end (drop (i + 1) (entries_of p)) v
     kept l = inv ∙ on (as_choice b bi ba) (as_choice b bi ba) (not_lower v entry entry_formed b bi ba i at most r spoken l)
 
-    on_zero : r ≡ 0 → 0 < b → chosen_at i at r ≡ choice_of (entries_of p) v
+    pub on_zero : r ≡ 0 → 0 < b → chosen_at i at r ≡ choice_of (entries_of p) v
     on_zero y l =
         let f : as_choice r i at ≡ chosen_at i at 0 = sym (as_choice-some r i at (λ x. omega arith)) ∙ ap (chosen_at i at) y in
         ap (chosen_at i at) y

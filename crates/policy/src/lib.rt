@@ -303,7 +303,7 @@ pub fn choose(entries: Entries<'_>, namespace: &[u8; 16], name: &[u8]) -> Option
     let mut best = limits::NO_RANK;
     let mut best_index = 0;
     let mut first = 0;
-    while let Some(index) = search.candidate(entries, first) {
+    while let Some(index) = search.candidate(&entries, first) {
         let rank = search.rank_for(entries.get(index));
         if rank == 0 {
             let at = entries.start(index);

@@ -71,12 +71,13 @@ impl<'a> Search<'a> {
         )
     }
 
-    // The first entry that may target the variable, from the one at index first on. (Kept out of `choose`, where its loop would share the registers with what follows.)
+    // The first entry that may target the variable, from the one at index first on. (Kept out of `choose`, where its loop would share the registers
+    // with what follows; and lent both, which `choose` would copy for each candidate.)
     #[inline(never)]
-    pub fn candidate(self, entries: Entries<'_>, first: usize) -> Option<usize>
-        requires { first ≤ entries.count }
-        ensures { MatchOption result (PassedAll entries.entry.bytes.now (variable self.entry.namespace.now self.entry.name.now) first)
-            (λ i. (first ≤ i) × (i < entries.entry.count) × PassedTo entries.entry.bytes.now (variable self.entry.namespace.now self.entry.name.now) first i) }
+    pub fn candidate(&self, entries: &Entries<'_>, first: usize) -> Option<usize>
+        requires { first ≤ entries.now.count }
+        ensures { MatchOption result (PassedAll entries.now.bytes.now (variable self.now.namespace.now self.now.name.now) first)
+            (λ i. (first ≤ i) × (i < entries.now.count) × PassedTo entries.now.bytes.now (variable self.now.namespace.now self.now.name.now) first i) }
     {
         let mut at = entries.start(first);
         for index in first..entries.count {
