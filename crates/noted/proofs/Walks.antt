@@ -80,11 +80,11 @@ module _ (b : Bool) (s : Bytes) where
     steps = chunks_step (record_length b) (record_length-within b) m (drop at s) h.is h.some ∙ rw drop-drop
 
     module _ (sub : (x : Bytes) → Among x (records_of b (drop at s)) → Among x (records_of b s)) where
-      begins_here : at ≤ length s → end_of b s ≡ at + end_of b (drop at s) → at < end_of b s → Begins b s at
+      pub begins_here : at ≤ length s → end_of b s ≡ at + end_of b (drop at s) → at < end_of b s → Begins b s at
       begins_here w q k =
           record { within = w; rest = q; before = k; stands = sub _ (subst⁻¹ (Among _) steps (inl (ap (λ z. take z (drop at s)) h.whole))) }
 
-      stands_next : (x : Bytes) → Among x (records_of b (drop (at + m) s)) → Among x (records_of b s)
+      pub stands_next : (x : Bytes) → Among x (records_of b (drop (at + m) s)) → Among x (records_of b s)
       stands_next x k = sub x (subst⁻¹ (Among x) steps (inr k))
 
   -- where each record of a list stands, a record of the store begins

@@ -14,6 +14,7 @@ use Rattle.slices.specs.Bytes.{Bytes, part}
 use Rattle.slices.proofs.PartLaws.{part_of, length_part, drop_take}
 use Rattle.slices.specs.Chunks.{contains}
 use Rattle.slices.specs.Filter.{joined}
+use Rattle.entry.specs.Entry.{well_formed}
 use Rattle.policy.specs.Policy.{entry_length, entries_of}
 use Rattle.policy.proofs.PolicyLaws.{entry_length-begins, entries_of-stop, entries_of-step}
 use Rattle.policy.specs.Stated.{stated_of, repeats}
@@ -52,6 +53,7 @@ module _ (r e : Bytes) {n : ℕ} (c : n ≡ count r) where
 pub record Hand (r : Bytes) (at to n : ℕ) : Type 0 where
   pub inside : at + n ≤ to
   pub size : length (part at (at + n) r) ≡ n
+  pub formed : well_formed (part at (at + n) r) ≡ true
   pub split : entries_of (part at to r) ≡ part at (at + n) r ∷ entries_of (part (at + n) to r)
 
 pub hand : (r : Bytes) (at to n : ℕ) → at ≤ to → to ≤ length r → n ≡ entry_length (part at to r) → 0 < n → Hand r at to n
@@ -65,6 +67,7 @@ hand r at to n l m e h =
     record {
       inside = omega arith;
       size = length_part at (at + n) r (omega arith) ∙ omega arith;
+      formed = rw t at b.formed;
       split = entries_of-step n (part at to r) (sym e) h ∙ rw (t, d);
     }
 

@@ -14,7 +14,7 @@ use Rattle.status.specs.declared.Status.TheVariants.{Success, InvalidParameter}
 use Rattle.reader.specs.Reading.{decided}
 use Rattle.reader.proofs.ReadingLaws.{undecided_entries}
 use Rattle.reader.specs.Reader.{held_at, good_at, reader_bytes, held, good, put, stop, rest, judged, stopped_if_decided, all_judged, taken, fed, is_piece, feed_status, after_feed}
-use Rattle.reader.proofs.ReaderLaws.{put_same, put_behind, part_put}
+use Rattle.reader.proofs.ReaderLaws.{length_put, put_same, put_behind, part_put}
 use Rattle.reader.proofs.PiecesLaws.{stopped_stays}
 use Rattle.reader.proofs.Claim.{piece_refused}
 use Rattle.reader.proofs.Parts.{part_order}
@@ -35,8 +35,12 @@ module _ {b : Bool} {t : Bytes} (s : Bytes) (to : ℕ) (n : length s ≡ reader_
   number_good = ap good e ∙ put_behind s held_at to (omega arith) good_at (omega arith)
 
   -- the entries can be judged
-  pub ready : b ≡ true → (good t ≤ held t) × (held t ≤ policy_bytes)
-  ready z = (omega (arith, number_held, number_good, part_order (good s) to s (sym q ∙ z)), omega (arith, number_held))
+  pub ready : b ≡ true → (length t ≡ reader_bytes) × (good t ≤ held t) × (held t ≤ policy_bytes)
+  ready z = (
+    ap length e ∙ length_put s held_at to (omega arith) ∙ n,
+    omega (arith, number_held, number_good, part_order (good s) to s (sym q ∙ z)),
+    omega (arith, number_held),
+  )
 
   -- or there is none to judge
   pub none_judged : b ≡ false → t ≡ all_judged t

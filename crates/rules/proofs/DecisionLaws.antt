@@ -29,6 +29,15 @@ bars SizeGround = refl
 bars AttributeGround = refl
 bars LockGround = refl
 
+-- what is answered where a ground is given, and where none is
+abbrev said_status : std.Option Ground → Status
+said_status None = Success
+said_status (Some g) = ground_status g
+
+-- where that is a refusal a ground is given
+pub barring : (o : std.Option Ground) → is_success (said_status o) ≡ false → o ≡ None → ⊥
+barring o f e = true≢false (sym (ap (λ x. is_success (said_status x)) e) ∙ f)
+
 -- ---- the decision, by where its steps end
 
 module _ (exited : Bool) (speaking : Option Bytes) (nv vol : Bytes) (r : Request) where

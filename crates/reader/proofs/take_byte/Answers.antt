@@ -11,7 +11,8 @@ pub judge-requires : goal.judge-requires
 judge-requires c =
     let To : ℕ = c.get16-from.result + 1 in
     let within : To ≤ policy_bytes = omega (arith, c.get16-from.ensures.is, c.requires) in
-    ready c.put_byte.new.r To (search rules) within c.hold.ensures.after c.hold.ensures.answer c.if-hold.true
+    let k = ready c.put_byte.new.r To (search rules) within c.hold.ensures.after c.hold.ensures.answer c.if-hold.true in
+    (k.1, k.2)
 
 pub returns-then-hold : goal.returns-then-hold
 returns-then-hold c =

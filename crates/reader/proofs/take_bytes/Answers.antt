@@ -7,7 +7,8 @@ use Rattle.reader.proofs.take_bytes.Goals as goal
 pub judge-requires : goal.judge-requires
 judge-requires c =
     let To : ℕ = c.args.from + length c.args.bytes.now in
-    ready c.copy_in.new.s To (search rules) c.requires.1 c.hold.ensures.after c.hold.ensures.answer c.if-hold.true
+    let k = ready c.copy_in.new.s To (search rules) c.requires.1 c.hold.ensures.after c.hold.ensures.answer c.if-hold.true in
+    (k.1, k.2)
 
 pub returns-then-hold : goal.returns-then-hold
 returns-then-hold c = taken_is c.args.r.now c.args.bytes.now c.requires.0 c.copy_in.ensures c.hold.ensures.after c.judge.ensures
