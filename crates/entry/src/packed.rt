@@ -64,7 +64,8 @@ impl<'a> Packed<'a> {
         }
     }
 
-    // Its fields.
+    // Its fields. (In line: a set asks some of them, a registration whether there are any.)
+    #[inline(always)]
     pub fn fields(self) -> Entry
         ensures { result ≡ entry_of self.entry.bytes.now }
     {
